@@ -1,11 +1,11 @@
 //! What is said of a closed cycle.
 
 use crate::closed::CycleMade;
-use crate::finding::Findings;
-use crate::rows::Changes;
 use ocfl_accounts::Pair;
 use ocfl_kept::kept::{list_path, new_list_path, report_path};
 use ocfl_kept::names::Names;
+use ocfl_reading::finding::Findings;
+use ocfl_reading::rows::Changes;
 use ocfl_report::Line;
 use ocfl_telling::{Closing, Counts, Gone, Shown, closing_text};
 use ocfl_tree::Place;

@@ -3,8 +3,8 @@ ghost use Rattle.std.specs.Prelude.{⊤};
 
 use ocfl_compare::{Change, TakeChange, TakeStop};
 use ocfl_kept::kept::{MOST_BACK, list_path};
-use ocfl_kept::reading::{TakeLine, take_lines};
 use ocfl_kept::room::Room;
+use ocfl_reading::reading::{TakeLine, take_lines};
 use ocfl_report::{TextStop, read_place, split_once};
 use ocfl_tree::Place;
 use std::alloc::{AllocError, Global};

@@ -2,7 +2,7 @@
 
 use ocfl_accounts::{ClosedCycle, Look};
 use ocfl_files::failing::Failure;
-use ocfl_kept::kept::{is_as_closed, is_packed_incomplete, open_report, places_of, read_kept};
+use ocfl_kept::kept::{is_as_closed, is_packed, open_report, places_of, read_kept};
 use ocfl_kept::room::Room;
 use ocfl_kept::state_dir::Folder;
 use ocfl_state::Checkpoint;
@@ -139,5 +139,5 @@ pub(crate) fn look_at<R: Room, F: Folder>(
         return Ok(Look::There(closed_by(alloc, folder, state, cycle, report.whole)?));
     }
     let kept = read_kept(alloc, folder, state, cycle)?;
-    Ok(away_by(&kept, is_packed_incomplete(rt, state, cycle)?))
+    Ok(away_by(&kept, is_packed(rt, state, cycle, false)?))
 }

@@ -9,18 +9,18 @@ use crate::account::{Account, Paths, compared, compared_whole, paths_of, text_of
 use crate::back::gone_before;
 use crate::closed::{find_made, look_at};
 use crate::comparing::{end_changes, find_changes, find_new, find_returned, find_unlisted};
-use crate::rows::Rows;
 use ocfl_accounts::{ClosingStop, Found, Look, NotSaid, Pair, Say, find_unsaid, say_cycles};
 use ocfl_files::failing::{Failure, say_failure};
 use ocfl_files::timing::seconds_now;
 use ocfl_kept::kept::{is_told, read_ends};
-use ocfl_kept::names::Names;
+use ocfl_kept::names::About;
 use ocfl_kept::room::Room;
 use ocfl_kept::state::failed_folder;
 use ocfl_kept::state_dir::Folder;
-use ocfl_lists::{Listed, read_expected};
+use ocfl_reading::expected::{Listed, read_expected};
+use ocfl_reading::rows::Rows;
 use ocfl_report::{Line, write_all_of};
-use ocfl_telling::{ClosingRow, Known, LogRow, log_line};
+use ocfl_telling::{ClosingRow, LogRow, log_line};
 use ocfl_tree::Place;
 use std::alloc::{AllocError, Global};
 use std::fs::File;
@@ -101,15 +101,13 @@ fn of_part<F: Folder>(
     }
 }
 
-/// With what the closings of a state folder are told.
+/// By what the closings of a state folder are told.
 #[derive(Clone, Copy)]
-pub struct Told<'n> {
-    pub names: Names<'n>,
-    pub known: &'n Known,
+pub struct ToldBy<'n> {
+    /// The night that tells them.
+    pub about: About<'n>,
     /// The file of the objects that must be there.
     pub expected: Option<&'n str>,
-    /// When the night began.
-    pub night: u64,
     /// The lines that its messages have.
     pub said: &'n [Line],
     /// The cycle that was closed last before the night; 0 if none was.
@@ -118,7 +116,7 @@ pub struct Told<'n> {
     pub closed: u64,
 }
 
-impl Told<'_> {
+impl ToldBy<'_> {
     /// Writes which objects of a list have no line in the report.
     fn look_for_expected<R: Room, F: Folder>(
         &self,
@@ -133,8 +131,9 @@ impl Told<'_> {
         };
         let alloc = rt.global();
         let listed = read_expected(alloc, file, rt.open_file(file))?;
-        let listed = of_part(alloc, folder, self.names.state, listed)?;
-        find_unlisted(alloc, folder, self.names.state, pair, listed, rows, account)
+        let state = self.about.names.state;
+        let listed = of_part(alloc, folder, state, listed)?;
+        find_unlisted(alloc, folder, state, pair, listed, rows, account)
     }
 
     /// Finds what changed, and writes the list of what is gone.
@@ -147,7 +146,7 @@ impl Told<'_> {
         rows: &mut Rows<'_, 'p>,
         account: &mut Account,
     ) -> Result<(), Failure> {
-        let (alloc, state) = (rt.global(), self.names.state);
+        let (alloc, state) = (rt.global(), self.about.names.state);
         let mut again = find_changes(alloc, folder, state, pair, rows, account)?;
         self.look_for_expected(rt, folder, pair, rows, account)?;
         end_changes(alloc, folder, state, pair, path, rows, &mut again, account)
@@ -163,8 +162,8 @@ impl Told<'_> {
         if pair.before.is_none() {
             return Ok(Vec::new(rt.global()));
         }
-        let mut gone = gone_before(rt, self.names.state, pair.closed.cycle())?;
-        find_returned(rt.global(), folder, self.names.state, pair, &mut gone)
+        let mut gone = gone_before(rt, self.about.names.state, pair.closed.cycle())?;
+        find_returned(rt.global(), folder, self.about.names.state, pair, &mut gone)
     }
 
     /// Finds all that is said of a closed cycle whose report lost no lines.
@@ -177,10 +176,18 @@ impl Told<'_> {
         list: File,
         account: &mut Account,
     ) -> Result<(), Failure> {
-        let (alloc, state, cycle) = (rt.global(), self.names.state, pair.closed.cycle());
-        let mut rows = Rows::new(alloc, self.known, list);
+        let (alloc, state, cycle) = (rt.global(), self.about.names.state, pair.closed.cycle());
+        let mut rows = Rows::new(alloc, self.about.known, list);
         self.write_list(rt, folder, pair, path, &mut rows, account)?;
-        find_new(alloc, folder, state, cycle, self.known, self.said, account)?;
+        find_new(
+            alloc,
+            folder,
+            state,
+            cycle,
+            self.about.known,
+            self.said,
+            account,
+        )?;
         account.back = self.find_back(rt, folder, pair)?;
         Ok(())
     }
@@ -196,8 +203,8 @@ impl Told<'_> {
     ) -> Result<Account, Failure> {
         let list = rt.make_file(path)?;
         let alloc = rt.global();
-        let why = why_not(alloc, self.names.state, pair)?;
-        let made = find_made(alloc, folder, self.names.state, pair.closed.cycle())?;
+        let why = why_not(alloc, self.about.names.state, pair)?;
+        let made = find_made(alloc, folder, self.about.names.state, pair.closed.cycle())?;
         let mut account = Account::new(alloc, why, made);
         if !pair.closed.is_lost() {
             self.fill_account(rt, folder, pair, path, list, &mut account)?;
@@ -215,10 +222,17 @@ impl Told<'_> {
         account: &Account,
     ) -> Result<(), Failure> {
         let alloc = rt.global();
-        let line = closing_line(alloc, seconds_now(rt), self.night, pair, paths, account)?;
+        let line = closing_line(
+            alloc,
+            seconds_now(rt),
+            self.about.began,
+            pair,
+            paths,
+            account,
+        )?;
         match folder.add_to_log(line.as_bytes()) {
             Ok(()) => Ok(()),
-            Err(_) => Err(failed_folder(alloc, folder, self.names.state)),
+            Err(_) => Err(failed_folder(alloc, folder, self.about.names.state)),
         }
     }
 }
@@ -234,7 +248,7 @@ struct Pending {
 struct Telling<'t, 'n, R, F> {
     rt: &'t R,
     folder: &'t mut F,
-    told: Told<'n>,
+    told: ToldBy<'n>,
     /// What was found last.
     pending: Option<Pending>,
     /// Why the last call failed that did.
@@ -269,11 +283,11 @@ impl<R: Room + Clock, F: Folder> Telling<'_, '_, R, F> {
     /// Finds what is said of a closed cycle, with the list of what is gone beside its place.
     fn find_pending(&mut self, pair: &Pair) -> Result<Found, Failure> {
         let alloc = self.rt.global();
-        let paths = paths_of(alloc, self.told.names.state, pair)?;
+        let paths = paths_of(alloc, self.told.about.names.state, pair)?;
         let path = paths.new_list.as_str();
         let account = self.told.find_account(self.rt, self.folder, pair, path)?;
         let found = Found {
-            text: text_of(alloc, self.told.names, pair, &paths, &account)?,
+            text: text_of(alloc, self.told.about.names, pair, &paths, &account)?,
             is_grave: account.is_grave(),
         };
         self.pending = Some(Pending { paths, account });
@@ -323,14 +337,14 @@ impl<R: Room + Clock + Eprint, F: Folder> ocfl_accounts::Closings for Telling<'_
     ghost only_now = { λ told closings k left. absurd (false≢true told) };
 
     fn has_account(&mut self, cycle: u64) -> Result<bool, ClosingStop> {
-        match is_told(self.rt, self.told.names.state, cycle) {
+        match is_told(self.rt, self.told.about.names.state, cycle) {
             Ok(is) => Ok(is),
             Err(_) => Err(ClosingStop::Memory),
         }
     }
 
     fn look(&mut self, cycle: u64) -> Result<Look, ClosingStop> {
-        let look = look_at(self.rt, self.folder, self.told.names.state, cycle);
+        let look = look_at(self.rt, self.folder, self.told.about.names.state, cycle);
         self.keep(look)
     }
 
@@ -358,7 +372,7 @@ impl<R: Room + Clock + Eprint, F: Folder> ocfl_accounts::Closings for Telling<'_
 /// Says what the cycles found whose closings were not said, from the first on of the 1,000 before
 /// the last one before the night, to the one that the night closed. Says why a closing was not said.
 /// Gives the greatest status.
-pub fn tell_closings<R, F, W>(rt: &R, folder: &mut F, told: Told<'_>, out: &mut W) -> u8
+pub fn tell_closings<R, F, W>(rt: &R, folder: &mut F, told: ToldBy<'_>, out: &mut W) -> u8
 where
     R: Room + Clock + Eprint,
     F: Folder,

@@ -6,6 +6,3 @@ mod back;
 mod closed;
 pub mod closing;
 mod comparing;
-mod finding;
-mod marking;
-mod rows;

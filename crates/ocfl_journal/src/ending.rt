@@ -1,7 +1,6 @@
 //! The end of a night: what is said of it, and its lines in the log.
 
 use crate::begun::is_of_root;
-use crate::given::{Given, program_digest};
 use crate::logging::{Account, NightLog, log_night};
 use crate::noting::{Noting, Told};
 use ocfl_disk::{FsState, Reason};
@@ -9,8 +8,8 @@ use ocfl_files::failing::{Failure, say_failure, say_text};
 use ocfl_files::reasons::Reason as Why;
 use ocfl_files::saying::STOPPED;
 use ocfl_files::timing::seconds_now;
+use ocfl_kept::names::About;
 use ocfl_kept::state_dir::Folder;
-use ocfl_line::NightAsked;
 use ocfl_report::DisplayPlace;
 use ocfl_state::StateFolder;
 use ocfl_telling::{NightRow, Shown};
@@ -159,7 +158,7 @@ pub fn log_ended<R: Eprint, F: Folder + Drop>(
     rt: &R,
     alloc: Global,
     folder: &mut EndedFolder<F>,
-    given: &Given<'_>,
+    about: About<'_>,
     ended: Ended<'_>,
     status: u8,
     now: u64,
@@ -169,20 +168,20 @@ pub fn log_ended<R: Eprint, F: Folder + Drop>(
     }
     let row = NightRow {
         time: now,
-        night: given.began,
+        night: about.began,
         status,
         runs: ended.runs,
         cost: ended.told.cost,
-        seconds: now.saturating_sub(given.began),
+        seconds: now.saturating_sub(about.began),
         findings: ended.told.findings,
         left: u64::try_from(ended.left.len()).unwrap_or(u64::MAX),
-        program: given.program.as_str(),
+        program: about.program,
     };
     let account = Account {
         row,
         said: ended.said,
     };
-    let state = given.asked.state.as_str();
+    let state = about.names.state;
     log_night(rt, alloc, &mut folder.folder, state, account, folder.lost)
 }
 
@@ -202,8 +201,9 @@ fn failed_row(began: u64, now: u64, program: &str) -> NightRow<'_> {
 }
 
 /// Logs a night that failed before its folder was opened, if nights over this root were made in
-/// that folder. What cannot be logged is left out: the failure itself is said.
-pub fn log_unbegun<R>(rt: &R, asked: &NightAsked, began: u64, failure: &Failure)
+/// that folder. What cannot be logged is left out: the failure itself is said. `program` is the
+/// SHA-256 of the program, in hexadecimal digits; empty if it is not known.
+pub fn log_unbegun<R>(rt: &R, state: &str, root: &str, began: u64, failure: &Failure, program: &str)
 where
     R: Files<File = File> + AllocGlobal + Clock + Eprint,
 {
@@ -213,12 +213,10 @@ where
     if failure.status != STOPPED {
         return;
     }
-    let state = asked.state.as_str();
     if let Ok(mut folder) = FsState::open(rt, state, false) {
-        if is_of_root(rt, &mut folder, asked.root.as_str()) {
-            let program = program_digest(rt);
+        if is_of_root(rt, &mut folder, root) {
             let account = Account {
-                row: failed_row(began, seconds_now(rt), program.as_str()),
+                row: failed_row(began, seconds_now(rt), program),
                 said: Some(said.as_str()),
             };
             log_night(rt, rt.alloc(), &mut folder, state, account, None);

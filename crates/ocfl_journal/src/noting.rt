@@ -2,7 +2,6 @@
 
 use crate::begun::{Begun, read_begun};
 use crate::clock::StopFile;
-use crate::given::Given;
 use crate::heads::heads_before;
 use crate::logging::{Journal, NightLog, Reading, SystemLog};
 use crate::speaking::{Kept, Speaker};
@@ -10,6 +9,7 @@ use crate::telling::Teller;
 use ocfl_disk::{Reason as StateReason, StateFile};
 use ocfl_files::failing::Failure;
 use ocfl_files::reasons::{Reason, Reasons, last_reason};
+use ocfl_kept::names::About;
 use ocfl_kept::stand::Standing;
 use ocfl_kept::state::open_state;
 use ocfl_kept::state_dir::{Folder, StateDir};
@@ -100,18 +100,17 @@ impl Drop for Told {
 }
 
 /// What a night reads, and by which program.
-fn reading_of(alloc: Global, given: &Given<'_>) -> Result<Reading, AllocError> {
-    let names = given.names();
+fn reading_of(alloc: Global, about: About<'_>) -> Result<Reading, AllocError> {
     Ok(Reading {
-        root: String::from_str(alloc, names.root)?,
-        part: names.part.unwrap_or(0),
-        program: String::from_str(alloc, given.program.as_str())?,
+        root: String::from_str(alloc, about.names.root)?,
+        part: about.names.part.unwrap_or(0),
+        program: String::from_str(alloc, about.program)?,
     })
 }
 
 /// Notes on the checkpoints of a night that has not begun, where the nights stand so.
 fn notes_of<L: NightLog + Drop>(
-    given: &Given<'_>,
+    about: About<'_>,
     standing: Standing,
     journal: Journal<L>,
     alloc: Global,
@@ -122,7 +121,7 @@ fn notes_of<L: NightLog + Drop>(
         alloc,
         now,
         journal,
-        reading: Some(reading_of(alloc, given)?),
+        reading: Some(reading_of(alloc, about)?),
         reasons,
         left: Vec::new(alloc),
     })
@@ -131,15 +130,15 @@ fn notes_of<L: NightLog + Drop>(
 /// Notes on a folder that is open, which are logged so.
 fn noting_over<F: Folder + Drop, L: NightLog + Drop>(
     alloc: Global,
-    given: &Given<'_>,
+    about: About<'_>,
     folder: F,
     log: L,
 ) -> Result<Noting<F, L>, AllocError> {
     let mut folder = folder;
     let begun = read_begun(alloc, &mut folder);
     let lost = Rc::new(alloc, Cell::new(None))?;
-    let journal = Journal::of(log, given.began, lost.clone()?);
-    let observer = notes_of(given, begun.standing, journal, alloc)?;
+    let journal = Journal::of(log, about.began, lost.clone()?);
+    let observer = notes_of(about, begun.standing, journal, alloc)?;
     Ok(Noting {
         folder: Observed { folder, observer },
         begun,
@@ -147,30 +146,35 @@ fn noting_over<F: Folder + Drop, L: NightLog + Drop>(
     })
 }
 
-/// Opens the state folder of a night, and holds its lock.
-pub fn open_noting<'a, R>(rt: &'a R, given: &Given<'_>) -> Result<OnDisk<'a, R>, Failure>
+/// Opens the state folder of a night, and holds its lock. With `create` the folder is made if it is
+/// not there.
+pub fn open_noting<'a, R>(
+    rt: &'a R,
+    about: About<'_>,
+    create: bool,
+) -> Result<OnDisk<'a, R>, Failure>
 where
     R: Files<File = File> + AllocGlobal + Clock,
 {
-    let names = given.names();
-    let folder = open_state(rt, names.state, names.root, given.asked.create)?;
+    let names = about.names;
+    let folder = open_state(rt, names.state, names.root, create)?;
     let log = SystemLog::at(rt, names.state)?;
-    Ok(noting_over(rt.alloc(), given, folder, log)?)
+    Ok(noting_over(rt.alloc(), about, folder, log)?)
 }
 
 /// The clock of a night, and the file that asks it to stop.
-pub fn stop_file<'a, R>(rt: &'a R, given: &Given<'_>) -> Result<StopFile<'a, R>, AllocError>
+pub fn stop_file<'a, R>(rt: &'a R, state: &str) -> Result<StopFile<'a, R>, AllocError>
 where
     R: Files + AllocGlobal,
 {
-    let path = format!(in rt.alloc(); "{}/{}", given.asked.state, StateFile::Stop)?;
+    let path = format!(in rt.alloc(); "{state}/{}", StateFile::Stop)?;
     Ok(StopFile { rt, path })
 }
 
 /// What makes the messages of a night, whose first line may be in the object of `heads`.
 fn speaker_of<'n>(
     alloc: Global,
-    given: &'n Given<'_>,
+    about: About<'n>,
     heads: Heads,
     reasons: &Rc<Cell<Reasons>>,
     now: &Rc<Cell<Standing>>,
@@ -179,7 +183,7 @@ fn speaker_of<'n>(
     let (reasons, now) = (reasons.clone()?, now.clone()?);
     let out = kept.shared()?;
     Ok(Speaker {
-        teller: Teller::new(alloc, given.names(), &given.known, reasons, now, heads, out),
+        teller: Teller::new(alloc, about.names, about.known, reasons, now, heads, out),
         kept,
         findings: 0,
     })
@@ -207,18 +211,14 @@ impl<F: Folder + StateFolder + Drop, L: NightLog + Drop> Noting<F, L> {
     }
 
     /// What stands beside the folder in the night, whose runs are logged so.
-    pub fn beside<'n>(
-        &mut self,
-        given: &'n Given<'_>,
-        log: L,
-    ) -> Result<Beside<'n, L>, AllocError> {
+    pub fn beside<'n>(&mut self, about: About<'n>, log: L) -> Result<Beside<'n, L>, AllocError> {
         let alloc = self.folder.observer.alloc;
         let heads = heads_before(alloc, &mut self.folder.folder, self.begun.told);
         let notes = &self.folder.observer;
         let reasons = notes.reasons.clone()?;
         Ok(Beside {
-            speaker: speaker_of(alloc, given, heads, &notes.reasons, &notes.now)?,
-            journal: Journal::of(log, given.began, self.lost.clone()?),
+            speaker: speaker_of(alloc, about, heads, &notes.reasons, &notes.now)?,
+            journal: Journal::of(log, about.began, self.lost.clone()?),
             reasons,
         })
     }

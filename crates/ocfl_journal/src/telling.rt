@@ -3,9 +3,9 @@
 use ocfl_codes::is_of_object;
 use ocfl_disk::StateFile;
 use ocfl_files::reasons::{Reasons, take_reasons};
-use ocfl_kept::lines::{CLEAN, error_of, put_lines};
 use ocfl_kept::names::Names;
 use ocfl_kept::stand::Standing;
+use ocfl_reading::lines::{CLEAN, error_of, put_lines};
 use ocfl_report::{Code, Line, TextStop, read_line, split_once, write_all_of};
 use ocfl_telling::{Finding, Found, Gravest, Heads, Known, Night, find_shown, night_text};
 use std::alloc::{AllocError, Global};

@@ -175,6 +175,11 @@ pub fn report_path(
     }
 }
 
+/// The path of the state folder of a part.
+pub fn part_path(alloc: Global, state: &str, number: usize) -> Result<String, AllocError> {
+    format!(in alloc; "{state}/part-{number:06}")
+}
+
 /// The path of the list of what is gone at the end of a cycle.
 pub fn list_path(alloc: Global, state: &str, cycle: u64) -> Result<String, AllocError> {
     format!(in alloc; "{state}/{}/gone-{cycle:06}", StateFile::Reports)
@@ -192,9 +197,15 @@ pub fn is_told<R: Room>(rt: &R, state: &str, cycle: u64) -> Result<bool, AllocEr
     Ok(rt.has(list.as_str()))
 }
 
-/// Whether the compressed report of a cycle that was closed as incomplete is there.
-pub fn is_packed_incomplete<R: Room>(rt: &R, state: &str, cycle: u64) -> Result<bool, AllocError> {
-    let path = format!(in rt.global(); "{state}/{}.gz", StateFile::Incomplete(cycle))?;
+/// Whether the report of a cycle, closed or joined, is there compressed.
+pub fn is_packed<R: Room>(
+    rt: &R,
+    state: &str,
+    cycle: u64,
+    whole: bool,
+) -> Result<bool, AllocError> {
+    let mut path = report_path(rt.global(), state, cycle, whole)?;
+    path.push_str(".gz")?;
     Ok(rt.has(path.as_str()))
 }
 

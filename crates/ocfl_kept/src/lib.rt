@@ -3,9 +3,7 @@
 #![tactic(auto)]
 
 pub mod kept;
-pub mod lines;
 pub mod names;
-pub mod reading;
 pub mod room;
 pub mod stand;
 pub mod state;

@@ -1,5 +1,7 @@
 //! How a night and its state folder are called.
 
+use ocfl_telling::Known;
+
 /// How what a night speaks of is called.
 #[derive(Clone, Copy)]
 pub struct Names<'a> {
@@ -9,4 +11,15 @@ pub struct Names<'a> {
     pub part: Option<u64>,
     /// The path of the state folder.
     pub state: &'a str,
+}
+
+/// A night: what is noted, logged and said of it needs no more than this.
+#[derive(Clone, Copy)]
+pub struct About<'a> {
+    pub names: Names<'a>,
+    /// When the night began, in seconds since the epoch.
+    pub began: u64,
+    pub known: &'a Known,
+    /// The SHA-256 of the program that makes it, in hexadecimal digits; empty if it is not known.
+    pub program: &'a str,
 }

@@ -1,5 +1,6 @@
 //! Opening the state folder of a night.
 
+use crate::kept::part_path;
 use crate::state_dir::{Folder, StateDir};
 use ocfl_disk::{FsState, Reason, StateFile, StateStop};
 use ocfl_files::failing::Failure;
@@ -15,17 +16,21 @@ use std::rt::Files;
 /// The exit status if another night holds the folder's lock.
 const HELD: u8 = 75;
 
+/// That a folder has the nights of parts.
+fn of_parts(alloc: Global, state: &str) -> Failure {
+    let state = Shown(state);
+    Failure::saying(format!(in alloc;
+        "{state} has the folders of parts. Begin in another folder. Nothing was run.\n"
+    ))
+}
+
 /// Refuses to begin nights in a folder that has those of parts.
 fn refuse_parts<R: Files + AllocGlobal>(rt: &R, state: &str) -> Result<(), Failure> {
-    let alloc = rt.alloc();
-    let part = format!(in alloc; "{state}/part-000001")?;
-    if !is_there(rt, part.as_str()) {
-        return Ok(());
+    let part = part_path(rt.alloc(), state, 1)?;
+    if is_there(rt, part.as_str()) {
+        return Err(of_parts(rt.alloc(), state));
     }
-    let state = Shown(state);
-    Err(Failure::saying(format!(in alloc;
-        "{state} has the folders of parts. Begin in another folder. Nothing was run.\n"
-    )))
+    Ok(())
 }
 
 /// Opens the state folder, and holds its lock.
@@ -41,9 +46,19 @@ where
     if create {
         refuse_parts(rt, state)?;
     }
-    match FsState::open(rt, state, create) {
+    opened(rt.alloc(), state, root, FsState::open(rt, state, create))
+}
+
+/// A folder that was opened, or what is said of why it was not.
+fn opened<F>(
+    alloc: Global,
+    state: &str,
+    root: &str,
+    folder: Result<F, StateStop>,
+) -> Result<F, Failure> {
+    match folder {
         Ok(folder) => Ok(folder),
-        Err(stop) => Err(Failure::made(unopened(rt.alloc(), state, root, stop))),
+        Err(stop) => Err(Failure::made(unopened(alloc, state, root, stop))),
     }
 }
 
@@ -70,16 +85,26 @@ pub(crate) fn hold_folder<R>(rt: &R, state: &str) -> Result<File, Failure>
 where
     R: Files<File = File> + AllocGlobal,
 {
-    let alloc = rt.alloc();
-    let path = format!(in alloc; "{state}/{}", StateFile::Lock)?;
-    match open_lock(rt, path.as_str()) {
-        Ok(lock) => hold(alloc, state, path.as_str(), lock),
-        Err(error) => Err(failed_file(alloc, path.as_str(), &error)),
-    }
+    let path = lock_path(rt.alloc(), state)?;
+    hold(
+        rt.alloc(),
+        state,
+        path.as_str(),
+        open_lock(rt, path.as_str()),
+    )
 }
 
-/// Holds a lock while the result lives.
-fn hold(alloc: Global, state: &str, path: &str, lock: File) -> Result<File, Failure> {
+/// The path of a folder's lock.
+fn lock_path(alloc: Global, state: &str) -> Result<String, AllocError> {
+    format!(in alloc; "{state}/{}", StateFile::Lock)
+}
+
+/// Holds a lock while the result lives, if its file could be opened.
+fn hold(alloc: Global, state: &str, path: &str, opened: io::Result<File>) -> Result<File, Failure> {
+    let lock = match opened {
+        Ok(lock) => lock,
+        Err(error) => return Err(failed_file(alloc, path, &error)),
+    };
     match lock.try_lock() {
         Ok(()) => Ok(lock),
         Err(error) => Err(unheld(alloc, state, path, error)),

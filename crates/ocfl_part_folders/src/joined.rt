@@ -1,11 +1,11 @@
 //! The closed reports of parts in their state folders, and the joined one that is made of them.
 
-use crate::part_facts::{Facts, is_emptied, part_path};
+use crate::part_facts::{Facts, is_emptied};
 use ocfl_disk::{OpenReport, StateFile};
 use ocfl_files::failing::Failure;
 use ocfl_files::making::failed_file;
 use ocfl_joining::{KeptMark, PartReports, ReportTrouble};
-use ocfl_kept::kept::{ClosedIn, report_path};
+use ocfl_kept::kept::{ClosedIn, part_path, report_path};
 use ocfl_kept::room::Room;
 use ocfl_state::Checkpoint;
 use ocfl_telling::Shown;

@@ -1,17 +1,17 @@
 //! Joining the closed reports of all parts of a storage root, of one cycle.
 
 use crate::joined::{JoinedFolder, find_joined};
-use crate::part_facts::{Facts, closed_parts, last_of_all, part_path, read_all};
+use crate::part_facts::{Facts, closed_parts, last_of_all, read_all};
 use ocfl_files::failing::{Failure, say_failure};
 use ocfl_files::making::failed_file;
 use ocfl_files::saying::STOPPED;
 use ocfl_joining::{ClosedPart, JoinStop, MissingPart, PartFault, find_most_names, join};
-use ocfl_kept::kept::{MOST_BACK, is_told, report_path};
-use ocfl_kept::lines::line_of;
-use ocfl_kept::reading::{TakeLine, take_lines};
+use ocfl_kept::kept::{MOST_BACK, is_packed, is_told, part_path, report_path};
 use ocfl_kept::room::Room;
 use ocfl_line::JoinAsked;
 use ocfl_parts::{PartsStop, Separators, read_parts};
+use ocfl_reading::lines::line_of;
+use ocfl_reading::reading::{TakeLine, take_lines};
 use ocfl_report::{DisplayPlace, write_all_of};
 use ocfl_scope::ScopeStop;
 use ocfl_telling::{Counts, Joined, Shown, Tally, joined_text};
@@ -214,14 +214,11 @@ struct AllParts<'a> {
 
 /// Whether the joined report of a cycle is there, whole or not, or was compressed.
 fn is_joined<R: Room>(rt: &R, state: &str, cycle: u64) -> Result<bool, AllocError> {
-    for whole in [true, false] {
-        let path = report_path(rt.global(), state, cycle, whole)?;
-        let packed = format!(in rt.global(); "{path}.gz")?;
-        if rt.has(path.as_str()) || rt.has(packed.as_str()) {
-            return Ok(true);
-        }
-    }
-    Ok(false)
+    Ok(
+        find_joined(rt, state, cycle)?.is_some()
+            || is_packed(rt, state, cycle, true)?
+            || is_packed(rt, state, cycle, false)?,
+    )
 }
 
 /// Whether the state folder of a part has a closed report of a cycle, and said what that found.

@@ -3,7 +3,7 @@
 use ocfl_cursor::{PartEnds, Refused};
 use ocfl_files::failing::Failure;
 use ocfl_joining::ClosedPart;
-use ocfl_kept::kept::{ClosedIn, is_told, place_of, places_of};
+use ocfl_kept::kept::{ClosedIn, is_told, part_path, place_of, places_of};
 use ocfl_kept::room::Room;
 use ocfl_kept::stand::Standing;
 use ocfl_state::{Checkpoint, RootIdentity, decode_checkpoint};
@@ -34,11 +34,6 @@ impl Drop for Facts {
             has_lines: _has_lines,
         } = self;
     }
-}
-
-/// The path of the state folder of a part.
-pub(crate) fn part_path(alloc: Global, state: &str, number: usize) -> Result<String, AllocError> {
-    format!(in alloc; "{state}/part-{number:06}")
 }
 
 /// Which storage root it is of.

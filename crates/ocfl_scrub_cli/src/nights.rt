@@ -6,17 +6,18 @@ mod speaking;
 use crate::nights::clock::{RunLog, System};
 use crate::nights::ending::{Runs, said_of};
 use crate::nights::speaking::Words;
-use ocfl_closing::closing::{Told, tell_closings};
+use ocfl_closing::closing::{ToldBy, tell_closings};
 use ocfl_digest::Block;
 use ocfl_files::failing::Failure;
 use ocfl_files::reasons::{Reasons, words_on};
 use ocfl_files::timing::seconds_now;
 use ocfl_folder::FsTree;
-use ocfl_journal::SystemLog;
+use ocfl_given::given::{Found, Given, find_given, program_digest, text_of};
+use ocfl_given::waiting::{find_wait, say_wait};
 use ocfl_journal::ending::{Ended, EndedFolder, end_night, log_ended, log_unbegun, status_told};
-use ocfl_journal::given::{Found, Given, find_given, text_of};
-use ocfl_journal::noting::{Beside, OnDisk, open_noting, stop_file};
-use ocfl_journal::waiting::{find_wait, say_wait};
+use ocfl_journal::noting::{Beside, Noting, OnDisk, Told, open_noting, stop_file};
+use ocfl_journal::{NightLog, SystemLog};
+use ocfl_kept::room::Room;
 use ocfl_kept::stand::Standing;
 use ocfl_kept::state_dir::Folder;
 use ocfl_line::NightAsked;
@@ -29,7 +30,7 @@ use ocfl_tree::Tree;
 use std::alloc::{AllocError, Global};
 use std::cell::Cell;
 use std::fs::File;
-use std::io::{self, Printer};
+use std::io::{self, Printer, Write};
 use std::rt::{Env, Files};
 use std::time::Clock;
 
@@ -48,6 +49,18 @@ impl Drop for Planned<'_> {
             site: _site,
             plan: _plan,
         } = self;
+    }
+}
+
+impl<'a> Planned<'a> {
+    /// Of what a night is made with, and may do.
+    fn of(found: Found<'a>, plan: Plan) -> Planned<'a> {
+        let Found { given, place, ends } = found;
+        Planned {
+            given,
+            site: Site { path: place, ends },
+            plan,
+        }
     }
 }
 
@@ -86,10 +99,11 @@ fn night_over<R, S, T, C, O>(
     folder: &mut S,
     tree: &mut T,
     clock: &mut C,
+    block: &mut Block,
     out: &mut O,
     reasons: &Cell<Reasons>,
     shown: Shown,
-) -> Result<NightEnd, AllocError>
+) -> NightEnd
 where
     R: Sight,
     S: StateFolder,
@@ -97,18 +111,17 @@ where
     C: ocfl_night::Clock,
     O: Output,
 {
-    let mut block = Block::new(rt.global())?;
     let mut tree = Watched::over(rt, tree, shown.is_shown, reasons, shown.last_cost);
-    Ok(night(
+    night(
         rt.global(),
         folder,
         &mut tree,
         &planned.site,
         &planned.plan,
         clock,
-        &mut block,
+        block,
         out,
-    ))
+    )
 }
 
 /// The words on the last call over the storage root that failed. None if there is no memory for
@@ -118,6 +131,48 @@ fn why_of(alloc: Global, reasons: &Cell<Reasons>, error: Option<io::Error>) -> O
         Some(error) => words_on(alloc, reasons, error).ok(),
         None => None,
     }
+}
+
+/// Makes the runs of a night over an open folder, a store, a clock and an output.
+fn runs_over<R, F, L, T, C, W>(
+    rt: &R,
+    planned: &Planned<'_>,
+    noting: &mut Noting<F, L>,
+    beside: Beside<'_, L>,
+    tree: &mut T,
+    clock: C,
+    block: &mut Block,
+    out: W,
+    is_shown: bool,
+) -> (NightEnd, Told)
+where
+    R: Sight,
+    F: Folder + StateFolder + Drop,
+    L: NightLog + Drop,
+    T: Tree + Reasoned,
+    C: ocfl_night::Clock + Drop,
+    W: Write + Drop,
+{
+    let Beside {
+        journal,
+        speaker,
+        reasons,
+    } = beside;
+    let began = planned.given.began;
+    let mut clock = Hearing {
+        clock: Budgeted::of(planned.given.asked, clock),
+        listener: RunLog { journal, began },
+    };
+    let mut out = Telling::over(Words { speaker }, out);
+    let shown = Shown {
+        is_shown,
+        last_cost: last_cost(noting.began()),
+    };
+    let folder = &mut noting.folder;
+    let end = night_over(
+        rt, planned, folder, tree, &mut clock, block, &mut out, &reasons, shown,
+    );
+    (end, noting.told_by(out.into_message().speaker))
 }
 
 /// Makes the runs of a night over an open folder.
@@ -131,36 +186,27 @@ where
     R: Files<File = File> + Env + AllocGlobal + Clock + Print + Eprint,
 {
     let given = &planned.given;
+    let mut block = Block::new(rt.alloc())?;
+    let stop = stop_file(rt, given.asked.state.as_str())?;
     let log = SystemLog::at(rt, given.asked.state.as_str())?;
-    let Beside {
-        journal,
-        speaker,
-        reasons,
-    } = noting.beside(given, log)?;
-    let began = given.began;
-    let mut clock = Hearing {
-        clock: Budgeted::of(
-            given.asked,
-            System {
-                stop: stop_file(rt, given)?,
-            },
-        ),
-        listener: RunLog { journal, began },
-    };
-    let mut out = Telling::over(Words { speaker }, output_on(rt, shown_on));
+    let beside = noting.beside(given.about(), log)?;
+    let reasons = beside.reasons.clone()?;
     let mut tree = FsTree::entering(rt, given.root.as_str())?;
-    let shown = Shown {
-        is_shown: shown_on.error,
-        last_cost: last_cost(noting.began()),
-    };
-    let folder = &mut noting.folder;
-    let end = night_over(
-        rt, planned, folder, &mut tree, &mut clock, &mut out, &reasons, shown,
-    )?;
+    let (end, told) = runs_over(
+        rt,
+        planned,
+        noting,
+        beside,
+        &mut tree,
+        System { stop },
+        &mut block,
+        output_on(rt, shown_on),
+        shown_on.error,
+    );
     Ok(Runs {
         end,
         why: why_of(rt.alloc(), &reasons, tree.reason()),
-        told: noting.told_by(out.into_message().speaker),
+        told,
     })
 }
 
@@ -182,7 +228,7 @@ fn run_night<'a, R>(
     planned: &Planned<'_>,
     noting: &mut OnDisk<'a, R>,
     shown_on: Terminals,
-) -> Result<(Runs, Option<String>), Failure>
+) -> Result<(Runs, Option<String>), AllocError>
 where
     R: Files<File = File> + Env + AllocGlobal + Clock + Print + Eprint,
 {
@@ -198,17 +244,15 @@ where
 /// refused.
 fn tell_closed<R, F>(rt: &R, given: &Given<'_>, folder: &mut EndedFolder<F>, ended: Ended<'_>) -> u8
 where
-    R: Files<File = File> + AllocGlobal + Clock + Print + Eprint,
+    R: Room + Clock + Print + Eprint,
     F: Folder + Drop,
 {
     let Some(closed) = ended.closed else {
         return 0;
     };
-    let told = Told {
-        names: given.names(),
-        known: &given.known,
+    let told = ToldBy {
+        about: given.about(),
         expected: text_of(&given.asked.expected),
-        night: given.began,
         said: &ended.told.said,
         before: folder.before,
         closed,
@@ -216,26 +260,51 @@ where
     tell_closings(rt, &mut folder.folder, told, &mut io::writer(rt))
 }
 
+/// Says and logs how a night ended, and what the cycles found that were closed. Gives its status.
+fn close_night<R, F, L>(
+    rt: &R,
+    given: &Given<'_>,
+    noting: Noting<F, L>,
+    runs: &Runs,
+    said: &Option<String>,
+) -> Result<u8, AllocError>
+where
+    R: Room + Clock + Print + Eprint,
+    F: Folder + StateFolder + Drop,
+    L: NightLog + Drop,
+{
+    let ended = runs.ended(said);
+    let state = given.asked.state.as_str();
+    let mut folder = end_night(rt, rt.global(), state, noting, ended)?;
+    let status = runs.status(tell_closed(rt, given, &mut folder, ended));
+    let (alloc, now) = (rt.global(), seconds_now(rt));
+    Ok(log_ended(rt, alloc, &mut folder, given.about(), ended, status, now))
+}
+
+/// Makes a night that is planned, and gives its status.
+fn make_planned<'a, R>(
+    rt: &'a R,
+    planned: &Planned<'_>,
+    noting: OnDisk<'a, R>,
+    shown_on: Terminals,
+) -> Result<u8, AllocError>
+where
+    R: Files<File = File> + Env + AllocGlobal + Clock + Print + Eprint,
+{
+    let mut noting = noting;
+    let (runs, said) = run_night(rt, planned, &mut noting, shown_on)?;
+    close_night(rt, &planned.given, noting, &runs, &said)
+}
+
 /// Makes a night, and gives its status.
 fn make_found<R>(rt: &R, found: Found<'_>, shown_on: Terminals) -> Result<u8, Failure>
 where
     R: Files<File = File> + Env + AllocGlobal + Clock + Print + Eprint,
 {
-    let Found { given, place, ends } = found;
-    let mut noting = open_noting(rt, &given)?;
-    let plan = find_plan(rt, &given, noting.began())?;
-    let planned = Planned {
-        given,
-        site: Site { path: place, ends },
-        plan,
-    };
-    let (runs, said) = run_night(rt, &planned, &mut noting, shown_on)?;
-    let (alloc, given) = (rt.alloc(), &planned.given);
-    let ended = runs.ended(&said);
-    let mut folder = end_night(rt, alloc, given.asked.state.as_str(), noting, ended)?;
-    let status = runs.status(tell_closed(rt, given, &mut folder, ended));
-    let now = seconds_now(rt);
-    Ok(log_ended(rt, alloc, &mut folder, given, ended, status, now))
+    let noting = open_noting(rt, found.given.about(), found.given.asked.create)?;
+    let plan = find_plan(rt, &found.given, noting.began())?;
+    let planned = Planned::of(found, plan);
+    Ok(make_planned(rt, &planned, noting, shown_on)?)
 }
 
 /// The same of a night that is asked for.
@@ -248,7 +317,9 @@ where
     match find_given(rt, asked, began) {
         Ok(found) => make_found(rt, found, shown_on),
         Err(failure) => {
-            log_unbegun(rt, asked, began, &failure);
+            let program = program_digest(rt);
+            let (state, root) = (asked.state.as_str(), asked.root.as_str());
+            log_unbegun(rt, state, root, began, &failure, program.as_str());
             Err(failure)
         }
     }

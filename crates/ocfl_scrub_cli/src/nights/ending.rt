@@ -1,21 +1,15 @@
 //! What is said of how a night ends.
 
-use ocfl_cursor::Refused;
 use ocfl_disk::Reason;
-use ocfl_item::Fault;
+use ocfl_endings::ending_text;
+use ocfl_given::given::text_of;
 use ocfl_journal::ending::Ended;
-use ocfl_journal::given::text_of;
 use ocfl_journal::noting::Told;
 use ocfl_kept::names::Names;
 use ocfl_kept::state::words_of;
-use ocfl_night::{Halt, NightEnd, Refusal, Stop};
+use ocfl_night::NightEnd;
 use ocfl_plan::{closed_by, is_logged, night_status};
-use ocfl_state::FolderTrouble;
-use ocfl_telling::{RefusalMessage, StopMessage, refusal_text, stop_text};
 use std::alloc::{AllocError, Global};
-
-/// The words on a checkpoint that a state folder does not take.
-const TOO_LONG: &str = "checkpoint.new: more than 1 MiB";
 
 /// What the runs of a night came to.
 pub(crate) struct Runs {
@@ -70,132 +64,5 @@ impl Runs {
     /// The status of the night, with this one of what was told of closed cycles.
     pub(crate) fn status(&self, told: u8) -> u8 {
         night_status(&self.end, self.told.broken, self.told.findings, told)
-    }
-}
-
-/// What is said of a night that ended so; nothing if it ended well. `words` are the system's on
-/// the last call on the state folder that failed, and `why` on the last over the storage root.
-fn ending_text(
-    alloc: Global,
-    halt: &Halt,
-    words: Option<&str>,
-    why: Option<&str>,
-    names: Names<'_>,
-) -> Result<Option<String>, AllocError> {
-    match halt {
-        Halt::CycleEnded(_) | Halt::TimeUp | Halt::Spent | Halt::Asked => Ok(None),
-        Halt::Refused(refusal) => Ok(Some(text_of_refusal(alloc, refusal, names)?)),
-        Halt::RootChanged => Ok(Some(refusal_text(
-            alloc,
-            RefusalMessage::RootChanged,
-            names.root,
-            names.state,
-        )?)),
-        Halt::Stopped(fault) => Ok(Some(text_of_fault(alloc, fault, why, names)?)),
-        Halt::Troubled(stop) => Ok(Some(text_of_trouble(alloc, stop, words, why, names)?)),
-    }
-}
-
-/// The path of the storage root that a folder is bound to, if that is another one. Else empty.
-fn bound_to(alloc: Global, refusal: &Refusal) -> Result<String, AllocError> {
-    match refusal {
-        Refusal::OtherRoot(place) => format!(in alloc; "/{}", place.path()),
-        _ => Ok(String::new(alloc)),
-    }
-}
-
-/// Why a checkpoint is refused. `None` if memory was.
-fn message_on(refused: &Refused) -> Option<RefusalMessage<'static>> {
-    match refused {
-        Refused::NotA(_) => Some(RefusalMessage::NotCheckpoint),
-        Refused::Version => Some(RefusalMessage::Version),
-        Refused::Damaged => Some(RefusalMessage::Damaged),
-        Refused::Malformed => Some(RefusalMessage::Malformed),
-        Refused::Memory => None,
-    }
-}
-
-/// Why a night is refused, of a folder that is bound to that root. `None` if memory was.
-fn message_of<'a>(refusal: &Refusal, bound: &'a str) -> Option<RefusalMessage<'a>> {
-    match refusal {
-        Refusal::NoCheckpoint => Some(RefusalMessage::NoCheckpoint),
-        Refusal::HasReports => Some(RefusalMessage::HasReports),
-        Refusal::Unread(refused) => message_on(refused),
-        Refusal::NoRoot => Some(RefusalMessage::NoRoot),
-        Refusal::OtherRoot(_) => Some(RefusalMessage::OtherRoot(bound)),
-        Refusal::OtherPart => Some(RefusalMessage::OtherPart),
-        Refusal::Older(cycle) => Some(RefusalMessage::Older { cycle: *cycle }),
-        Refusal::OtherDeclaration => Some(RefusalMessage::OtherDeclaration),
-        Refusal::NamesGone { gone, before } => Some(RefusalMessage::NamesGone {
-            gone: *gone,
-            before: *before,
-        }),
-    }
-}
-
-/// The line on a refusal.
-fn text_of_refusal(
-    alloc: Global,
-    refusal: &Refusal,
-    names: Names<'_>,
-) -> Result<String, AllocError> {
-    let bound = bound_to(alloc, refusal)?;
-    match message_of(refusal, bound.as_str()) {
-        Some(why) => refusal_text(alloc, why, names.root, names.state),
-        None => Err(AllocError),
-    }
-}
-
-/// What stopped a run.
-fn stop_of(fault: &Fault) -> StopMessage<'_> {
-    match fault {
-        Fault::Store(place) => StopMessage::At(place),
-        Fault::Memory => StopMessage::Memory,
-    }
-}
-
-/// The line on a night whose run stopped.
-fn text_of_fault(
-    alloc: Global,
-    fault: &Fault,
-    why: Option<&str>,
-    names: Names<'_>,
-) -> Result<String, AllocError> {
-    let words = match fault {
-        Fault::Store(_) => why,
-        Fault::Memory => None,
-    };
-    text_of_stop(alloc, stop_of(fault), words, names)
-}
-
-/// The line on a night that stopped.
-fn text_of_stop(
-    alloc: Global,
-    stop: StopMessage<'_>,
-    words: Option<&str>,
-    names: Names<'_>,
-) -> Result<String, AllocError> {
-    stop_text(alloc, stop, words, names.part, names.root, names.state)
-}
-
-/// The line on a night whose folder or output failed.
-fn text_of_trouble(
-    alloc: Global,
-    stop: &Stop,
-    words: Option<&str>,
-    why: Option<&str>,
-    names: Names<'_>,
-) -> Result<String, AllocError> {
-    match stop {
-        Stop::Worn => refusal_text(alloc, RefusalMessage::Worn, names.root, names.state),
-        Stop::Output => text_of_stop(alloc, StopMessage::Output, None, names),
-        Stop::Unread(place) => text_of_stop(alloc, StopMessage::At(place), why, names),
-        Stop::Folder(FolderTrouble::Memory) => {
-            text_of_stop(alloc, StopMessage::Memory, None, names)
-        }
-        Stop::TooLong(_) => text_of_stop(alloc, StopMessage::State, Some(TOO_LONG), names),
-        Stop::Folder(_) | Stop::Endless | Stop::Unsaid | Stop::Overtold | Stop::Short => {
-            text_of_stop(alloc, StopMessage::State, words, names)
-        }
     }
 }

@@ -1,7 +1,7 @@
 //! That nothing is written into a storage root: the state folder and the root lie apart.
 ghost use Rattle.std.specs.Prelude.{◌↔◌, IsTrue};
 ghost use Rattle.std.specs.Path.{path_bytes};
-ghost use Rattle.ocfl_journal.specs.Overlap.{Overlap};
+ghost use Rattle.ocfl_given.specs.Overlap.{Overlap};
 
 use ocfl_files::failing::Failure;
 use ocfl_files::files::{lies_inside, path_of};

@@ -4,9 +4,10 @@ use crate::apart::refuse_overlap;
 use crate::ends::find_shown;
 use ocfl_cursor::PartEnds;
 use ocfl_files::failing::Failure;
-use ocfl_kept::names::Names;
+use ocfl_kept::names::{About, Names};
 use ocfl_line::NightAsked;
-use ocfl_lists::{find_known, refuse_unfit};
+use ocfl_reading::expected::refuse_unfit;
+use ocfl_reading::known::find_known;
 use ocfl_telling::Known;
 use ocfl_terminal::roots::{Root, find_ends, find_root, part_number};
 use ocfl_terminal::version::running_digest;
@@ -70,10 +71,20 @@ impl Given<'_> {
             state: self.asked.state.as_str(),
         }
     }
+
+    /// What is noted, logged and said of the night by.
+    pub fn about(&self) -> About<'_> {
+        About {
+            names: self.names(),
+            began: self.began,
+            known: &self.known,
+            program: self.program.as_str(),
+        }
+    }
 }
 
 /// The SHA-256 of the running program, in hexadecimal digits; empty if it is not known.
-pub(crate) fn program_digest<R: Files + AllocGlobal>(rt: &R) -> String {
+pub fn program_digest<R: Files + AllocGlobal>(rt: &R) -> String {
     running_digest(rt).unwrap_or(String::new(rt.alloc()))
 }
 

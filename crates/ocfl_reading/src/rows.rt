@@ -16,9 +16,9 @@ const MOST_NAMED: usize = 10_000;
 
 /// The first of what is gone, and how much there is.
 #[derive(Drop)]
-pub(crate) struct Missing {
-    pub(crate) first: Vec<Gone>,
-    pub(crate) count: u64,
+pub struct Missing {
+    pub first: Vec<Gone>,
+    pub count: u64,
 }
 
 impl Missing {
@@ -48,23 +48,23 @@ impl Missing {
 }
 
 /// What changed. Of each list there are the first, and how many there are.
-pub(crate) struct Changes {
+pub struct Changes {
     /// Findings that are new, by their codes and places alone, up to 10,000.
-    pub(crate) appeared: Vec<Line>,
-    pub(crate) appeared_count: u64,
+    pub appeared: Vec<Line>,
+    pub appeared_count: u64,
     /// How many others are new, and known by their codes and places.
-    pub(crate) known_count: u64,
+    pub known_count: u64,
     /// Findings that are repaired, by their codes and places alone, as many as are shown.
-    pub(crate) repaired: Vec<Line>,
-    pub(crate) repaired_count: u64,
+    pub repaired: Vec<Line>,
+    pub repaired_count: u64,
     /// Objects that have no line of an object any more.
-    pub(crate) objects: Missing,
+    pub objects: Missing,
     /// Files that have no line any more, of objects that are looked at.
-    pub(crate) files: Missing,
+    pub files: Missing,
     /// Objects of a list that have no line.
-    pub(crate) expected: Missing,
+    pub expected: Missing,
     /// How many files are not looked at any more: their object is gone, or its head stops now.
-    pub(crate) unlooked: u64,
+    pub unlooked: u64,
 }
 
 /// Written by hand, so that to let it go is one call wherever that happens.
@@ -86,7 +86,7 @@ impl Drop for Changes {
 
 impl Changes {
     /// None.
-    pub(crate) fn new(alloc: Global) -> Changes {
+    pub fn new(alloc: Global) -> Changes {
         Changes {
             appeared: Vec::new(alloc),
             appeared_count: 0,
@@ -101,7 +101,7 @@ impl Changes {
     }
 
     /// How many objects and files are gone.
-    pub(crate) fn gone_count(&self) -> u64 {
+    pub fn gone_count(&self) -> u64 {
         self.objects
             .count
             .saturating_add(self.files.count)
@@ -109,7 +109,7 @@ impl Changes {
     }
 
     /// The first of what is gone: objects before files.
-    pub(crate) fn gone(&self, alloc: Global) -> Result<Vec<Gone>, AllocError> {
+    pub fn gone(&self, alloc: Global) -> Result<Vec<Gone>, AllocError> {
         let mut gone = Vec::new(alloc);
         for missing in [&self.objects, &self.expected, &self.files] {
             for one in &missing.first {
@@ -123,7 +123,7 @@ impl Changes {
     }
 
     /// Takes those of another comparison of the same report, of other places, too.
-    pub(crate) fn join(&mut self, other: &mut Changes) -> Result<(), AllocError> {
+    pub fn join(&mut self, other: &mut Changes) -> Result<(), AllocError> {
         self.appeared_count = self.appeared_count.saturating_add(other.appeared_count);
         self.known_count = self.known_count.saturating_add(other.known_count);
         self.repaired_count = self.repaired_count.saturating_add(other.repaired_count);
@@ -137,7 +137,7 @@ impl Changes {
 }
 
 /// Takes the changes of a comparison, and writes those that make something gone into a list.
-pub(crate) struct Rows<'k, 'p> {
+pub struct Rows<'k, 'p> {
     alloc: Global,
     /// New findings that are known do not count.
     known: &'k Known,
@@ -162,7 +162,7 @@ impl Drop for Rows<'_, '_> {
 
 impl<'k, 'p> Rows<'k, 'p> {
     /// With no change yet.
-    pub(crate) fn new(alloc: Global, known: &'k Known, list: File) -> Rows<'k, 'p> {
+    pub fn new(alloc: Global, known: &'k Known, list: File) -> Rows<'k, 'p> {
         Rows {
             alloc,
             known,
@@ -174,17 +174,17 @@ impl<'k, 'p> Rows<'k, 'p> {
 
     /// From now on the changes of these places and of what is below them count alone; all changes if
     /// there are none.
-    pub(crate) fn keep_to(&mut self, within: Option<&'p [Place]>) {
+    pub fn keep_to(&mut self, within: Option<&'p [Place]>) {
         self.within = within;
     }
 
     /// Ends a comparison, and gives what changed by it.
-    pub(crate) fn take_changes(&mut self) -> Changes {
+    pub fn take_changes(&mut self) -> Changes {
         mem::replace(&mut self.changes, Changes::new(self.alloc))
     }
 
     /// The list.
-    pub(crate) fn list(&self) -> &File {
+    pub fn list(&self) -> &File {
         &self.list.out
     }
 

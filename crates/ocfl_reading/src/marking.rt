@@ -6,7 +6,7 @@ use std::fs::File;
 use std::io::{self, BufReader, Read};
 
 /// A reader that keeps why a read failed, and may mark the bytes that it gives.
-pub(crate) struct Marking {
+pub struct Marking {
     file: File,
     digests: Option<ReportDigests>,
     error: Option<io::Error>,
@@ -41,8 +41,8 @@ impl Read for Marking {
 }
 
 /// A buffered reader of a closed report.
-pub(crate) struct ReportReader {
-    pub(crate) reader: BufReader<Marking>,
+pub struct ReportReader {
+    pub reader: BufReader<Marking>,
 }
 
 /// Written by hand, so that to let it go is one call wherever that happens.
@@ -54,7 +54,7 @@ impl Drop for ReportReader {
 
 impl ReportReader {
     /// Before the first read.
-    pub(crate) fn new(alloc: Global, file: File, marks: bool) -> Result<ReportReader, AllocError> {
+    pub fn new(alloc: Global, file: File, marks: bool) -> Result<ReportReader, AllocError> {
         let marking = Marking {
             file,
             digests: if marks {
@@ -71,12 +71,12 @@ impl ReportReader {
     }
 
     /// Why the last read failed that did.
-    pub(crate) fn error(&self) -> Option<io::Error> {
+    pub fn error(&self) -> Option<io::Error> {
         self.reader.get_ref().error
     }
 
     /// The mark of what was read, if it is marked.
-    pub(crate) fn mark(&self) -> Option<ReportMark> {
+    pub fn mark(&self) -> Option<ReportMark> {
         match &self.reader.get_ref().digests {
             Some(digests) => Some(digests.summary()),
             None => None,

@@ -1,7 +1,7 @@
 //! The whole lines of findings that are named in a closing.
 
-use ocfl_kept::lines::{line_of, put_lines};
-use ocfl_kept::reading::{TakeLine, take_lines};
+use crate::lines::{line_of, put_lines};
+use crate::reading::{TakeLine, take_lines};
 use ocfl_report::{Code, Line};
 use ocfl_telling::{Finding, Gathering, Gravest, Heads, Known, Tally};
 use std::alloc::{AllocError, Global};
@@ -51,7 +51,7 @@ impl Findings {
     }
 
     /// The lines of those that are kept, in the order of places.
-    pub(crate) fn into_lines(self, alloc: Global) -> Result<Vec<Line>, AllocError> {
+    pub fn into_lines(self, alloc: Global) -> Result<Vec<Line>, AllocError> {
         let mut lines = lines_of(alloc, &self.gravest)?;
         sort_lines(&mut lines)?;
         Ok(lines)

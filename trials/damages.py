@@ -5,19 +5,28 @@ The root is as tools of the field write it (`shared/library.py`). After a night 
 made, 21 objects are damaged, each in another way, and the next night's message has to name each of
 them by its place, in at most 40 lines, none over 100 characters but for paths, and none twice.
 A name in another form of Unicode is one line. Three more damages are of kinds that a night does not
-look at: it says nothing of them. The last three checks were seen to fail on a program that showed
+look at: it says nothing of them. Three checks of its lines were seen to fail on a program that showed
 twenty findings in three lines each.
+
+Then bash runs what `ocfl-scrub-reports repair` shows with a copy of the root as it was made, and the
+next night finds only what no copy repairs.
 
 usage: damages.py
 """
 import os
 import re
+import shutil
 import time
 
 import common
-from common import check
+from common import PROGRAM, check
 from shared.library import DAMAGES, NAMES, UNSEEN, make_library
-from shared.nights import Nights, ran
+from shared.nights import Nights, ask, ran, write
+
+# What no copy repairs: files that no inventory names, a link in the place of a file, an inventory
+# that is not that of the newest version, a wrong digest in an inventory.
+NOT_REPAIRED = {"a stray", "another stray", "moved and linked", "inventory of before",
+                "fixity wrong"}
 
 
 def longest(text, places):
@@ -46,6 +55,8 @@ def check_all(folder):
     files = sum(len(it.paths()) for it in objects)
     check("a root as it was made", re.findall(r"(\d+) of (\d+) files right, (\d+) objects", first),
           [(str(files), str(files), str(len(objects)))])
+    copy = os.path.join(folder, "a copy")
+    shutil.copytree(root, copy)
     planted = list(zip([*DAMAGES, *UNSEEN], objects_for(objects)))
     for damage, it in planted:
         damage.do(it)
@@ -63,6 +74,23 @@ def check_all(folder):
                                       + [it.place for it in objects] + [root, nights.state]) <= 100,
           True)
     check("lines that are there twice", [it for it in lines if lines.count(it) > 1], [])
+    repaired(folder, nights, copy, planted)
+
+
+def repaired(folder, nights, copy, planted):
+    """What is found after the commands of `repair` were run."""
+    status, commands, said = ask("repair", "--copy", copy, nights.state)
+    check("repair", (status, said), (1, ""))
+    write(folder + "/bin/ocfl-scrub", '#!/bin/sh\nexec %s "$@"\n' % PROGRAM, 0o755)
+    done = ran(["bash", "-euc", commands], PATH=folder + "/bin:" + os.environ["PATH"])
+    check("its commands", done, (0, "", ""))
+    time.sleep(1.1)
+    _, message, _ = ran(nights.words())
+    found = message.partition("\nCycle ")[0]
+    check("what is still found", {damage.name for damage, it in planted if it.place in found},
+          NOT_REPAIRED)
+    check("no object is gone now", [it for it in ask("status", "--list", nights.state)[1].split("\n")
+                                    if it.startswith(("object", "undeclared"))], [])
 
 
 if __name__ == "__main__":

@@ -11,8 +11,12 @@ twenty findings in three lines each.
 Then bash runs what `ocfl-scrub-reports repair` shows with a copy of the root as it was made, and the
 next night finds only what no copy repairs.
 
+Each damage is also done to a small root, whose message has to say how many files of that object are
+right, as its inventory and the files that are there say by themselves.
+
 usage: damages.py
 """
+import json
 import os
 import re
 import shutil
@@ -21,6 +25,7 @@ import time
 import common
 from common import PROGRAM, check
 from shared.library import DAMAGES, NAMES, UNSEEN, make_library
+from shared.messages import OBJECT
 from shared.nights import Nights, ask, ran, write
 
 # What no copy repairs: files that no inventory names, a link in the place of a file, an inventory
@@ -47,7 +52,66 @@ def objects_for(objects):
             for damage in [*DAMAGES, *UNSEEN]]
 
 
+def is_right(path, key, algorithm):
+    """Whether a file is there, and no link, with this digest."""
+    if os.path.islink(path) or not os.path.isfile(path):
+        return False
+    with open(path, "rb") as file:
+        return common.digest(file.read(), algorithm) == key.lower()
+
+
+def files_in(it):
+    """The paths of all files in the content folders of an object, below it."""
+    found = set()
+    for top, _, names in os.walk(it.folder):
+        within = os.path.relpath(top, it.folder).split(os.sep)
+        if within[1:2] == [it.content]:
+            found.update("/".join([*within, name]) for name in names)
+    return found
+
+
+def counted(it):
+    """How many files of an object are right, and how many there are, as its inventory and its
+    folder say; nothing of one whose inventory cannot be read, or which is none."""
+    names = os.listdir(it.folder) if os.path.isdir(it.folder) else []
+    if not any(name.startswith("0=") for name in names):
+        return None
+    try:
+        with open(os.path.join(it.folder, "inventory.json"), "rb") as file:
+            made = json.load(file)
+    except ValueError:
+        return None
+    blocks = [(it.algorithm, made["manifest"]), *made["fixity"].items()]
+    named = {path for paths in made["manifest"].values() for path in paths}
+    wrong = {path for algorithm, block in blocks for key, paths in block.items() for path in paths
+             if not is_right(os.path.join(it.folder, path), key, algorithm)}
+    return len(named - wrong), len(named | files_in(it))
+
+
+def said_of(it, message):
+    """How many files of an object a message says to be right, of how many."""
+    heads = [OBJECT.fullmatch(line) for line in message.splitlines()]
+    return [head[2] and (int(head[2]), int(head[3])) for head in heads
+            if head and head[1] == it.place]
+
+
+def one_by_one(folder):
+    for number, damage in enumerate(DAMAGES):
+        root = os.path.join(folder, "root-%d" % number)
+        objects = make_library(root, 9)
+        nights = Nights(os.path.join(folder, "state-%d" % number), root)
+        ran(nights.words())
+        it = next(it for it in objects if len(it.versions) > 1
+                  and any("ü" in path for path in it.paths()))
+        damage.do(it)
+        time.sleep(1.1)
+        _, message, _ = ran(nights.words())
+        wanted = counted(it)
+        check("%s: files that are right" % damage.name, said_of(it, message) or [None], [wanted])
+
+
 def check_all(folder):
+    one_by_one(folder)
     root = os.path.join(folder, "root")
     objects = make_library(root)
     nights = Nights(os.path.join(folder, "state"), root)

@@ -452,7 +452,7 @@ def within_an_object(folder):
         if os.path.exists(folder + "/state/reports/cycle-000001"):
             break
     check("each night names the object", re.findall("(?m)^(?:Object|Elsewhere).*", said),
-          ["Object a/o:"] * len(names))
+          ["Object a/o, 0 of 1 file right of those read tonight:"] * len(names))
 
 
 PARTS = [one_session, no_room, by_cron, closed_output, limits, by_hand, once, of_this_night,

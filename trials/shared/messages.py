@@ -13,7 +13,8 @@ QUIET = re.compile(
     r"(?:(?:Nothing new, nothing gone since cycle \d+|Nothing to compare with)\.\n)?")
 # How many files of an object are right, in whatever words.
 RIGHT = r"(?:, \d+ of \d+ [^,:/]*)?"
-OBJECT = re.compile(r"Object (.*?)" + RIGHT + ":")
+# The line before the findings of an object: its path, and how many of its files are right.
+OBJECT = re.compile(r"Object (.*?)(?:, (\d+) of (\d+) files? right(?: of those read tonight)?)?:")
 # A finding: its path, unless it is the object's own, its words, its code and its detail.
 FINDING = re.compile(r"\t(?:(.*): )?([^:\t]+) \(([ES]\d+)\)(.*)")
 # An object in one line: its path, its first finding, and how many more it has, of any code. So are

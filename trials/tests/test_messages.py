@@ -11,7 +11,7 @@ from shared import messages
 
 FIRST = """In part 1:
 2 findings tonight in /srv/ocfl, cycle 1, run 1:
-Object o:
+Object o, 0 of 1 file right:
 \tv1/content/a: bytes have changed (E092); expected x, found y
 \tTo do: look
 Elsewhere, E073:
@@ -19,7 +19,7 @@ Elsewhere, E073:
 """
 SECOND = """In part 2:
 7 findings tonight in /srv/ocfl, cycle 1, runs 1 to 2:
-Object q/r:
+Object q/r, 12 of 17 files right of those read tonight:
 \tv1/content/a: missing (E092)
 \tv1/content/b: missing (E092)
 \tv1/content/c: missing (E092)
@@ -90,7 +90,7 @@ class Counted(unittest.TestCase):
         brief = ("Object q/r: v1/content/a: missing (E092), and 4 more\n"
                  "Object q: v2/content/a: missing (E092), and 1 more\n"
                  "What to do first about a code: ocfl-scrub codes\n")
-        text = FIRST + SECOND[:SECOND.index("Object q/r:")] + brief
+        text = FIRST + SECOND[:SECOND.index("Object q/r,")] + brief
         self.assertEqual(self.told(text), [])
         for old, new in [("and 4 more", "and 3 more"), (", and 4 more", ""), (", and 1 more", ""),
                          ("and 1 more", "and 2 more"), ("(E092), and 1", "(E072), and 1")]:

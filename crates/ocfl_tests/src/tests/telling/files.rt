@@ -137,6 +137,28 @@ fn files_with_known_findings_are_counted(rt: HostRuntime) -> Result<(), Fail> {
     Ok(())
 }
 
+/// Files that are right count alike whether they come one by one or together.
+#[test]
+fn files_are_counted_together(rt: HostRuntime) -> Result<(), Fail> {
+    let alloc = rt.alloc();
+    let known = Known::new(alloc);
+    for right in [0, 2, u64::MAX] {
+        let mut found = Found::new(alloc, Heads::new());
+        for text in ["ok\to\t-\n", "E092\to/v1/content/a\tmd5 missing\n"] {
+            found.take_line(&known, read_line(alloc, text.as_bytes())?)?;
+        }
+        found.take_right(right);
+        let (gravest, _) = found.end(true)?;
+        let files = FileCounts {
+            right,
+            files: right.saturating_add(1),
+            is_whole: true,
+        };
+        assert_eq!(rt; gravest.bytes.first.as_slice()[0].files, Some(files));
+    }
+    Ok(())
+}
+
 /// Only findings that are to be told are kept, and all files are counted.
 #[test]
 fn gatherings_count_what_is_not_told(rt: HostRuntime) -> Result<(), Fail> {

@@ -126,6 +126,10 @@ pub record IsUnkept (k : Checkpoint) (made : Made) : Type 0 where
 abbrev pub IsNextBy : Checkpoint → RunEnd → Checkpoint → Type 0
 IsNextBy k ran next = (report : ReportMark) × IsNext k ran report next
 
--- what a slice made is what a run within these limits did, or nothing is kept of it
+-- what a slice made is what a run within these limits did
+abbrev pub IsRunKept : Checkpoint → Limits → Made → Type 0
+IsRunKept k limits made = (ran : RunEnd) × (KeepsTo k.cursor limits ran × IsMadeBy ran made × IsNextBy k ran made.checkpoint)
+
+-- or nothing is kept of it
 abbrev pub IsSlice : Checkpoint → Limits → Made → Type 0
-IsSlice k limits made = IsUnkept k made ⊎ ((ran : RunEnd) × (KeepsTo k.cursor limits ran × IsMadeBy ran made × IsNextBy k ran made.checkpoint))
+IsSlice k limits made = IsUnkept k made ⊎ IsRunKept k limits made

@@ -15,7 +15,11 @@ ghost use Rattle.ocfl_night.specs.{Beginning.{position}, Clock.{BeginsInTime, Ev
 ghost use Rattle.ocfl_night.specs.declared.plan.{NightEnd.{NightEnd as ModelEnd}, Plan.{Plan as ModelPlan}};
 ghost use Rattle.ocfl_night.specs.{Looks.{Counts, Rounds, look_between, of_any}};
 ghost use Rattle.ocfl_night.specs.Again.{IsLeg, IsLittleAgain, Leg, took_by};
-ghost use Rattle.ocfl_night.specs.Ending.{cycle_of};
+ghost use Rattle.ocfl_cursor.specs.declared.limits.Limits.{Limits as ModelLimits};
+ghost use Rattle.ocfl_item.specs.declared.fault.Fault.{Fault as ModelFault};
+ghost use Rattle.ocfl_night.specs.Ending.{IsRunKept, IsSlice, cycle_of};
+ghost use Rattle.ocfl_night.specs.declared.slicing.Made.{Made as ModelMade};
+ghost use Rattle.ocfl_night.specs.declared.slicing.SliceEnd.TheVariants as slice;
 ghost use Rattle.ocfl_night.specs.Reading.{AreOfOneCycle, EndsInOrder, Reading, ReadsBeyond, content_since};
 ghost use Rattle.ocfl_night.specs.declared.plan.Halt.TheVariants as halt;
 ghost use Rattle.ocfl_night.specs.{Site.{part_at}, Sound.{IsAt, IsSound}};
@@ -106,6 +110,18 @@ pub fn runs_begin_before_the_end()
     ensures { (plan : ModelPlan) (tells : Bool) (c d : Content) (old new : List Event)
         (end : ModelEnd) → IsNight plan tells c d old new end
         → BeginsInTime plan.end old new end.runs }
+{}
+
+/// A slice keeps what its run did if that ended the cycle, was ended by its limits, or stopped:
+/// nothing is dropped unless the root was gone, another one, or could not be looked at after it.
+pub fn a_slice_keeps_its_run()
+    ensures ended { (k : Checkpoint) (limits : ModelLimits) (made : ModelMade)
+        → IsSlice k limits made → made.end ≡ slice.Ended → IsRunKept k limits made }
+    ensures spent { (k : Checkpoint) (limits : ModelLimits) (made : ModelMade)
+        → IsSlice k limits made → made.end ≡ slice.Spent → IsRunKept k limits made }
+    ensures stopped { (k : Checkpoint) (limits : ModelLimits) (made : ModelMade)
+        (why : ModelFault) → IsSlice k limits made → made.end ≡ slice.Stopped why
+        → IsRunKept k limits made }
 {}
 
 /// A night begins just where the last run of the one before it led, or if that one ended its cycle,

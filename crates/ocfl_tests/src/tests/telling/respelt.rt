@@ -15,7 +15,7 @@ ok\tp\t-\nE092\tp/v1/content/%E1%B9%A9\tmd5 missing\n\
 E023\tp/v1/content/s%CC%87%CC%A3\t-\nE023\tp/v1/content/s%CC%A3%CC%87\t-\n";
 
 const ONE_LINE: &str = "10 findings tonight in /srv, cycle 2, run 4:
-Object o:
+Object o, 0 of 7 files right:
 \tv1/content/a\u{fc}: bytes have changed (E092), expected sha512 00, found 11
 \tv1/content/Mu: not in the inventory (E023)
 \tv1/content/au\u{308}: not in the inventory (E023)
@@ -23,7 +23,7 @@ Object o:
 \tv1/content/M\u{fc}: here under another spelling of its name (E092, E023)
 \tTo do: restore the file from a copy with the expected digest
 \tTo look again: ocfl-scrub check '/srv' 'o/v1/content/Bu%CC%88r%25'
-Object p:
+Object p, 0 of 3 files right:
 \tv1/content/s\u{323}\u{307}: not in the inventory (E023)
 \tv1/content/\u{1e69}: here under another spelling of its name (E092, E023)
 \tTo do: see whether a version is being written; if not, find out whose it is and move it away
@@ -62,7 +62,7 @@ fn copied(alloc: Global, count: usize) -> Result<String, Fail> {
 }
 
 const COPIED: &str = "100 findings tonight in /srv, cycle 2, run 4:
-Object o:
+Object o, 0 of 100 files right:
 \tv1/content/000\u{e9}: here under another spelling of its name (E092, E023)
 \tv1/content/001\u{e9}: here under another spelling of its name (E092, E023)
 \tv1/content/002\u{e9}: here under another spelling of its name (E092, E023)

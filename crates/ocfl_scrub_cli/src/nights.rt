@@ -160,7 +160,7 @@ where
     } = beside;
     let began = planned.given.began;
     let mut clock = Hearing {
-        clock: Budgeted::of(planned.given.asked, clock),
+        clock,
         listener: RunLog { journal, began },
     };
     let mut out = Telling::over(Words { speaker }, out);
@@ -198,7 +198,7 @@ where
         noting,
         beside,
         &mut tree,
-        System { stop },
+        Budgeted::of(given.asked, System { stop }),
         &mut block,
         output_on(rt, shown_on),
         shown_on.error,

@@ -38,6 +38,7 @@ ENDS = list(zip(["start", *SEPARATORS], [*SEPARATORS, "end"]))
 REPORTS = ["ok\t.\t-\nok\ta\t-\n", "ok\tb\t-\nE072\tc\t-\n", "ok\td\t-\n"]
 NOTHING = "0" * 64
 # The word on a joined report that is incomplete.
+WORD = "Cycle 1 ended: 0 of 0 files right, 3 objects, 0 bytes, 3 runs.\n"
 INCOMPLETE = re.compile(r"(?m)^Cycle \d+ ended, but its report is incomplete: .*\nIn it: .*\n")
 TEXT = """ocfl-scrub checkpoint 1
 root %(root)s
@@ -113,8 +114,8 @@ class Parts:
 def whole(folder: str) -> None:
     """The joined report has the lines of all parts in their order, and is made once."""
     parts = Parts(folder)
-    check("the word on it", ran(["join", "--parts", parts.file, "--state", parts.folder]), (
-        0, "Cycle 1 ended: 0 of 0 files right, 3 objects, 0 bytes, 3 runs.\n", ""))
+    check("the word on it", ran(["join", "--parts", parts.file, "--state", parts.folder]),
+          (0, WORD, ""))
     before = common.snapshot(parts.folder + "/reports")
     check("once more", parts.joined(), (0, "".join(REPORTS), ""))
     check("it is made once", common.snapshot(parts.folder + "/reports"), before)
@@ -174,7 +175,7 @@ def at_once(folder: str) -> None:
     status, report, text = parts.joined()
     check("the other", (status, report, "nothing was joined" in text), (75, None, True))
     check("the first", (common.end(first), parts.joined()),
-          ((0, "", ""), (0, "".join(REPORTS), "")))
+          ((0, WORD, ""), (0, "".join(REPORTS), "")))
     common.write(beside, b"left by a call that was killed\n")
     os.remove(parts.folder + "/reports/cycle-000001")
     check("what a killed call left", parts.joined(), (0, "".join(REPORTS), ""))

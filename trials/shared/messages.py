@@ -10,7 +10,9 @@ TOP = os.path.dirname(os.path.dirname(os.path.dirname(os.path.realpath(__file__)
 QUIET = re.compile(
     r"(?m)^Cycle \d+ ended: \d+ of \d+ files? right, \d+ objects?, [0-9.]+ (?:bytes?|[kMGT]B)"
     r"(?:, \d+ runs?)?\.\n"
-    r"(?:(?:Nothing new, nothing gone since cycle \d+|Nothing to compare with)\.\n)?")
+    r"(?:(?:Nothing new, nothing gone since cycle \d+|Nothing to compare with)\.\n"
+    # Nothing is compared for a joined report.
+    r"|(?!Nothing |\d+ new findings?, |What is new ))")
 # How many files of an object are right, in whatever words.
 RIGHT = r"(?:, \d+ of \d+ [^,:/]*)?"
 # The line before the findings of an object: its path, and how many of its files are right.

@@ -62,16 +62,6 @@ def is_right(path, key, algorithm):
         return common.digest(file.read(), algorithm) == key.lower()
 
 
-def files_in(it):
-    """The paths of all files in the content folders of an object, below it."""
-    found = set()
-    for top, _, names in os.walk(it.folder):
-        within = os.path.relpath(top, it.folder).split(os.sep)
-        if within[1:2] == [it.content]:
-            found.update("/".join([*within, name]) for name in names)
-    return found
-
-
 def counted(it):
     """How many files of an object are right, and how many there are, as its inventory and its
     folder say; nothing of one whose inventory cannot be read, or which is none."""
@@ -87,7 +77,7 @@ def counted(it):
     named = {path for paths in made["manifest"].values() for path in paths}
     wrong = {path for algorithm, block in blocks for key, paths in block.items() for path in paths
              if not is_right(os.path.join(it.folder, path), key, algorithm)}
-    return len(named - wrong), len(named | files_in(it))
+    return len(named - wrong), len(named | it.files_there())
 
 
 def said_of(it, message):

@@ -1,32 +1,40 @@
 """A storage root as tools of the field write it: hashed paths, several versions with an inventory
 each, files that versions share, fixity blocks, content directories of another name, names that are
 not ASCII; and damages to its objects, one each, with how a message names them."""
-import hashlib
+import itertools
 import json
 import os
 import shutil
-from typing import Callable, NamedTuple, Optional
+from typing import Callable, Iterable, Mapping, NamedTuple, Optional
 
 from common import digest, write
+from shared import layouts, validity
 
 NAMES = ["Brief an Müller.pdf", "日本語/資料.txt", "a;b$(c).txt", "#hash&amp;.txt", "100% fertig.txt",
          "audio/interview 3.wav", "plain.xml"]
 
 
 class Object(NamedTuple):
-    """An object: its place in the root, its folder, and the versions' files by logical path."""
+    """An object: its place in the root, its folder, and the versions' files by logical path; its
+    id, its edition of OCFL, the algorithms of its fixity block, how its sidecars are written, and
+    where below the content directory a logical path is stored."""
     place: str
     folder: str
     algorithm: str
     content: str
     versions: list[dict[str, bytes]]
+    id: str
+    edition: str = "1.1"
+    fixity: tuple[str, ...] = ("md5",)
+    sidecar: str = "%s  inventory.json\n"
+    stored: Callable[[str], str] = str
 
     def manifest(self, count: int) -> dict[str, list[str]]:
         """The content paths of the first versions, by digest: what a version shares is there once."""
         found: dict[str, list[str]] = {}
         for number, files in enumerate(self.versions[:count], 1):
             for path, data in files.items():
-                place = "v%d/%s/%s" % (number, self.content, path)
+                place = "v%d/%s/%s" % (number, self.content, self.stored(path))
                 found.setdefault(digest(data, self.algorithm), [place])
         return found
 
@@ -52,24 +60,57 @@ class Object(NamedTuple):
                                      "state": {digest(data, self.algorithm): [path]
                                                for path, data in files.items()}}
                     for number, files in enumerate(self.versions[:count], 1)}
-        made = {"id": "urn:example:" + self.place, "type": "https://ocfl.io/1.1/spec/#inventory",
+        fixity = {algorithm: {validity.digest(algorithm, data): [path]
+                              for path, data in whole.items()} for algorithm in self.fixity}
+        made = {"id": self.id, "type": "https://ocfl.io/%s/spec/#inventory" % self.edition,
                 "digestAlgorithm": self.algorithm, "head": "v%d" % count, "manifest": manifest,
-                "versions": versions, "contentDirectory": self.content,
-                "fixity": {"md5": {hashlib.md5(data).hexdigest(): [path]
-                                   for path, data in whole.items()}}}
+                "versions": versions, "contentDirectory": self.content, "fixity": fixity}
         return json.dumps(made, indent=2 if count % 2 else None).encode()
 
+    def files_there(self) -> set[str]:
+        """The paths of all files in the content folders, below the object, whoever names them."""
+        found = set()
+        for top, _, names in os.walk(self.folder):
+            within = os.path.relpath(top, self.folder).split(os.sep)
+            if within[1:2] == [self.content]:
+                found.update("/".join([*within, name]) for name in names)
+        return found
 
-def seal(folder: str, inventory: bytes, algorithm: str) -> None:
-    write(os.path.join(folder, "inventory.json"), inventory)
-    write(os.path.join(folder, "inventory.json." + algorithm),
-          ("%s  inventory.json\n" % digest(inventory, algorithm)).encode())
+    def seal(self, folder: str, inventory: bytes) -> None:
+        """Writes an inventory with its sidecar: the object's, a version's or a mutable head's."""
+        write(os.path.join(folder, "inventory.json"), inventory)
+        write(os.path.join(folder, "inventory.json." + self.algorithm),
+              (self.sidecar % digest(inventory, self.algorithm)).encode())
+
+    def make(self) -> "Object":
+        """Writes all of the object."""
+        for path, data in self.bytes_of().items():
+            write(os.path.join(self.folder, path), data)
+        for count in range(1, len(self.versions) + 1):
+            self.seal(os.path.join(self.folder, "v%d" % count), self.inventory(count))
+        self.seal(self.folder, self.inventory(len(self.versions)))
+        write(os.path.join(self.folder, "0=ocfl_object_" + self.edition),
+              ("ocfl_object_%s\n" % self.edition).encode())
+        return self
 
 
-def hashed(number: int) -> str:
-    """A place as the hashed n-tuple layout has it."""
-    name = hashlib.sha256(b"urn:example:%d" % number).hexdigest()
-    return "/".join([name[:3], name[3:6], name[6:9], name])
+def cumulated(added: Iterable[dict[str, bytes]]) -> list[dict[str, bytes]]:
+    """Versions that keep the files of those before them, by what each adds or changes."""
+    return list(itertools.accumulate(added, lambda before, files: {**before, **files}))
+
+
+def declare(root: str, edition: str, layout: str, settings: Mapping[str, object]) -> None:
+    """Writes the storage root's declaration, its layout, and the layout's extension."""
+    write(os.path.join(root, "0=ocfl_" + edition), ("ocfl_%s\n" % edition).encode())
+    said = {"extension": layout, "description": "See the extension " + layout}
+    write(os.path.join(root, "ocfl_layout.json"), json.dumps(said, indent=2).encode())
+    extend(root, layout, settings)
+
+
+def extend(folder: str, extension: str, settings: Mapping[str, object]) -> None:
+    """Writes what a storage root or an object says of an extension."""
+    made = json.dumps({"extensionName": extension, **settings}, indent=2)
+    write(os.path.join(folder, "extensions", extension, "config.json"), made.encode())
 
 
 def make_object(root: str, number: int) -> Object:
@@ -78,22 +119,15 @@ def make_object(root: str, number: int) -> Object:
     versions = [{"first.txt": first,
                  **{NAMES[(number + it) % len(NAMES)]: b"%d in v%d\n" % (number, it + 1) * 30}}
                 for it in range(1 + number % 4)]
-    made = Object(hashed(number), os.path.join(root, hashed(number)),
-                  "sha256" if number % 5 == 0 else "sha512",
-                  "data" if number % 7 == 0 else "content", versions)
-    for path, data in made.bytes_of().items():
-        write(os.path.join(made.folder, path), data)
-    for count in range(1, len(versions) + 1):
-        seal(os.path.join(made.folder, "v%d" % count), made.inventory(count), made.algorithm)
-    seal(made.folder, made.inventory(len(versions)), made.algorithm)
-    edition = "1.0" if number % 3 == 0 else "1.1"
-    write(os.path.join(made.folder, "0=ocfl_object_" + edition),
-          ("ocfl_object_%s\n" % edition).encode())
-    return made
+    name = "urn:example:%d" % number
+    place = layouts.hashed(name)
+    return Object(place, os.path.join(root, place), "sha256" if number % 5 == 0 else "sha512",
+                  "data" if number % 7 == 0 else "content", versions, name,
+                  "1.0" if number % 3 == 0 else "1.1").make()
 
 
 def make_library(root: str, count: int = 160) -> list[Object]:
-    write(os.path.join(root, "0=ocfl_1.1"), b"ocfl_1.1\n")
+    declare(root, "1.1", layouts.HASHED, {**layouts.TUPLES, "shortObjectRoot": False})
     return [make_object(root, number) for number in range(count)]
 
 
@@ -181,14 +215,14 @@ def wrong_fixity(it: Object) -> str:
     made = json.loads(it.inventory(len(it.versions)))
     path = it.paths()[0]
     made["fixity"]["md5"] = {"0" * 32: [path]}
-    seal(it.folder, json.dumps(made).encode(), it.algorithm)
+    it.seal(it.folder, json.dumps(made).encode())
     return path
 
 
 def put_back(it: Object) -> str:
     """The inventory of the version before, whose newest version had content."""
     count = len(it.versions) - 1
-    seal(it.folder, it.inventory(count), it.algorithm)
+    it.seal(it.folder, it.inventory(count))
     return next(path for path in it.paths() if path.startswith("v%d/" % (count + 1)))
 
 
@@ -219,7 +253,7 @@ def forge(it: Object) -> None:
     files = [{**files, "first.txt": b"forged\n"} for files in it.versions]
     forged = it._replace(versions=files)
     write(it.file(0), b"forged\n")
-    seal(it.folder, forged.inventory(len(files)), it.algorithm)
+    it.seal(it.folder, forged.inventory(len(files)))
 
 
 # Each for an object of its own: of how many versions at least, and which.

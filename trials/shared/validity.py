@@ -24,8 +24,9 @@ def read(*path):
 
 
 def digest(algorithm, data):
-    name = {"blake2b-512": "blake2b", "sha512/256": "sha512_256"}.get(algorithm, algorithm)
-    return hashlib.new(name, data).hexdigest()
+    if algorithm.startswith("blake2b-"):
+        return hashlib.blake2b(data, digest_size=int(algorithm[8:]) // 8).hexdigest()
+    return hashlib.new({"sha512/256": "sha512_256"}.get(algorithm, algorithm), data).hexdigest()
 
 
 def folded(digests):

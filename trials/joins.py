@@ -37,7 +37,7 @@ SEPARATORS = ["b", "d"]
 ENDS = list(zip(["start", *SEPARATORS], [*SEPARATORS, "end"]))
 REPORTS = ["ok\t.\t-\nok\ta\t-\n", "ok\tb\t-\nE072\tc\t-\n", "ok\td\t-\n"]
 NOTHING = "0" * 64
-# The word on a joined report that is incomplete.
+# The word on a joined report, and that on one that is incomplete.
 WORD = "Cycle 1 ended: 0 of 0 files right, 3 objects, 0 bytes, 3 runs.\n"
 INCOMPLETE = re.compile(r"(?m)^Cycle \d+ ended, but its report is incomplete: .*\nIn it: .*\n")
 TEXT = """ocfl-scrub checkpoint 1

@@ -41,6 +41,7 @@ from typing import Any
 
 import common
 from common import Stopped, check, ran, traced
+from shared.messages import without_end
 from shared.nights import tried_apart
 from shared.own_nights import SLICE, Audited, Exchanged, Got, Nights, at_once, make_root, moments_of
 from shared.spaces import can_mount
@@ -81,7 +82,9 @@ class Parts:
         return said
 
     def joined(self) -> Got:
-        return ran(["join", "--parts", self.file, "--state", self.folder])
+        """What a joining comes to, without the word on a whole report."""
+        status, out, note = ran(["join", "--parts", self.file, "--state", self.folder])
+        return status, without_end(out), note
 
     def report(self, cycle: int = 1) -> Any:
         return Nights(self.folder, self.root).whole(cycle)

@@ -48,7 +48,7 @@ import time
 
 import common
 from common import PROGRAM, check
-from shared.messages import findings_in, key, miscounted, nights_in
+from shared.messages import findings_in, key, miscounted, nights_in, without_end
 from shared.nights import NIGHTS, REPORTS, in_an_hour, ran, read, tried_apart, write
 from shared.parallel import (Place, Together, audit, begun, findings, check_statement, make_root,
                              small_root, lines_in_message)
@@ -371,7 +371,7 @@ if [ "$1" = join ] && [ ! -e "$0.second" ]; then : > "$0.second"; echo held >&2;
 exec "%s" "$@"
 ''' % PROGRAM, 0o755)
     status, out, said = nights.by_hand("end", OCFL_SCRUB=folder + "/program")
-    check("it waits", (status, out, said), (0, "", ""))
+    check("it waits", (status, without_end(out), said), (0, "", ""))
     nights.is_audit("joined")
 
 

@@ -123,9 +123,15 @@ def call_join(state: str) -> tuple[int, str, str]:
 
 
 class Joined(NamedTuple):
-    """What is said of cycles that were to be joined, and the status of that."""
+    """What keeps cycles from being joined, or whole, the status of that, and the program's words on
+    those that it joined."""
     text: str = ""
     status: int = 0
+    word: str = ""
+
+    def whole(self) -> str:
+        """All that is said of them."""
+        return "\n".join(filter(None, [self.word, self.text]))
 
 
 def join(state: str, cycle: int) -> Joined:
@@ -147,7 +153,7 @@ def join(state: str, cycle: int) -> Joined:
             ", ".join(map(str, failed)), trouble)]
     bad += [*lacking, parts.other_roots(cycle) if cycle in cycles else ""]
     is_bad = any(bad) or alike == cycles and status > 1
-    return Joined("\n".join(filter(None, [word, *bad])), 3 if is_bad else min(status, 1))
+    return Joined("\n".join(filter(None, bad)), 3 if is_bad else min(status, 1), word)
 
 
 def make_room(state: str) -> None:

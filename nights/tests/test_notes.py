@@ -283,14 +283,14 @@ class Joined(State):
         word = "Cycle 1 ended: 9 of 9 files right."
         for number in (1, 2):
             self.close(number, 1)
-        self.assertEqual(self.joined(1, word=word), (word, 0))
+        self.assertEqual(self.joined(1, word=word), ("", 0, word))
         for number in (1, 2):
             self.close(number, 2)
-        self.assertEqual(self.joined(2, [1], word), (word, 1))
+        self.assertEqual(self.joined(2, [1], word), ("", 1, word))
         self.close(1, 3)
         self.close(2, 3, is_whole=False)
         made = self.joined(3, [0], word)
-        self.assertEqual((made.text.startswith(word + "\nThe joined report of cycle 3 is incom"),
+        self.assertEqual((made.whole().startswith(word + "\nThe joined report of cycle 3 is incom"),
                           made.status), (True, 3))
 
     def test_what_was_said_of_all_parts_has_a_status(self):

@@ -322,7 +322,9 @@ def joined_after(audited: Audited, parts: Parts, number: int, rule: list[str]) -
     words = ["join", "--parts", parts.file, "--state", own.state]
     status, _, note = common.traced(rule, words)
     is_well = status in (0, -signal.SIGKILL) or status == 3 and note != ""
-    found = is_well, own.whole(1) in (None, audited.report), ran(words), own.whole(1), own.reports()
+    is_made = own.whole(1) in (None, audited.report)
+    status, out, note = ran(words)
+    found = is_well, is_made, (status, without_end(out), note), own.whole(1), own.reports()
     own.again()
     return found
 

@@ -193,4 +193,5 @@ def check_all(folder):
     tried_apart([hostile, history, nothing_yet, several], folder)
 
 
-common.run_trial(check_all, needs=["chromium", "pdftotext"])
+# A browser is large, and most machines of a gate have none.
+common.run_trial(check_all, wants=["chromium", "pdftotext"])

@@ -16,7 +16,7 @@ import tempfile
 import time
 import traceback
 
-from shared.packages import why_not
+from shared.packages import has, why_not
 
 TOP = os.path.dirname(os.path.dirname(os.path.abspath(__file__)))
 LIMIT = 60
@@ -62,13 +62,19 @@ def shown(value):
     return text if len(text) < 1500 else text[:700] + " .. " + text[-700:]
 
 
-def run_trial(check_all, needs=()):
+def run_trial(check_all, needs=(), wants=()):
     """Calls `check_all` with a new folder, and ends with the names of the checks that failed and, as
     last line, the count.
 
     Where a tool that it needs is missing and cannot be installed, the trial is skipped and named;
-    under CI (`CI=true`) that is a failure."""
+    under CI (`CI=true`) that is a failure. A tool that it wants is not installed, and the trial is
+    skipped without it everywhere."""
     name = os.path.basename(sys.argv[0])
+    absent = [tool for tool in wants if not has(tool)]
+    if absent:
+        print("skipped: %s: not there: %s" % (name, ", ".join(absent)))
+        print("0 passed, 0 failed")
+        sys.exit(0)
     lacking = why_not(needs)
     if lacking and os.environ.get("CI", "") in ("", "0", "false"):
         print("skipped: %s: %s" % (name, lacking))

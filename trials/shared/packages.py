@@ -4,8 +4,7 @@ import shutil
 import subprocess
 
 # Debian's packages, by the tool that is looked for.
-PACKAGES = {"strace": ["strace"], "parallel": ["parallel"], "slurmctld": ["slurm-wlm", "munge"],
-            "chromium": ["chromium", "fonts-dejavu-core"], "pdftotext": ["poppler-utils"]}
+PACKAGES = {"strace": ["strace"], "parallel": ["parallel"], "slurmctld": ["slurm-wlm", "munge"]}
 WAIT = ["-o", "DPkg::Lock::Timeout=300"]
 
 

@@ -120,7 +120,7 @@ fn nights_say_how_many_files_are_right(rt: HostRuntime) -> Result<(), Fail> {
     Ok(())
 }
 
-/// A finding that is known is not said, and its file is none that is right.
+/// A finding that is known is not said, and its file does not count as right.
 #[test]
 fn files_with_known_findings_are_counted(rt: HostRuntime) -> Result<(), Fail> {
     let alloc = rt.alloc();

@@ -14,7 +14,7 @@ PAGE, TITLE, CRATE, FUNCTION = "docs/RULES.md", "Nights", "ocfl_night", "night"
 PROVED = "docs/NIGHTS.md"
 # A file of definitions with names of them: `Steps`: `IsLost`, `IsChanged`.
 FILES = re.compile(r"`([A-Z]\w*)`: ((?:`\w+`(?:, )?)+)")
-# Names of a file that is named after them: `night_text` in `Night` of `ocfl_telling`.
+# Names of a file that is named after them: `night_text` in `Night` of `ocfl_messages`.
 OTHERS = re.compile(r"((?:`\w+`(?:, )?)+) in `([A-Z]\w*)` of `(ocfl_\w+)`")
 # Clauses, after the function whose they are, if that is another one: `leave_out`, clause `named`.
 CLAUSES = re.compile(r"(?:`(\w+)`, )?\bclauses? ((?:`\w+`(?:, )?)+)")

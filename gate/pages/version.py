@@ -10,7 +10,7 @@ FILE = os.path.join(TOP, "VERSION")
 NUMBER = r"\d+\.\d+\.\d+"
 # The files that name the version, each with what comes before it there.
 PLACES = {
-    "crates/ocfl_line/src/command.rt": r'const VERSION: &str = "',
+    "crates/ocfl_arguments/src/command.rt": r'const VERSION: &str = "',
     "crates/ocfl_tests/src/tests/line.rt": r'"ocfl-scrub ',
     "nights/man/ocfl-scrub.1": r"ocfl\\-scrub ",
     "nights/man/ocfl-scrub-reports.1": r"ocfl\\-scrub ",

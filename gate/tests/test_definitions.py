@@ -109,7 +109,7 @@ class Definitions(unittest.TestCase):
                               "ocfl_night/nights:night"], "usage")
         files = [line.partition(":")[0] for line in told.getvalue().splitlines()]
         self.assertIn("ocfl_night, Sound", files)
-        self.assertNotIn("ocfl_audit, Lines", files)
+        self.assertNotIn("ocfl_rules, Lines", files)
 
 
 class Contracts(unittest.TestCase):
@@ -117,7 +117,7 @@ class Contracts(unittest.TestCase):
         cycle, nights, others = lists.to_read(
             [("ocfl_scrub", "cycling", "cycle"), ("ocfl_night", "nights", "night"),
              ("ocfl_clock", "next", "next_time")])
-        self.assertIn("ocfl_audit Runs", cycle)
+        self.assertIn("ocfl_rules Runs", cycle)
         self.assertIn("ocfl_night Sound", nights - cycle)
         self.assertEqual(others, {"ocfl_clock Clock"})
 

@@ -95,7 +95,7 @@ class Tried(unittest.TestCase):
     def test_definition_is_the_first_that_changes(self):
         """A use above all definitions is none."""
         changes = ("use Rattle.std", ""), ("joined cuts =", ""), ("pub record IsCut", "")
-        edits = [Edit("ocfl_audit", "specs/Runs/a%d" % first, "It is.", tuple(
+        edits = [Edit("ocfl_rules", "specs/Runs/a%d" % first, "It is.", tuple(
             Change("specs/Runs.antt", *it) for it in changes[first:])) for first in range(3)]
         self.assertEqual(tried.by_definition([*edits, FIRST]), {
             ("specs/Runs.antt", "joined"): edits[:2], ("specs/Runs.antt", "IsCut"): edits[2:]})

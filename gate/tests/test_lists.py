@@ -11,17 +11,17 @@ class Lists(unittest.TestCase):
         self.assertEqual(lists.CITED.findall(text), ["read_line", "put_all", "IsAudit"])
 
     def test_files_of_a_crate(self) -> None:
-        row = "| Parts | `ocfl_audit`: `Parts`, `Zone`; `ocfl_scope`: `Numbered` |"
+        row = "| Parts | `ocfl_rules`: `Parts`, `Zone`; `ocfl_scope`: `Numbered` |"
         self.assertEqual([(crate, lists.NAMED.findall(files))
                           for crate, files in lists.FILES.findall(row)],
-                         [("ocfl_audit", ["Parts", "Zone"]), ("ocfl_scope", ["Numbered"])])
+                         [("ocfl_rules", ["Parts", "Zone"]), ("ocfl_scope", ["Numbered"])])
 
     def test_files_of_recipes(self) -> None:
-        line = ("2. `report`: `src/code.rt` (`CODES`), `specs/Text.antt`; `line/src/task.rt`, "
+        line = ("2. `report`: `src/code.rt` (`CODES`), `specs/Text.antt`; `arguments/src/task.rt`, "
                 "`a/b.py`")
         self.assertEqual(lists.sources_in(line), [
             "crates/ocfl_report/src/code.rt", "crates/ocfl_report/specs/Text.antt",
-            "crates/ocfl_line/src/task.rt"])
+            "crates/ocfl_arguments/src/task.rt"])
         self.assertEqual(lists.sources_in("`src/a.rt`, `no/src/a.rt`"), ["crates/ocfl_no/src/a.rt"])
 
 

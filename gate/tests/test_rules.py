@@ -10,7 +10,7 @@ PAGE = """\
 
 Bytes are lost (`Steps`: `IsLost`, `no_such`; clause `lost`). It is named (`leave_out`, clause
 `named`), and said (`Sound`: `told_is`; clauses `said`, `unheard`; `other`, clause `named`).
-Its text is that of `night_text`, `no_text` in `Night` of `ocfl_telling`. By the law
+Its text is that of `night_text`, `no_text` in `Night` of `ocfl_messages`. By the law
 `nights_are_sound`, law `no_law`, and law `what_was_taken_is_not_read_again` of `ocfl_laws`. Laws of
 other crates: laws `nothing_is_read_twice`, `a_cycle_keeps_the_headline` of `ocfl_laws`, `no_other`.
 
@@ -24,7 +24,7 @@ class Rules(unittest.TestCase):
     def test_what_is_cited_and_not_there(self) -> None:
         self.assertEqual(list(rules.lost(rules.section(PAGE))), [
             "Steps of ocfl_night has no definition, and no field, no_such",
-            "Night of ocfl_telling has no definition, and no field, no_text",
+            "Night of ocfl_messages has no definition, and no field, no_text",
             "the contract of night has no clause unheard",
             "the contract of other has no clause named",
             "there is no law no_law of ocfl_night", "there is no law no_other of ocfl_night"])

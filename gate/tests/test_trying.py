@@ -73,7 +73,7 @@ class Rooms(unittest.TestCase):
         self.room = tempfile.TemporaryDirectory()
         self.addCleanup(self.room.cleanup)
         self.made = {}
-        for name in below(["ocfl_digest", "ocfl_parts"]):
+        for name in below(["ocfl_digest", "ocfl_separators"]):
             if name.startswith("ocfl_"):
                 self.made[name] = Crate(name, self.room.name, self.made)
         below_it = types.SimpleNamespace(crates_below=lambda folder: self.made.values())
@@ -118,16 +118,16 @@ class Steps(Rooms):
 
     def test_beside_rt_ci(self):
         """The edits of a crate that is built whole wait for its own proof, and for no other."""
-        steps = self.steps(trying.tasks_beside, "ocfl_digest", "ocfl_parts", whole=self.made)
+        steps = self.steps(trying.tasks_beside, "ocfl_digest", "ocfl_separators", whole=self.made)
         self.assertEqual(steps["ocfl_digest", "base"], [("ocfl_digest", "proof")])
         self.assertEqual(steps["ocfl_digest", "edits"], [("ocfl_digest", "base")])
-        self.assertEqual(steps["ocfl_parts", "base"], [("ocfl_parts", "proof")])
+        self.assertEqual(steps["ocfl_separators", "base"], [("ocfl_separators", "proof")])
         self.assertEqual({kind for _, kind in steps}, {"base", "edits", "end"})
         self.assertIn(("ocfl_digest", "edits"), steps["ocfl_digest", "end"])
 
     def test_beside_rt_ci_over_statements(self):
         """Another crate is proved once more, over the libraries that `rt ci` proved."""
-        steps = self.steps(trying.tasks_beside, "ocfl_digest", whole={"ocfl_parts"})
+        steps = self.steps(trying.tasks_beside, "ocfl_digest", whole={"ocfl_separators"})
         self.assertEqual(steps["ocfl_digest", "seed"], [("ocfl_tree", "proof")])
         self.assertEqual(steps["ocfl_digest", "proof"],
                          [("ocfl_tree", "proof"), ("ocfl_digest", "seed")])

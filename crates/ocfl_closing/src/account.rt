@@ -7,7 +7,7 @@ use ocfl_kept::names::Names;
 use ocfl_reading::finding::Findings;
 use ocfl_reading::rows::Changes;
 use ocfl_report::Line;
-use ocfl_telling::{Closing, Counts, Gone, Shown, closing_text};
+use ocfl_messages::{Closing, Counts, Gone, Shown, closing_text};
 use ocfl_tree::Place;
 use std::alloc::{AllocError, Global};
 

@@ -20,7 +20,7 @@ use ocfl_kept::state_dir::Folder;
 use ocfl_reading::expected::{Listed, read_expected};
 use ocfl_reading::rows::Rows;
 use ocfl_report::{Line, write_all_of};
-use ocfl_telling::{ClosingRow, LogRow, log_line};
+use ocfl_messages::{ClosingRow, LogRow, log_line};
 use ocfl_tree::Place;
 use std::alloc::{AllocError, Global};
 use std::fs::File;

@@ -14,7 +14,7 @@ use ocfl_reading::finding::{Findings, find_lines};
 use ocfl_reading::marking::ReportReader;
 use ocfl_reading::rows::{Changes, Rows};
 use ocfl_report::Line;
-use ocfl_telling::{Known, Shown};
+use ocfl_messages::{Known, Shown};
 use ocfl_tree::Place;
 use std::alloc::{AllocError, Global};
 use std::io;

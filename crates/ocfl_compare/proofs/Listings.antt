@@ -15,7 +15,7 @@ use Rattle.ocfl_tree.proofs.Orders.{place_cmp_total, place_cmp_exact, ascending_
 use Rattle.ocfl_report.specs.Line.{Line}
 use Rattle.ocfl_report.specs.Text.{code_text, place_text, escape, line_text, lines_text, IsLine}
 use Rattle.ocfl_report.proofs.{Bytes.{utf8_bytes}, LineTexts.{first_lines, lines_text_determines}}
-use Rattle.ocfl_parts.specs.Splits.{HasText, AreInOrder, AreLines, IsBadReportLine}
+use Rattle.ocfl_separators.specs.Splits.{HasText, AreInOrder, AreLines, IsBadReportLine}
 use Rattle.ocfl_compare.proofs.Reports.{not_greater}
 use Rattle.ocfl_codes.specs.Kinds.{is_empty, tells_object}
 use Rattle.ocfl_compare.specs.Changes.{lines_at, places_of, is_left, when, placed, said_at, answers}

@@ -8,9 +8,9 @@ use Rattle.ocfl_tree.specs.Place.{Text, Place, place_cmp}
 use Rattle.ocfl_tree.proofs.Orders.{place_cmp_total, true_not_false, not_less_itself, below_from_greater}
 use Rattle.ocfl_report.specs.{Line.{Line, line_of}, Text.{lines_text, IsLineText}}
 use Rattle.ocfl_report.specs.declared.line.Line.{Line as MadeLine}
-use Rattle.ocfl_parts.specs.Splits.{HasText, IsNotLess, AreInOrder, AreLines, IsBadReportLine}
+use Rattle.ocfl_separators.specs.Splits.{HasText, IsNotLess, AreInOrder, AreLines, IsBadReportLine}
 use Rattle.ocfl_report.proofs.LineTexts.{line_text_read}
-use Rattle.ocfl_parts.proofs.Reports.{line_is_first, more_read}
+use Rattle.ocfl_separators.proofs.Reports.{line_is_first, more_read}
 use Rattle.ocfl_compare.specs.Internal.Reading.{listed, IsReading, HasRead, GoesOn, last_place, is_after, IsUnfit, IsNextLine, IsOpen, IsNextPlace, ReadStopsRightly}
 use Rattle.ocfl_compare.specs.declared.reading.ReadStop.{ReadStop}
 use Rattle.ocfl_compare.specs.declared.reading.ReadStop.TheVariants.{Line as BadLine, Failed, Memory}

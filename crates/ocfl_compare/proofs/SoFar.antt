@@ -7,8 +7,8 @@ use Rattle.std.specs.declared.cmp.Ordering.TheVariants.{Less}
 use Rattle.ocfl_tree.specs.{Place.{Text, Place, place_cmp}, Ascending.{IsBeforeAll, IsAscending}}
 use Rattle.ocfl_tree.proofs.Orders.{place_cmp_total, not_below_itself}
 use Rattle.ocfl_report.specs.{Line.{Line}, Text.{lines_text}, declared.line.Line.{Line as MadeLine}}
-use Rattle.ocfl_parts.specs.Splits.{HasText, AreLines}
-use Rattle.ocfl_parts.proofs.Reports.{none_read}
+use Rattle.ocfl_separators.specs.Splits.{HasText, AreLines}
+use Rattle.ocfl_separators.proofs.Reports.{none_read}
 use Rattle.ocfl_compare.specs.{Changes.{is_shut, placed, answers}, Compared.{IsReport, IsAnswered}}
 use Rattle.ocfl_compare.specs.declared.change.ChangeAt.{ChangeAt}
 use Rattle.ocfl_compare.specs.CompareStop.{StopsRightly}

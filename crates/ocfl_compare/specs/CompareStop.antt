@@ -1,7 +1,7 @@
 -- What it says of two reports' bytes that they were not compared.
 use Rattle.std.specs.Prelude.{⊤}
 use Rattle.ocfl_tree.specs.Place.{Text}
-use Rattle.ocfl_parts.specs.Splits.{IsBadReportLine}
+use Rattle.ocfl_separators.specs.Splits.{IsBadReportLine}
 use Rattle.ocfl_compare.specs.declared.stop.CompareStop.{CompareStop}
 use Rattle.ocfl_compare.specs.declared.stop.CompareStop.TheVariants.{Before, Now, BeforeFailed, NowFailed, Output, Memory}
 

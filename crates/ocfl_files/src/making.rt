@@ -2,7 +2,7 @@
 
 use crate::failing::Failure;
 use crate::files::sync_name;
-use ocfl_telling::Shown;
+use ocfl_messages::Shown;
 use std::alloc::{AllocError, Global};
 use std::fs::{self, DirBuilder, OpenFile, OpenOptions};
 use std::io;

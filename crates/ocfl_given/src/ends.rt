@@ -4,7 +4,7 @@ use jiff::Error;
 use jiff::tz::{SystemTimeZone, TimeZone, TimeZoneDatabase};
 use ocfl_clock::next_time;
 use ocfl_files::failing::Failure;
-use ocfl_line::Until;
+use ocfl_arguments::Until;
 use std::alloc::AllocError;
 use std::env::{self, VarError};
 use std::io::ErrorKind;

@@ -7,9 +7,9 @@ use Rattle.ocfl_tree.specs.{StorageRoot.{StorageRoot, file_at}, Store.{Store, Di
 use Rattle.ocfl_tree.specs.{declared.store.Opening.{Opening}, Calls.{opening}}
 use Rattle.ocfl_tree.proofs.Orders.{among_left, among_right, among_map}
 use Rattle.ocfl_tree.proofs.Stores.{among_either, did_both, did_nothing, listed_well, listing_failed}
-use Rattle.ocfl_audit.specs.{Zone.{zone}, Lines.{is_hashed}, Due.{hashed_among}}
-use Rattle.ocfl_audit.specs.Trail.{is_meta, content_openings, content_trail, unread_of, heads_of, inventory_of, places_of}
-use Rattle.ocfl_audit.proofs.Trails.{filter_append, none_unread}
+use Rattle.ocfl_rules.specs.{Zone.{zone}, Lines.{is_hashed}, Due.{hashed_among}}
+use Rattle.ocfl_rules.specs.Trail.{is_meta, content_openings, content_trail, unread_of, heads_of, inventory_of, places_of}
+use Rattle.ocfl_rules.proofs.Trails.{filter_append, none_unread}
 use Rattle.ocfl_item.specs.Looking.{IsFront, failed_place, failures_at, failures_by}
 use Rattle.ocfl_item.specs.Auditing.{Audits, Fails, FailedAt, IsMetadataRead, LiesIn, LieIn, in_listing, in_opening}
 use Rattle.ocfl_item.specs.{HeadFiles.{files_there}, declared.fault.Fault.{Fault}}

@@ -14,9 +14,9 @@ use Rattle.ocfl_inventory.specs.declared.declaration.Version.{Version}
 use Rattle.ocfl_inventory.specs.declared.declaration.Version.TheVariants.{V1_0, V1_1}
 use Rattle.ocfl_inventory.specs.declared.declaration.Declared.TheVariants as made
 use Rattle.ocfl_digest.specs.declared.bounded.Bounded.{Bounded}
-use Rattle.ocfl_audit.specs.Zone.{skipped, hierarchy, inside, zone, root_declared, object_declared, is_in_extensions, is_listed_zone, is_known, is_declared}
-use Rattle.ocfl_audit.specs.{Head.{root_notes_by}, Lines.{named_at, named_in, notes}}
-use Rattle.ocfl_audit.specs.Trail.{content_trail, heads_of, inventory_of, is_head, is_meta, places_of}
+use Rattle.ocfl_rules.specs.Zone.{skipped, hierarchy, inside, zone, root_declared, object_declared, is_in_extensions, is_listed_zone, is_known, is_declared}
+use Rattle.ocfl_rules.specs.{Head.{root_notes_by}, Lines.{named_at, named_in, notes}}
+use Rattle.ocfl_rules.specs.Trail.{content_trail, heads_of, inventory_of, is_head, is_meta, places_of}
 use Rattle.ocfl_item.specs.{Auditing.{LieIn}, HeadFiles.{FilesStop, ReadsFiles, files_there}}
 use Rattle.ocfl_item.specs.Internal.HeadFiles.{IsFileAt, ReadsFile}
 use Rattle.ocfl_item.specs.{Looking.{IsFront, failures_by}, Pending.{IsPending}}
@@ -31,7 +31,7 @@ use Rattle.ocfl_item.proofs.{LinesLaws.{unhashed_at}, LooksZones.{at_root, decla
 use Rattle.ocfl_item.proofs.AuditingLaws.{failed_behind, files_near, front_of_none, near_within, read_behind, few_once, front_all, heads_append}
 use Rattle.ocfl_item.proofs.VisitLaws.{meet_stop, meets_unopened, visit_of_folder, visit_of_item}
 use Rattle.ocfl_tree.proofs.Stores.{did_then, listed_well}
-use Rattle.ocfl_audit.proofs.{BetweenLaws.{root_unread}, Trails.{content_behind}}
+use Rattle.ocfl_rules.proofs.{BetweenLaws.{root_unread}, Trails.{content_behind}}
 
 -- ---- its lines
 

@@ -6,15 +6,15 @@ use Rattle.ocfl_tree.specs.{Place.{Place, Text}, Ascending.{IsAscending, IsAmong
 use Rattle.ocfl_tree.specs.StorageRoot.{StorageRoot, Leaf, file, dir, other, at}
 use Rattle.ocfl_inventory.specs.ListedPath.{is_content_path}
 use Rattle.ocfl_inventory.specs.Table.{Table, Named, named_cmp, named, paths_of}
-use Rattle.ocfl_audit.specs.Zone.{Zone, skipped, hierarchy, inside, zone, seen, table_at, is_entered, beginnings}
-use Rattle.ocfl_audit.specs.Lines.{content_notes, object_notes, notes_in, notes, named_in, named_at, cost_of, cost, is_hashed, file_notes, missing_notes}
+use Rattle.ocfl_rules.specs.Zone.{Zone, skipped, hierarchy, inside, zone, seen, table_at, is_entered, beginnings}
+use Rattle.ocfl_rules.specs.Lines.{content_notes, object_notes, notes_in, notes, named_in, named_at, cost_of, cost, is_hashed, file_notes, missing_notes}
 use Rattle.ocfl_item.specs.Internal.Content.{content_in, content_at, IsSight, is_read, sight_notes}
 use Rattle.ocfl_item.specs.declared.sight.Sight.{Sight}
 use Rattle.ocfl_item.specs.declared.sight.Sight.TheVariants as sight
 use Rattle.ocfl_tree.proofs.Orders.{true_not_false}
-use Rattle.ocfl_audit.proofs.AuditExists.{some_not_none, zone_is, path_among}
-use Rattle.ocfl_audit.proofs.BoundLaws.{table_from_inventory, kept_paths, kept_short}
-use Rattle.ocfl_audit.proofs.PathLaws.{deep_path, notes_at}
+use Rattle.ocfl_rules.proofs.AuditExists.{some_not_none, zone_is, path_among}
+use Rattle.ocfl_rules.proofs.BoundLaws.{table_from_inventory, kept_paths, kept_short}
+use Rattle.ocfl_rules.proofs.PathLaws.{deep_path, notes_at}
 use Rattle.ocfl_item.proofs.{AuditingLaws.{front_of_none}, NamedLaws.{named_ascend}}
 
 pub record IsContent (root : StorageRoot) (p : Place) (ns : List Named) : Type 0 where

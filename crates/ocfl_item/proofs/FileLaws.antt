@@ -11,8 +11,8 @@ use Rattle.ocfl_tree.specs.declared.store.Trouble.{Trouble}
 use Rattle.ocfl_tree.specs.declared.store.Trouble.TheVariants.{Device, Absent, Memory}
 use Rattle.ocfl_digest.specs.Bounded.{ReadsBounded, StopsReading}
 use Rattle.ocfl_digest.specs.declared.bounded.Bounded.{Bounded}
-use Rattle.ocfl_audit.specs.{Zone.{inside, zone}, Lines.{is_hashed}}
-use Rattle.ocfl_audit.specs.Trail.{is_root_meta, is_meta_zone, is_meta, is_object_meta, places_of, content_trail}
+use Rattle.ocfl_rules.specs.{Zone.{inside, zone}, Lines.{is_hashed}}
+use Rattle.ocfl_rules.specs.Trail.{is_root_meta, is_meta_zone, is_meta, is_object_meta, places_of, content_trail}
 use Rattle.ocfl_item.specs.Looking.{IsFront, failures_by}
 use Rattle.ocfl_item.specs.Auditing.{FailedAt, IsMetadataRead, in_opening}
 use Rattle.ocfl_item.specs.Internal.Ways.{fault_by, AreMeta, ReadsMeta, SeekStops, is_file_kind}
@@ -20,7 +20,7 @@ use Rattle.ocfl_item.specs.HeadFiles.{files_there, ReadsFiles, FilesStop}
 use Rattle.ocfl_item.specs.{Internal.HeadFiles.{ReadsFile, ReadsSome}, declared.fault.Fault.{Fault}}
 use Rattle.ocfl_item.specs.declared.fault.Fault.TheVariants as fault
 use Rattle.ocfl_tree.proofs.{Orders.{true_not_false}, Stores.{did_then, did_nothing, listed_well}}
-use Rattle.ocfl_audit.proofs.{AuditExists.{some_not_none}, PathLaws.{hashed_no_meta}}
+use Rattle.ocfl_rules.proofs.{AuditExists.{some_not_none}, PathLaws.{hashed_no_meta}}
 use Rattle.ocfl_item.proofs.AuditingLaws.{failed_behind, front_behind, front_more, read_behind}
 use Rattle.ocfl_item.proofs.{LooksEntries.{file_there, no_file_there}, LooksZones.{inside_on}}
 use Rattle.ocfl_item.proofs.LooksCalls.{store_place, memory_no_store, kind_is_file, kind_is_no_file}

@@ -18,9 +18,9 @@ use Rattle.ocfl_digest.specs.declared.bounded.Bounded.{Bounded}
 use Rattle.ocfl_digest.specs.declared.algorithm.Algorithm.TheVariants.{Sha256, Sha512}
 use Rattle.ocfl_digest.specs.declared.bounded.Bounded.TheVariants as bounded
 use Rattle.ocfl_inventory.specs.declared.declaration.Level.TheVariants as level
-use Rattle.ocfl_audit.specs.Zone.{skipped, hierarchy, inside, zone, root_declared, object_declared, inventory_name, inventory_limit, table_at, is_known}
-use Rattle.ocfl_audit.specs.Head.{on, or_clean, is_exact_declaration, sidecar_name, sidecars_notes, inventory_part, inventory_file_notes, head_notes_by}
-use Rattle.ocfl_audit.specs.{Lines.{notes, notes_in}, Trail.{is_meta, is_object_meta}}
+use Rattle.ocfl_rules.specs.Zone.{skipped, hierarchy, inside, zone, root_declared, object_declared, inventory_name, inventory_limit, table_at, is_known}
+use Rattle.ocfl_rules.specs.Head.{on, or_clean, is_exact_declaration, sidecar_name, sidecars_notes, inventory_part, inventory_file_notes, head_notes_by}
+use Rattle.ocfl_rules.specs.{Lines.{notes, notes_in}, Trail.{is_meta, is_object_meta}}
 use Rattle.ocfl_item.specs.{Internal.Lines.{Adds, HasLines}, Ways.{IsObject}}
 use Rattle.ocfl_item.specs.Internal.Ways.{ReadsTable, IsDeclared, IsHeadOf, IsListedObject}
 use Rattle.ocfl_item.specs.HeadFiles.{OpensJust, ReadsFiles, FilesStop}
@@ -30,7 +30,7 @@ use Rattle.ocfl_item.specs.declared.fault.Fault.TheVariants as fault
 use Rattle.ocfl_item.proofs.HeadTrails.{inventory_alone, inventory_opened}
 use Rattle.ocfl_item.proofs.LinesLaws.{adds_both, has_more}
 use Rattle.ocfl_item.proofs.FileLaws.{file_is_meta, files_then, some_of, some_more, stop_more, stop_then, memory_after, some_is_meta, stop_is_meta}
-use Rattle.ocfl_audit.proofs.PathLaws.{notes_at}
+use Rattle.ocfl_rules.proofs.PathLaws.{notes_at}
 
 -- ---- the table
 

@@ -21,11 +21,11 @@ use Rattle.ocfl_digest.specs.{Bounded.{IsBoundedTo}, Digest.{digest_bytes_of}, D
 use Rattle.ocfl_digest.specs.{Wanted.{wants}, declared.algorithm.Algorithm.{Algorithm}}
 use Rattle.ocfl_digest.specs.declared.bounded.Bounded.{Bounded}
 use Rattle.ocfl_digest.specs.{declared.digests.Digests.{Digests}, declared.wanted.Wanted.{Wanted}}
-use Rattle.ocfl_audit.specs.{Zone.{is_known}, Head.{is_exact_declaration, inventory_part}}
+use Rattle.ocfl_rules.specs.{Zone.{is_known}, Head.{is_exact_declaration, inventory_part}}
 use Rattle.ocfl_inventory.specs.declared.declaration.Declared.TheVariants as made
 use Rattle.ocfl_item.specs.Internal.HeadFiles.{IsFileAt}
 use Rattle.ocfl_item.specs.Internal.HeadLines.{HasDigestFor, declared_notes, named_notes}
-use Rattle.ocfl_audit.proofs.BelowLaws.{text_from_test}
+use Rattle.ocfl_rules.proofs.BelowLaws.{text_from_test}
 use Rattle.ocfl_item.proofs.InventoryLaws.{stopped_notes, stated_has_sidecar}
 
 -- ---- declarations

@@ -14,8 +14,8 @@ use Rattle.ocfl_inventory.specs.declared.declaration.Declared.{Declared as MadeD
 use Rattle.ocfl_inventory.specs.declared.declaration.Version.{Version}
 use Rattle.ocfl_inventory.specs.declared.declaration.Declared.TheVariants as made
 use Rattle.ocfl_inventory.specs.declared.declaration.Level.TheVariants as level
-use Rattle.ocfl_audit.specs.Head.{sidecar_name}
-use Rattle.ocfl_audit.specs.Zone.{inventory_name, inventory_limit, object_declared, is_known}
+use Rattle.ocfl_rules.specs.Head.{sidecar_name}
+use Rattle.ocfl_rules.specs.Zone.{inventory_name, inventory_limit, object_declared, is_known}
 use Rattle.ocfl_item.specs.HeadFiles.{FilesStop, ReadsFiles, files_there}
 use Rattle.ocfl_item.specs.Internal.HeadFiles.{IsFileAt, ReadsFile, head_files, inventory_files, sidecars_for}
 use Rattle.ocfl_item.specs.Internal.Ways.{IsDeclared, IsListedObject}

@@ -9,8 +9,8 @@ use Rattle.ocfl_item.specs.{Looking.{IsFront, failures_by}, Auditing.{FailedAt, 
 use Rattle.ocfl_item.specs.{HeadFiles.{OpensJust, files_there}, Internal.HeadFiles.{head_files}}
 use Rattle.ocfl_item.specs.{Internal.Ways.{IsHeadOf}, Internal.Visiting.{HeadRead}}
 use Rattle.ocfl_item.specs.{declared.fault.Fault.{Fault}, declared.lines.PlaceLines.{PlaceLines}}
-use Rattle.ocfl_audit.specs.{Head.{on}, Trail.{heads_of, places_of, reads_inventory}}
-use Rattle.ocfl_audit.specs.Zone.{inside, object_declared, zone}
+use Rattle.ocfl_rules.specs.{Head.{on}, Trail.{heads_of, places_of, reads_inventory}}
+use Rattle.ocfl_rules.specs.Zone.{inside, object_declared, zone}
 use Rattle.ocfl_item.proofs.AuditingLaws.{files_near, front_of_none}
 use Rattle.ocfl_item.proofs.FileLaws.{some_is_meta, some_of, stop_is_meta}
 use Rattle.ocfl_item.proofs.HeadCalls.{head_files_apart, head_files_meta}

@@ -11,9 +11,9 @@ use Rattle.ocfl_inventory.specs.declared.declaration.Level.TheVariants.{Object}
 use Rattle.ocfl_inventory.specs.declared.declaration.Version.{Version}
 use Rattle.ocfl_inventory.specs.declared.declaration.Version.TheVariants.{V1_0, V1_1}
 use Rattle.ocfl_tree.proofs.Orders.{true_not_false}
-use Rattle.ocfl_audit.specs.Zone.{inside, zone, inventory_name, is_known, inventory_at, inventory_limit, object_declared}
-use Rattle.ocfl_audit.specs.Trail.{places_of, heads_of, inventory_of, is_head, reads_inventory}
-use Rattle.ocfl_audit.specs.Head.{sidecar_name, on}
+use Rattle.ocfl_rules.specs.Zone.{inside, zone, inventory_name, is_known, inventory_at, inventory_limit, object_declared}
+use Rattle.ocfl_rules.specs.Trail.{places_of, heads_of, inventory_of, is_head, reads_inventory}
+use Rattle.ocfl_rules.specs.Head.{sidecar_name, on}
 use Rattle.ocfl_item.specs.{Looking.{IsFront}, Ways.{AreInventories}, HeadFiles.{files_there}}
 use Rattle.ocfl_item.specs.Internal.HeadFiles.{head_files, sidecars_for}
 use Rattle.ocfl_item.proofs.{FileLaws.{there_then}, LooksZones.{inside_on}}

@@ -3,12 +3,12 @@ use Rattle.std.proofs.Common.{arith, ◌≡◌, ◌≢◌, List, [], ◌∷◌, 
 use Rattle.ocfl_tree.specs.{Place.{Place}, StorageRoot.{StorageRoot}}
 use Rattle.ocfl_inventory.specs.Note.{Note}
 use Rattle.ocfl_inventory.specs.Declaration.{Declared, undeclared, known, unknown, several}
-use Rattle.ocfl_audit.specs.Zone.{Zone, skipped, hierarchy, inside, zone, object_declared, is_declared}
-use Rattle.ocfl_audit.specs.{Lines.{notes}, Trail.{is_head}, Head.{or_clean, head_notes_by}}
+use Rattle.ocfl_rules.specs.Zone.{Zone, skipped, hierarchy, inside, zone, object_declared, is_declared}
+use Rattle.ocfl_rules.specs.{Lines.{notes}, Trail.{is_head}, Head.{or_clean, head_notes_by}}
 use Rattle.ocfl_item.specs.Internal.Lines.{HasLines, IsUnhashed}
 use Rattle.ocfl_item.specs.declared.lines.PlaceLines.{PlaceLines}
 use Rattle.ocfl_tree.proofs.Orders.{true_not_false}
-use Rattle.ocfl_audit.proofs.AuditExists.{zone_is, append_nothing}
+use Rattle.ocfl_rules.proofs.AuditExists.{zone_is, append_nothing}
 use Rattle.ocfl_item.proofs.{HeadCalls.{head_notes_are}, LinesLaws.{unhashed_at}}
 use Rattle.ocfl_item.proofs.VisitLaws.{named_short}
 

@@ -14,16 +14,16 @@ use Rattle.ocfl_digest.specs.{declared.digests.Digests.{Digests}, declared.stop.
 use Rattle.ocfl_digest.specs.declared.stop.ReadStop.{ReadStop}
 use Rattle.ocfl_digest.specs.declared.stop.Cause.TheVariants.{Device, Absent, Memory, TooLong}
 use Rattle.ocfl_digest.specs.declared.wanted.Wanted.{Wanted}
-use Rattle.ocfl_audit.specs.{Audit.{given_by}, Due.{items_at, hashed_among}}
-use Rattle.ocfl_audit.specs.Lines.{notes, named_at, is_hashed, cost, file_notes, or_bytes, unnamed_notes, wrong_notes}
-use Rattle.ocfl_audit.specs.Trail.{is_meta, content_openings, content_trail, heads_of, inventory_of, unread_of}
+use Rattle.ocfl_rules.specs.{Audit.{given_by}, Due.{items_at, hashed_among}}
+use Rattle.ocfl_rules.specs.Lines.{notes, named_at, is_hashed, cost, file_notes, or_bytes, unnamed_notes, wrong_notes}
+use Rattle.ocfl_rules.specs.Trail.{is_meta, content_openings, content_trail, heads_of, inventory_of, unread_of}
 use Rattle.ocfl_item.specs.Internal.FileLines.{HasDigests, given_in}
 use Rattle.ocfl_item.specs.{Judging.{HasShortFiles, Judges, JudgeFails}, Pending.{IsPending}}
 use Rattle.ocfl_item.specs.{PlaceLines.{lines_of}, Internal.Lines.{HasLines}}
 use Rattle.ocfl_item.specs.declared.lines.PlaceLines.{PlaceLines}
 use Rattle.ocfl_item.specs.{declared.pending.Pending.{Pending}, Auditing.{Audits, IsMetadataRead, LieIn}}
-use Rattle.ocfl_audit.proofs.{AuditExists.{some_not_none}, BelowLaws.{place_eq-same}}
-use Rattle.ocfl_audit.proofs.PathLaws.{hashed_no_meta, hashed_path}
+use Rattle.ocfl_rules.proofs.{AuditExists.{some_not_none}, BelowLaws.{place_eq-same}}
+use Rattle.ocfl_rules.proofs.PathLaws.{hashed_no_meta, hashed_path}
 use Rattle.ocfl_item.proofs.ContentLaws.{IsHashedFile, hashed_file, unhashed_cost}
 use Rattle.ocfl_item.proofs.{AuditingLaws.{audits_meta, fails_after, near_none}, WantedLaws.{AreWanted}}
 use Rattle.ocfl_tree.proofs.{Orders.{true_not_false}, Reading.{same_some}, Stores.{did_nothing}}

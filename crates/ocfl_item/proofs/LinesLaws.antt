@@ -3,7 +3,7 @@ use Rattle.std.proofs.Common.{◌≡◌, ◌≢◌, List, [], ◌++◌, Bool, fa
 use Rattle.std.proofs.lemmas.List.{append-nil}
 use Rattle.ocfl_tree.specs.{Place.{Place}, StorageRoot.{StorageRoot}}
 use Rattle.ocfl_inventory.specs.{Note.{Note}, Remark.{remark_view}}
-use Rattle.ocfl_audit.specs.{Head.{on}, Lines.{named_at, notes}}
+use Rattle.ocfl_rules.specs.{Head.{on}, Lines.{named_at, notes}}
 use Rattle.ocfl_item.specs.Internal.Lines.{Adds, HasLines, IsUnhashed}
 use Rattle.ocfl_item.specs.declared.lines.PlaceLines.{PlaceLines}
 

@@ -18,13 +18,13 @@ use Rattle.ocfl_item.specs.{declared.folder.Head.{Head}, Looking.{way_to}}
 use Rattle.ocfl_item.specs.Ways.{Stops, is_listable, Enters, IsHead, InHierarchy, IsObject, is_extensions_name, way_below}
 use Rattle.ocfl_item.specs.Internal.Ways.{fault_by, is_file_kind, IsDeclared, head_by}
 use Rattle.ocfl_item.specs.declared.folder.Head.TheVariants as head
-use Rattle.ocfl_audit.specs.Zone.{is_entered, object_declared, seen, beginnings, is_known, is_declared}
-use Rattle.ocfl_audit.specs.Lines.{cost_of, named_at, is_hashed}
+use Rattle.ocfl_rules.specs.Zone.{is_entered, object_declared, seen, beginnings, is_known, is_declared}
+use Rattle.ocfl_rules.specs.Lines.{cost_of, named_at, is_hashed}
 use Rattle.ocfl_item.specs.declared.fault.Fault.TheVariants as fault
 use Rattle.ocfl_tree.proofs.Orders.{true_not_false}
 use Rattle.ocfl_item.proofs.AuditingLaws.{failed_listing}
 use Rattle.ocfl_item.proofs.LooksZones.{listable_dir, declared_object, declared_root, hierarchy_on, object_zone_here, at_root}
-use Rattle.ocfl_audit.proofs.StepLaws.{all_beginnings_step}
+use Rattle.ocfl_rules.proofs.StepLaws.{all_beginnings_step}
 
 -- ---- one call after the other
 

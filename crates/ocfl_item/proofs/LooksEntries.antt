@@ -12,13 +12,13 @@ use Rattle.ocfl_tree.specs.{declared.store.Entry.{Entry}, declared.store.Kind.{K
 use Rattle.ocfl_tree.specs.declared.store.Kind.TheVariants.{File, Dir, Other}
 use Rattle.ocfl_inventory.specs.Declaration.{is_declaration, declared, declared_by}
 use Rattle.ocfl_inventory.specs.{Entries.{is_file, file_names}, declared.declaration.Level.{Level}}
-use Rattle.ocfl_audit.specs.{Zone.{max_listed_depth, files_in}, Lines.{is_empty}}
+use Rattle.ocfl_rules.specs.{Zone.{max_listed_depth, files_in}, Lines.{is_empty}}
 use Rattle.ocfl_item.specs.{Ways.{is_dir_kind, is_listable}, Internal.Ways.{is_file_kind}}
 use Rattle.ocfl_tree.proofs.Orders.{true_not_false, not_below_itself, before_each, ascends_ascending, among_ascending, ascends_filter, among_filter, among_from_filter}
 use Rattle.ocfl_tree.proofs.{Places.{append-child_name}, Trees.{at-append}}
-use Rattle.ocfl_audit.proofs.AuditExists.{some_not_none}
-use Rattle.ocfl_audit.proofs.BelowLaws.{text_cmp_total, text_cmp_exact, text_from_test, text_eq-same, place_eq-same}
-use Rattle.ocfl_audit.proofs.{StepLaws.{length_step}, WayLaws.{entry_named}}
+use Rattle.ocfl_rules.proofs.AuditExists.{some_not_none}
+use Rattle.ocfl_rules.proofs.BelowLaws.{text_cmp_total, text_cmp_exact, text_from_test, text_eq-same, place_eq-same}
+use Rattle.ocfl_rules.proofs.{StepLaws.{length_step}, WayLaws.{entry_named}}
 
 -- ---- the entry of a name
 

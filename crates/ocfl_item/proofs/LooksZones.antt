@@ -9,17 +9,17 @@ use Rattle.ocfl_tree.specs.{Listing.{kind_in, IsOrdinary, IsListing}, declared.s
 use Rattle.ocfl_inventory.specs.{Declaration.{undeclared, declared}, Entries.{file_names}}
 use Rattle.ocfl_inventory.specs.Table.{Table, table_of}
 use Rattle.ocfl_inventory.specs.declared.declaration.Level.TheVariants as level
-use Rattle.ocfl_audit.specs.Zone.{Zone, skipped, hierarchy, inside, object_zone, object_declared, root_declared, is_in_extensions, zone, inventory_name, inventory_limit, table_at, max_listed_depth, is_entered, is_listed_zone, is_listed_in_object, seen, beginnings, files_in, is_known, is_declared}
-use Rattle.ocfl_audit.specs.Walk.{step_zone, is_extensions, is_reached}
+use Rattle.ocfl_rules.specs.Zone.{Zone, skipped, hierarchy, inside, object_zone, object_declared, root_declared, is_in_extensions, zone, inventory_name, inventory_limit, table_at, max_listed_depth, is_entered, is_listed_zone, is_listed_in_object, seen, beginnings, files_in, is_known, is_declared}
+use Rattle.ocfl_rules.specs.Walk.{step_zone, is_extensions, is_reached}
 use Rattle.ocfl_item.specs.Internal.Content.{IsSight}
 use Rattle.ocfl_item.specs.Ways.{is_listable, is_extensions_name, IsAt, InHierarchy, IsObject}
 use Rattle.ocfl_item.specs.Internal.Ways.{IsOpenObject}
 use Rattle.ocfl_item.specs.declared.sight.Sight.TheVariants as sight
 use Rattle.ocfl_tree.proofs.{Bools.{and_first, and_second, and_both}, Orders.{true_not_false}}
 pub use Rattle.ocfl_tree.proofs.Trees.{dir_from_leaf}
-use Rattle.ocfl_audit.proofs.AuditExists.{append_one, append_nothing, object_at}
-use Rattle.ocfl_audit.proofs.StepLaws.{zone_step, reached_step, seen_step}
-use Rattle.ocfl_audit.proofs.WayLaws.{is_closed, way_dir, object_short, reached_front}
+use Rattle.ocfl_rules.proofs.AuditExists.{append_one, append_nothing, object_at}
+use Rattle.ocfl_rules.proofs.StepLaws.{zone_step, reached_step, seen_step}
+use Rattle.ocfl_rules.proofs.WayLaws.{is_closed, way_dir, object_short, reached_front}
 use Rattle.ocfl_item.proofs.LooksEntries.{nothing_there, declared_listing}
 
 -- ---- tests

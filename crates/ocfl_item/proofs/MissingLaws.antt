@@ -13,7 +13,7 @@ use Rattle.ocfl_inventory.proofs.TripleOrders.{then_parts}
 use Rattle.ocfl_inventory.specs.TripleView.{named_view}
 use Rattle.ocfl_inventory.specs.declared.triple.Named.{Named as MadeNamed}
 use Rattle.ocfl_digest.specs.Algorithm.{algorithm_name, algorithm_cmp}
-use Rattle.ocfl_audit.specs.{Head.{on}, Lines.{block_cmp, missing_notes}}
+use Rattle.ocfl_rules.specs.{Head.{on}, Lines.{block_cmp, missing_notes}}
 use Rattle.ocfl_item.specs.Internal.Lines.{Adds, is_repeated, missing_note}
 use Rattle.ocfl_item.specs.declared.lines.PlaceLines.{PlaceLines}
 use Rattle.ocfl_item.proofs.NamedLaws.{algorithm_cmp_total}

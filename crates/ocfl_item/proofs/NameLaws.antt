@@ -6,7 +6,7 @@ use Rattle.std.specs.{Prelude.{cond}, List.{AllByRecursion, IsDistinct}}
 use Rattle.ocfl_tree.specs.{Place.{Text, text_eq}, Listing.{AreApart, IsOrdinary, kind_in}}
 use Rattle.ocfl_tree.specs.declared.store.Entry.{Entry}
 use Rattle.ocfl_tree.proofs.Places.{text_eq-Decides, text_eq_turns, not_decided, differ}
-use Rattle.ocfl_audit.proofs.AuditExists.{some_not_none}
+use Rattle.ocfl_rules.proofs.AuditExists.{some_not_none}
 
 abbrev pub names_of : List Entry → List Text
 names_of es = map (λ e. e.name) es

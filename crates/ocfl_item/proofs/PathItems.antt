@@ -7,13 +7,13 @@ use Rattle.ocfl_tree.specs.StorageRoot.{StorageRoot, dir}
 use Rattle.ocfl_inventory.specs.Table.{Table, Named, named}
 use Rattle.ocfl_inventory.specs.TripleView.{named_view}
 use Rattle.ocfl_inventory.specs.declared.triple.Named.{Named as MadeNamed}
-use Rattle.ocfl_audit.specs.Zone.{Zone, skipped, hierarchy, inside, zone, seen, table_at}
-use Rattle.ocfl_audit.specs.Lines.{content_notes, hierarchy_notes, named_at, named_in, notes, notes_in, object_entry_notes, object_notes, version_entry_notes, within_notes}
+use Rattle.ocfl_rules.specs.Zone.{Zone, skipped, hierarchy, inside, zone, seen, table_at}
+use Rattle.ocfl_rules.specs.Lines.{content_notes, hierarchy_notes, named_at, named_in, notes, notes_in, object_entry_notes, object_notes, version_entry_notes, within_notes}
 use Rattle.ocfl_item.specs.Internal.Content.{content_at, content_in}
 use Rattle.ocfl_item.specs.{Around.{IsNamedIn, IsTableAround}, declared.meeting.Around.{Around}}
 use Rattle.ocfl_item.specs.declared.pending.Pending.{Pending}
-use Rattle.ocfl_audit.proofs.AuditExists.{append_nothing, path_among, some_not_none, zone_is}
-use Rattle.ocfl_audit.proofs.{PathLaws.{named_path, notes_at}, WayLaws.{head_seen, is_closed}}
+use Rattle.ocfl_rules.proofs.AuditExists.{append_nothing, path_among, some_not_none, zone_is}
+use Rattle.ocfl_rules.proofs.{PathLaws.{named_path, notes_at}, WayLaws.{head_seen, is_closed}}
 
 abbrev named_of : Place → Option Table → List Named
 named_of q None = []

@@ -5,13 +5,13 @@ use Rattle.ocfl_tree.proofs.Orders.{true_not_false}
 use Rattle.ocfl_inventory.specs.{Remark.{remark_view}, declared.remark.Remark.{Remark}}
 use Rattle.ocfl_inventory.specs.{Table.{Table, named, named_cmp}, TripleView.{named_view}}
 use Rattle.ocfl_inventory.specs.declared.triple.Named.{Named as MadeNamed}
-use Rattle.ocfl_audit.specs.Lines.{is_empty, notes, missing_notes, is_hashed, named_at}
+use Rattle.ocfl_rules.specs.Lines.{is_empty, notes, missing_notes, is_hashed, named_at}
 use Rattle.ocfl_item.specs.Internal.Content.{IsSight, content_at, is_read, sight_notes}
 use Rattle.ocfl_item.specs.{Pending.{IsPending}, Internal.Lines.{HasLines}}
 use Rattle.ocfl_item.specs.declared.lines.PlaceLines.{PlaceLines}
 use Rattle.ocfl_item.specs.{declared.pending.Pending.{Pending}, declared.sight.Sight.{Sight}}
 use Rattle.ocfl_item.proofs.ContentLaws.{content_is, hashed_by_sight, hashed_file, known_by_sight}
-use Rattle.ocfl_audit.proofs.UnreadLaws.{file_some}
+use Rattle.ocfl_rules.proofs.UnreadLaws.{file_some}
 
 no_remarks : (remarks : List Remark) → map remark_view remarks ≡ [] → remarks ≡ []
 no_remarks [] e = refl

@@ -7,10 +7,10 @@ use Rattle.ocfl_tree.specs.StorageRoot.{StorageRoot, dir, file_at, is_dir, names
 use Rattle.ocfl_tree.proofs.Orders.{true_not_false}
 use Rattle.ocfl_inventory.specs.Declaration.{declared, undeclared}
 use Rattle.ocfl_inventory.specs.declared.declaration.Level.TheVariants as level
-use Rattle.ocfl_audit.specs.Zone.{Zone, skipped, hierarchy, inside, zone, is_entered, is_listed_zone, inventory_at, inventory_name, max_listed_depth, seen, beginnings, files_in, is_known}
-use Rattle.ocfl_audit.specs.{Walk.{is_reached, seen_names}, Trail.{is_head, reads_inventory}}
-use Rattle.ocfl_audit.specs.Between.{is_looked_into, shows_entries}
-use Rattle.ocfl_audit.proofs.BetweenLaws.{looked_seen, read_seen, seen_reached}
+use Rattle.ocfl_rules.specs.Zone.{Zone, skipped, hierarchy, inside, zone, is_entered, is_listed_zone, inventory_at, inventory_name, max_listed_depth, seen, beginnings, files_in, is_known}
+use Rattle.ocfl_rules.specs.{Walk.{is_reached, seen_names}, Trail.{is_head, reads_inventory}}
+use Rattle.ocfl_rules.specs.Between.{is_looked_into, shows_entries}
+use Rattle.ocfl_rules.proofs.BetweenLaws.{looked_seen, read_seen, seen_reached}
 use Rattle.ocfl_item.specs.{Internal.Visiting.{IsShut}, Ways.{is_listable}}
 use Rattle.ocfl_item.proofs.LooksZones.{not_entered, out_of_zone}
 

@@ -14,11 +14,11 @@ use Rattle.ocfl_inventory.specs.{Table.{Table, Named, named}, TripleView.{named_
 use Rattle.ocfl_inventory.specs.{Declaration.{is_declaration}, ListedPath.{is_version_name}}
 use Rattle.ocfl_report.specs.declared.code.Code.{Code}
 use Rattle.ocfl_report.specs.declared.code.Code.TheVariants.{E001, E015, E024, S04, S05}
-use Rattle.ocfl_audit.specs.Zone.{Zone, skipped, hierarchy, inside, zone, seen, table_at, is_entered, is_listed_zone, is_listed_in_object, max_listed_depth, beginnings}
-use Rattle.ocfl_audit.specs.Lines.{notes, notes_in, object_notes, object_entry_notes, version_entry_notes, is_inventory_or_sidecar, named_at, cost_of, is_hashed, is_empty, listed_dir_notes}
-use Rattle.ocfl_audit.specs.{Head.{on}, Walk.{is_reached, seen_names}}
-use Rattle.ocfl_audit.specs.Trail.{heads_of, is_head, reads_inventory}
-use Rattle.ocfl_audit.specs.Between.{is_looked_into, shows_entries}
+use Rattle.ocfl_rules.specs.Zone.{Zone, skipped, hierarchy, inside, zone, seen, table_at, is_entered, is_listed_zone, is_listed_in_object, max_listed_depth, beginnings}
+use Rattle.ocfl_rules.specs.Lines.{notes, notes_in, object_notes, object_entry_notes, version_entry_notes, is_inventory_or_sidecar, named_at, cost_of, is_hashed, is_empty, listed_dir_notes}
+use Rattle.ocfl_rules.specs.{Head.{on}, Walk.{is_reached, seen_names}}
+use Rattle.ocfl_rules.specs.Trail.{heads_of, is_head, reads_inventory}
+use Rattle.ocfl_rules.specs.Between.{is_looked_into, shows_entries}
 use Rattle.ocfl_inventory.specs.declared.declaration.Level.TheVariants as level
 use Rattle.ocfl_item.specs.{Auditing.{FailedAt}, Looking.{IsFront, failures_by}, Internal.Content.{IsSight, content_in, content_at}}
 use Rattle.ocfl_item.specs.{Pending.{IsPending}, Internal.Lines.{HasLines, IsUnhashed}}
@@ -36,7 +36,7 @@ use Rattle.ocfl_item.proofs.LooksEntries.{emptied, kind_file, not_emptied}
 use Rattle.ocfl_item.proofs.AuditingLaws.{front_all, front_none, near_none, none_once}
 use Rattle.ocfl_item.proofs.ShutLaws.{listed_shows, looked_at, no_head_unread, shut_no_dir, shut_zone}
 use Rattle.ocfl_item.proofs.LinesLaws.{unhashed_at}
-use Rattle.ocfl_audit.proofs.PathLaws.{named_path, notes_at}
+use Rattle.ocfl_rules.proofs.PathLaws.{named_path, notes_at}
 
 -- ---- the item of one line
 

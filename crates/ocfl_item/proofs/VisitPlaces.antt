@@ -19,12 +19,12 @@ use Rattle.ocfl_inventory.specs.declared.declaration.Declared.{Declared as MadeD
 use Rattle.ocfl_report.specs.declared.code.Code.TheVariants.{E072, E073, S04, S05}
 use Rattle.ocfl_inventory.specs.declared.declaration.Declared.TheVariants as made
 use Rattle.ocfl_inventory.specs.declared.declaration.Level.TheVariants as level
-use Rattle.ocfl_audit.specs.Head.{on}
-use Rattle.ocfl_audit.specs.Zone.{skipped, hierarchy, inside, zone, seen, table_at, is_entered, is_listed_zone, is_listed_in_object, max_listed_depth, object_declared, beginnings, files_in, is_declared}
-use Rattle.ocfl_audit.specs.Lines.{notes, notes_in, named_in, is_empty, listed_dir_notes, hierarchy_notes}
-use Rattle.ocfl_audit.specs.Walk.{is_extensions, is_reached, seen_names, step_zone}
-use Rattle.ocfl_audit.specs.Trail.{is_head}
-use Rattle.ocfl_audit.specs.Between.{is_looked_into, shows_entries}
+use Rattle.ocfl_rules.specs.Head.{on}
+use Rattle.ocfl_rules.specs.Zone.{skipped, hierarchy, inside, zone, seen, table_at, is_entered, is_listed_zone, is_listed_in_object, max_listed_depth, object_declared, beginnings, files_in, is_declared}
+use Rattle.ocfl_rules.specs.Lines.{notes, notes_in, named_in, is_empty, listed_dir_notes, hierarchy_notes}
+use Rattle.ocfl_rules.specs.Walk.{is_extensions, is_reached, seen_names, step_zone}
+use Rattle.ocfl_rules.specs.Trail.{is_head}
+use Rattle.ocfl_rules.specs.Between.{is_looked_into, shows_entries}
 use Rattle.ocfl_item.specs.{Looking.{IsFront, failures_by}, Pending.{IsPending}}
 use Rattle.ocfl_item.specs.{Internal.Lines.{HasLines, IsUnhashed}, Ways.{Enters, is_listable}}
 use Rattle.ocfl_item.specs.Internal.Ways.{IsDeclared}
@@ -36,8 +36,8 @@ use Rattle.ocfl_item.specs.declared.lines.PlaceLines.{PlaceLines}
 use Rattle.ocfl_item.specs.{declared.pending.Pending.{Pending}, declared.meeting.Around.{Around}}
 use Rattle.ocfl_item.specs.declared.visit.Visit.{Visit}
 use Rattle.ocfl_item.specs.declared.role.Role.TheVariants as role
-use Rattle.ocfl_audit.proofs.{AuditExists.{not_empty}, PathLaws.{notes_at}}
-use Rattle.ocfl_audit.proofs.StepLaws.{all_beginnings_step, zone_step}
+use Rattle.ocfl_rules.proofs.{AuditExists.{not_empty}, PathLaws.{notes_at}}
+use Rattle.ocfl_rules.proofs.StepLaws.{all_beginnings_step, zone_step}
 use Rattle.ocfl_item.proofs.AuditingLaws.{failed_behind, front_all}
 use Rattle.ocfl_item.proofs.{LooksCalls.{declares_one}, LooksEntries.{emptied, not_emptied}, ItemLaws.{head_unhashed}}
 use Rattle.ocfl_item.proofs.LooksZones.{declared_object, entered_from, out_of_zone}

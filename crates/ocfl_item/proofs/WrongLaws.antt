@@ -5,7 +5,7 @@ use Rattle.std.specs.Prelude.{zero, suc}
 use Rattle.ocfl_tree.specs.{Place.{Text}, Ascending.{IsAmong}}
 use Rattle.ocfl_digest.specs.{Digest.{digest_bytes_of}, Digests.{digest_in}}
 use Rattle.ocfl_digest.specs.declared.digests.Digests.{Digests}
-use Rattle.ocfl_audit.specs.{Head.{digest_of}, Lines.{wrong_notes}}
+use Rattle.ocfl_rules.specs.{Head.{digest_of}, Lines.{wrong_notes}}
 use Rattle.ocfl_inventory.specs.{Table.{Named}, TripleView.{named_view}}
 use Rattle.ocfl_inventory.specs.declared.triple.Named.{Named as MadeNamed}
 use Rattle.ocfl_item.specs.{Internal.FileLines.{HasDigests, wrong_by}, Internal.Lines.{Adds}}

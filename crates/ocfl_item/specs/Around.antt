@@ -3,7 +3,7 @@ use Rattle.std.specs.Prelude.{◌≡◌, [], ◌∷◌, ◌++◌, true, Option, 
 use Rattle.ocfl_tree.specs.{Place.{Place}, Ascending.{IsAmong}, StorageRoot.{StorageRoot}}
 use Rattle.ocfl_tree.specs.{Listing.{kind_at}, declared.store.Entry.{Entry}}
 use Rattle.ocfl_inventory.specs.Table.{paths_of}
-use Rattle.ocfl_audit.specs.{Zone.{hierarchy, inside, zone, table_at}, Walk.{is_reached}}
+use Rattle.ocfl_rules.specs.{Zone.{hierarchy, inside, zone, table_at}, Walk.{is_reached}}
 use Rattle.ocfl_item.specs.declared.meeting.Around.{Around}
 
 -- the table of the object that holds a place, if there is one

@@ -3,8 +3,8 @@
 use Rattle.std.specs.Prelude.{◌≡◌, ◌&&◌, ℕ, ◌+◌, List, [], ◌∷◌, ◌++◌, true, false, filter, length, Option, Some}
 use Rattle.ocfl_tree.specs.{Place.{Text, Place}, Ascending.{IsAmong}, StorageRoot.{StorageRoot}}
 use Rattle.ocfl_tree.specs.{Store.{Store, Did}, Calls.{opening}, declared.store.Opening.{Opening}}
-use Rattle.ocfl_audit.specs.{Lines.{is_hashed}, Trail.{is_meta, content_trail, unread_of, heads_of}}
-use Rattle.ocfl_audit.specs.Due.{hashed_among}
+use Rattle.ocfl_rules.specs.{Lines.{is_hashed}, Trail.{is_meta, content_trail, unread_of, heads_of}}
+use Rattle.ocfl_rules.specs.Due.{hashed_among}
 use Rattle.ocfl_item.specs.Looking.{failures_at}
 
 -- of the declarations, inventories and sidecars that were opened none failed

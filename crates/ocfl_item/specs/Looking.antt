@@ -1,7 +1,7 @@
 -- The way to a place; the front of a list; which faults are failures.
 use Rattle.std.specs.Prelude.{◌≡◌, ℕ, List, [], ◌∷◌, ◌++◌, Option, Some, None}
 use Rattle.ocfl_tree.specs.Place.{Place}
-use Rattle.ocfl_audit.specs.Zone.{beginnings}
+use Rattle.ocfl_rules.specs.Zone.{beginnings}
 use Rattle.ocfl_item.specs.declared.fault.Fault.{Fault}
 use Rattle.ocfl_item.specs.declared.fault.Fault.TheVariants as fault
 

@@ -3,10 +3,10 @@ use Rattle.std.specs.Prelude.{AllPairs, ◌≡◌, ◌≢◌, ◌≤◌, List, [
 use Rattle.ocfl_tree.specs.{Place.{Place}, StorageRoot.{StorageRoot}, Store.{Store, Did}}
 use Rattle.ocfl_tree.specs.{Listing.{IsListing, IsOrdinary}, declared.store.Opening.{Opening}}
 use Rattle.ocfl_inventory.specs.Table.{IsFit, Table}
-use Rattle.ocfl_audit.specs.Zone.{inside, zone, table_at, max_listed_depth}
-use Rattle.ocfl_audit.specs.{Lines.{notes, is_hashed}, Head.{on}}
-use Rattle.ocfl_audit.specs.Trail.{content_trail, heads_of, is_head, reads_inventory}
-use Rattle.ocfl_audit.specs.{Between.{is_looked_into}, Walk.{is_reached, seen_names}}
+use Rattle.ocfl_rules.specs.Zone.{inside, zone, table_at, max_listed_depth}
+use Rattle.ocfl_rules.specs.{Lines.{notes, is_hashed}, Head.{on}}
+use Rattle.ocfl_rules.specs.Trail.{content_trail, heads_of, is_head, reads_inventory}
+use Rattle.ocfl_rules.specs.{Between.{is_looked_into}, Walk.{is_reached, seen_names}}
 use Rattle.ocfl_item.specs.Auditing.{FailedAt, IsMetadataRead, LieIn}
 use Rattle.ocfl_item.specs.{Looking.{IsFront, failures_by}, Pending.{IsPending}}
 use Rattle.ocfl_item.specs.{declared.fault.Fault.{Fault}, declared.folder.Folder.{Folder}}

@@ -3,7 +3,7 @@ use Rattle.std.specs.Prelude.{◌≡◌, ◌≢◌, [], false, None, map}
 use Rattle.ocfl_tree.specs.StorageRoot.{StorageRoot}
 use Rattle.ocfl_inventory.specs.{Remark.{remark_view}, TripleView.{named_view}}
 use Rattle.ocfl_item.specs.declared.pending.Pending.{Pending}
-use Rattle.ocfl_audit.specs.Lines.{notes, named_at, is_hashed}
+use Rattle.ocfl_rules.specs.Lines.{notes, named_at, is_hashed}
 
 -- this is an item, its lines known if its file is not hashed
 pub record IsPending (root : StorageRoot) (p : Pending) : Type 0 where

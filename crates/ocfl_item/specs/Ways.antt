@@ -6,8 +6,8 @@ use Rattle.ocfl_tree.specs.{Store.{Store, Did}, Listing.{IsListing}, declared.st
 use Rattle.ocfl_tree.specs.{declared.store.Kind.{Kind}, declared.store.Opening.{Opening}}
 use Rattle.ocfl_tree.specs.declared.store.Kind.TheVariants as kind
 use Rattle.ocfl_inventory.specs.Declaration.{Declared}
-use Rattle.ocfl_audit.specs.Zone.{max_listed_depth, hierarchy, inside, zone, is_entered, object_declared, beginnings, is_known, is_declared}
-use Rattle.ocfl_audit.specs.{Lines.{is_hashed}, Trail.{heads_of}, Walk.{is_reached}}
+use Rattle.ocfl_rules.specs.Zone.{max_listed_depth, hierarchy, inside, zone, is_entered, object_declared, beginnings, is_known, is_declared}
+use Rattle.ocfl_rules.specs.{Lines.{is_hashed}, Trail.{heads_of}, Walk.{is_reached}}
 use Rattle.ocfl_item.specs.{Looking.{IsFront, failures_by}, Auditing.{FailedAt, IsMetadataRead}}
 use Rattle.ocfl_item.specs.{declared.fault.Fault.{Fault}, declared.folder.Head.{Head}}
 use Rattle.ocfl_item.specs.declared.fault.Fault.TheVariants as fault

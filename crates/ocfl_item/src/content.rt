@@ -4,7 +4,7 @@ ghost use Rattle.ocfl_tree.specs.{Ascending.{IsAscending}, Place.{Place as Model
 ghost use Rattle.ocfl_tree.specs.StorageRoot.{StorageRoot};
 ghost use Rattle.ocfl_inventory.specs.Table.{Table, named as digests_of, named_cmp};
 ghost use Rattle.ocfl_inventory.specs.TripleView.{named_view};
-ghost use Rattle.ocfl_audit.specs.Lines.{missing_notes};
+ghost use Rattle.ocfl_rules.specs.Lines.{missing_notes};
 ghost use Rattle.ocfl_item.specs.Internal.Content.{IsSight, content_at, is_read, sight_notes};
 ghost use Rattle.ocfl_item.specs.{Meeting.{IsItemAt}, Internal.Lines.{Adds, HasLines}};
 

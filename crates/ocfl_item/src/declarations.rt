@@ -8,7 +8,7 @@ ghost use Rattle.ocfl_inventory.specs.Declaration.{after_prefix};
 ghost use Rattle.ocfl_inventory.specs.Declaration.{declaration_name as name_of_declaration, prefix};
 ghost use Rattle.ocfl_inventory.specs.{Entries.{meaning, PointsAtOne}, Sidecar.{side_limit}};
 ghost use Rattle.ocfl_digest.specs.Bounded.{IsBoundedTo};
-ghost use Rattle.ocfl_audit.specs.{Zone.{is_known}, Head.{is_exact_declaration}};
+ghost use Rattle.ocfl_rules.specs.{Zone.{is_known}, Head.{is_exact_declaration}};
 ghost use Rattle.ocfl_item.specs.Internal.HeadFiles.{IsFileAt};
 ghost use Rattle.ocfl_item.specs.Internal.HeadLines.{declared_notes};
 ghost use Rattle.ocfl_item.specs.Internal.Lines.{Adds, HasLines};

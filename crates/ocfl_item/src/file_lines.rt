@@ -4,8 +4,8 @@ ghost use Rattle.hex.specs.Hex.{encode_lower};
 ghost use Rattle.ocfl_tree.specs.Place.{Text};
 ghost use Rattle.ocfl_inventory.specs.{Note.{Note, plain}, TripleView.{named_view}};
 ghost use Rattle.ocfl_digest.specs.{Digest.{digest_bytes_of}, Digests.{digest_in}};
-ghost use Rattle.ocfl_audit.specs.Lines.{is_in_manifest as is_named_in_manifest, or_bytes};
-ghost use Rattle.ocfl_audit.specs.Lines.{unnamed_notes, wrong_notes};
+ghost use Rattle.ocfl_rules.specs.Lines.{is_in_manifest as is_named_in_manifest, or_bytes};
+ghost use Rattle.ocfl_rules.specs.Lines.{unnamed_notes, wrong_notes};
 ghost use Rattle.ocfl_item.specs.Internal.FileLines.{HasDigests, wrong_by};
 ghost use Rattle.ocfl_item.specs.Internal.Lines.{Adds, HasLines};
 

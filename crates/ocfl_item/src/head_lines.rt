@@ -14,9 +14,9 @@ ghost use Rattle.ocfl_digest.specs.{Bounded.{IsBoundedTo}, Digest.{digest_bytes_
 ghost use Rattle.ocfl_digest.specs.{Digests.{digest_in}, Wanted.{wants}};
 ghost use Rattle.ocfl_digest.specs.declared.algorithm.Algorithm.TheVariants.{Sha256, Sha512};
 ghost use Rattle.ocfl_inventory.specs.declared.declaration.Level.TheVariants as level;
-ghost use Rattle.ocfl_audit.specs.Head.{digest_of, is_exact_declaration, on, or_clean};
-ghost use Rattle.ocfl_audit.specs.Head.{sidecar_name, sidecar_at, mismatch, sidecar_notes};
-ghost use Rattle.ocfl_audit.specs.Head.{are_sidecars_missing, sidecars_notes, inventory_part};
+ghost use Rattle.ocfl_rules.specs.Head.{digest_of, is_exact_declaration, on, or_clean};
+ghost use Rattle.ocfl_rules.specs.Head.{sidecar_name, sidecar_at, mismatch, sidecar_notes};
+ghost use Rattle.ocfl_rules.specs.Head.{are_sidecars_missing, sidecars_notes, inventory_part};
 ghost use Rattle.ocfl_item.specs.Internal.HeadFiles.{IsFileAt};
 ghost use Rattle.ocfl_item.specs.Internal.HeadLines.{AreSidecars, HasDigestFor, is_other_there};
 ghost use Rattle.ocfl_item.specs.Internal.HeadLines.{named_notes};

@@ -3,7 +3,7 @@ ghost use Rattle.std.specs.Prelude.{◌≡◌, ◌≢◌, ◌≤◌, ◌<◌, �
 ghost use Rattle.std.specs.Prelude.{IsTrue, MatchResult, None, false, length, map, max, true};
 ghost use Rattle.ocfl_tree.specs.{Place.{Text}, Store.{IfTold}};
 ghost use Rattle.ocfl_inventory.specs.{Note.{plain}, TripleView.{named_view}};
-ghost use Rattle.ocfl_audit.specs.Lines.{or_bytes, unnamed_notes, wrong_notes};
+ghost use Rattle.ocfl_rules.specs.Lines.{or_bytes, unnamed_notes, wrong_notes};
 ghost use Rattle.ocfl_item.specs.Internal.FileLines.{HasDigests, given_in};
 ghost use Rattle.ocfl_item.specs.Internal.Lines.{HasLines};
 ghost use Rattle.ocfl_item.specs.Judging.{CostFits, HasShortFiles, JudgeFails, Judges};

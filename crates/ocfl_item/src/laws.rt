@@ -4,7 +4,7 @@ ghost use Rattle.std.specs.Prelude.{true, false};
 ghost use Rattle.ocfl_tree.specs.{Place.{Place, Text}, Ascending.{IsAmong}, Store.{Store}};
 ghost use Rattle.ocfl_tree.specs.StorageRoot.{StorageRoot, file_at};
 ghost use Rattle.ocfl_tree.specs.declared.store.Opening.{Opening};
-ghost use Rattle.ocfl_audit.specs.{Lines.{is_hashed}, Trail.{is_meta, unread_of}};
+ghost use Rattle.ocfl_rules.specs.{Lines.{is_hashed}, Trail.{is_meta, unread_of}};
 ghost use Rattle.ocfl_item.specs.{Auditing.{Audits, Fails}, Judging.{HasShortFiles}};
 
 /// What calls did adds up, one after the other, up to a fault.

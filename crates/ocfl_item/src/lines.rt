@@ -2,7 +2,7 @@
 ghost use Rattle.std.specs.{Prelude.{◌≡◌, ◌∷◌, [], IfOk, OnOk, string_bytes}, List.{list_any}};
 ghost use Rattle.ocfl_report.specs.{Line.{is_finding_code}, Text.{lines_text}};
 ghost use Rattle.ocfl_inventory.specs.{Note.{note, plain}, TripleView.{named_view}};
-ghost use Rattle.ocfl_audit.specs.{Head.{mismatch}, Lines.{block_code}};
+ghost use Rattle.ocfl_rules.specs.{Head.{mismatch}, Lines.{block_code}};
 ghost use Rattle.ocfl_item.specs.{Internal.Lines.{Adds, HasLines}, PlaceLines.{lines_of}};
 
 use ocfl_digest::Algorithm;

@@ -3,7 +3,7 @@ ghost use Rattle.std.specs.Prelude.{◌≡◌, None, IfOk, IfSome, drop, length,
 ghost use Rattle.ocfl_tree.specs.{Place.{Place as ModelPlace}, StorageRoot.{StorageRoot}};
 ghost use Rattle.ocfl_tree.specs.Store.{IfTold};
 ghost use Rattle.ocfl_inventory.specs.{Table.{named as digests_of}, TripleView.{named_view}};
-ghost use Rattle.ocfl_audit.specs.Zone.{seen};
+ghost use Rattle.ocfl_rules.specs.Zone.{seen};
 ghost use Rattle.ocfl_item.specs.Around.{IsMet, IsNamedIn, IsTableAround};
 ghost use Rattle.ocfl_item.specs.Meeting.{IsFairVisit, IsItemAt, Visits};
 

@@ -3,7 +3,7 @@ ghost use Rattle.std.specs.Prelude.{◌≡◌, ◌∷◌, [], OnOk, not, option_
 ghost use Rattle.std.specs.Option.{option_copied};
 ghost use Rattle.ocfl_tree.specs.Ascending.{IsAscending};
 ghost use Rattle.ocfl_inventory.specs.{Table.{named_cmp}, TripleView.{named_view}};
-ghost use Rattle.ocfl_audit.specs.{Head.{on}, Lines.{missing_notes}};
+ghost use Rattle.ocfl_rules.specs.{Head.{on}, Lines.{missing_notes}};
 ghost use Rattle.ocfl_item.specs.Internal.Lines.{Adds, is_repeated, is_same_block, missing_note};
 
 use crate::lines::{PlaceLines, code_of};

@@ -2,7 +2,7 @@
 ghost use Rattle.std.specs.Prelude.{◌≡◌, ◌||◌};
 ghost use Rattle.ocfl_tree.specs.Place.{text_eq};
 ghost use Rattle.ocfl_digest.specs.declared.algorithm.Algorithm.TheVariants.{Sha256, Sha512};
-ghost use Rattle.ocfl_audit.specs.Head.{sidecar_name as sidecar_name_of};
+ghost use Rattle.ocfl_rules.specs.Head.{sidecar_name as sidecar_name_of};
 
 use ocfl_digest::Algorithm;
 use ocfl_tree::is_text;

@@ -6,8 +6,8 @@ ghost use Rattle.ocfl_inventory.specs.Declaration.{is_declaration};
 ghost use Rattle.ocfl_inventory.specs.ListedPath.{is_version_name as is_version_text};
 ghost use Rattle.ocfl_inventory.specs.Table.{Table as TableOf};
 ghost use Rattle.ocfl_inventory.specs.declared.declaration.Level.TheVariants as level;
-ghost use Rattle.ocfl_audit.specs.Zone.{inside, table_at, zone};
-ghost use Rattle.ocfl_audit.specs.Lines.{is_inventory_or_sidecar as is_beside_inventory};
+ghost use Rattle.ocfl_rules.specs.Zone.{inside, table_at, zone};
+ghost use Rattle.ocfl_rules.specs.Lines.{is_inventory_or_sidecar as is_beside_inventory};
 ghost use Rattle.ocfl_item.specs.{Around.{IsMet}, Internal.Visiting.{HasRole, IsEntryAt}};
 
 use crate::folder::names_extensions;

@@ -4,8 +4,8 @@ ghost use Rattle.ocfl_tree.specs.{Place.{Place as ModelPlace}, StorageRoot.{Stor
 ghost use Rattle.ocfl_tree.specs.{Listing.{IsOrdinary}, Store.{IfTold}};
 ghost use Rattle.ocfl_inventory.specs.{Note.{plain}, Table.{Table as TableOf, named as digests_of}};
 ghost use Rattle.ocfl_inventory.specs.TripleView.{named_view};
-ghost use Rattle.ocfl_audit.specs.Zone.{is_listed_zone, max_listed_depth, zone};
-ghost use Rattle.ocfl_audit.specs.{Lines.{listed_dir_notes}, Walk.{seen_names}};
+ghost use Rattle.ocfl_rules.specs.Zone.{is_listed_zone, max_listed_depth, zone};
+ghost use Rattle.ocfl_rules.specs.{Lines.{listed_dir_notes}, Walk.{seen_names}};
 ghost use Rattle.ocfl_item.specs.Internal.Ways.{IsDeclared};
 ghost use Rattle.ocfl_item.specs.Internal.Content.{IsSight, content_at};
 ghost use Rattle.ocfl_item.specs.Meeting.{IsFairVisit, IsVisit, Visits};

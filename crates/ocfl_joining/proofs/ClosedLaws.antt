@@ -5,8 +5,8 @@ use Rattle.std.proofs.lemmas.List.Folds.{flat_map-map}
 use Rattle.ocfl_tree.specs.{Ascending.{IsAscending}, Place.{Place, Text, place_cmp}}
 use Rattle.ocfl_tree.specs.StorageRoot.{StorageRoot}
 use Rattle.ocfl_report.specs.Text.{text}
-use Rattle.ocfl_audit.specs.{Audit.{Unread, audit}, Parts.{Part, parts_of, together, within}}
-use Rattle.ocfl_audit.proofs.ApartLaws.{apart_texts}
+use Rattle.ocfl_rules.specs.{Audit.{Unread, audit}, Parts.{Part, parts_of, together, within}}
+use Rattle.ocfl_rules.proofs.ApartLaws.{apart_texts}
 use Rattle.ocfl_joining.specs.{Joined.{all_parts, joined_text}, Reports.{Seen}}
 
 pub closed_join : (root : StorageRoot) (separators : List Place) (s : Seen) (parts : List (Part × Unread)) → IsAscending place_cmp separators → map (λ e. e.0) parts ≡ parts_of separators

@@ -5,8 +5,8 @@ use Rattle.std.proofs.lemmas.Grind.{flat_map-append}
 use Rattle.std.proofs.lemmas.List.Elements.{All-append, All-cons, All-nil}
 use Rattle.ocfl_tree.specs.Place.{Text, Place}
 use Rattle.ocfl_report.specs.{Line.{Line}, Text.{line_text, lines_text}}
-use Rattle.ocfl_parts.specs.Separators.{start_of_part, end_of_part}
-use Rattle.ocfl_parts.specs.Splits.{HasText, IsNotLess, AreInOrder}
+use Rattle.ocfl_separators.specs.Separators.{start_of_part, end_of_part}
+use Rattle.ocfl_separators.specs.Splits.{HasText, IsNotLess, AreInOrder}
 use Rattle.ocfl_state.specs.Pieces.{Carries}
 use Rattle.ocfl_joining.specs.{Joined.{IsAsClosed, IsFrom, IsBelow, IsReportIn, IsRight}, Missing.{numbers}, Reports.{Seen, ReadsLine, with_open, with_left, with_made}}
 use Rattle.ocfl_joining.specs.Internal.Copying.{last_of, HasCopied, CopiesLine, AreGiven, AreCopied, IsCopy, AreAllCopied}

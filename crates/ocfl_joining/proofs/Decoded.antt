@@ -5,8 +5,8 @@ use Rattle.std.specs.Io.BufRead.{take_through}
 use Rattle.ocfl_tree.specs.Place.{Text, Place}
 use Rattle.ocfl_report.specs.{Line.{Line}, Text.{code_text, escape, place_text, line_text, lines_text, IsLine}}
 use Rattle.ocfl_report.proofs.{Bytes.{utf8_bytes}, LineTexts.{first_lines}}
-use Rattle.ocfl_parts.specs.Splits.{HasText, IsNotLess, AreInOrder}
-use Rattle.ocfl_parts.proofs.Reports.{line_is_first}
+use Rattle.ocfl_separators.specs.Splits.{HasText, IsNotLess, AreInOrder}
+use Rattle.ocfl_separators.proofs.Reports.{line_is_first}
 use Rattle.ocfl_joining.specs.Joined.{IsFrom, IsBelow, IsReportIn}
 use Rattle.ocfl_joining.specs.Internal.Copying.{IsFitLine, last_of}
 

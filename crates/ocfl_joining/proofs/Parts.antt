@@ -4,7 +4,7 @@ use Rattle.std.proofs.lemmas.Bool.{eqb-true}
 use Rattle.std.specs.Prelude.{cond, ◌==◌, not, max, flat_map}
 use Rattle.ocfl_tree.proofs.Bools.{and_first, and_second}
 use Rattle.ocfl_tree.proofs.Places.{text_eq-Decides, place_eq-Decides}
-use Rattle.ocfl_parts.specs.Separators.{start_of_part, end_of_part}
+use Rattle.ocfl_separators.specs.Separators.{start_of_part, end_of_part}
 use Rattle.ocfl_tree.specs.Place.{Text, Place, text_eq}
 use Rattle.ocfl_joining.specs.Missing.{same_end, has_ends, is_part, is_few, closed_fault, fault_of, part_at, named, names_of, most_names, missing_at, numbers}
 use Rattle.ocfl_joining.proofs.Numbers.{flat_more}

@@ -3,7 +3,7 @@ use Rattle.std.specs.Prelude.{◌≡◌, ◌⊎◌, ℕ, ◌+◌, List, [], ◌�
 use Rattle.std.specs.Ordering.{is_lt}
 use Rattle.ocfl_tree.specs.Place.{Text, Place, place_cmp}
 use Rattle.ocfl_report.specs.{Line.{Line}, Text.{lines_text}}
-use Rattle.ocfl_parts.specs.{Separators.{start_of_part, end_of_part}, Splits.{AreLines}}
+use Rattle.ocfl_separators.specs.{Separators.{start_of_part, end_of_part}, Splits.{AreLines}}
 use Rattle.ocfl_state.specs.Pieces.{summary_of}
 use Rattle.ocfl_joining.specs.{Missing.{numbers}, Reports.{Seen}}
 use Rattle.ocfl_joining.specs.declared.reports.KeptMark.{KeptMark}

@@ -1,7 +1,7 @@
 -- Which closed reports of parts are joined.
 use Rattle.std.specs.Prelude.{ℕ, zero, suc, ◌+◌, ◌-◌, ◌==◌, ◌&&◌, nat_lt, nat_le, max, List, [], ◌∷◌, ◌++◌, length, filter, flat_map, Bool, true, false, not, if◌then◌else◌, Option, Some, None, slice_get}
 use Rattle.ocfl_tree.specs.Place.{Text, Place, text_eq, place_eq}
-use Rattle.ocfl_parts.specs.Separators.{start_of_part, end_of_part}
+use Rattle.ocfl_separators.specs.Separators.{start_of_part, end_of_part}
 use Rattle.ocfl_joining.specs.declared.part.ClosedPart.{ClosedPart}
 use Rattle.ocfl_joining.specs.declared.part.MissingPart.{MissingPart}
 use Rattle.ocfl_joining.specs.declared.part.PartFault.{PartFault}

@@ -1,7 +1,7 @@
 //! Copying the report of a part, and checking it as it is read.
 ghost use Rattle.std.specs.Prelude.{◌≡◌, ◌≢◌, ◌↔◌, ℕ, List, [], Option, false, IsTrue};
 ghost use Rattle.std.specs.Prelude.{IfOk, OnOk, option_map};
-ghost use Rattle.ocfl_parts.specs.Splits.{IsNotLess};
+ghost use Rattle.ocfl_separators.specs.Splits.{IsNotLess};
 ghost use Rattle.ocfl_state.specs.Pieces.{Carries};
 ghost use Rattle.ocfl_joining.specs.Joined.{IsAsClosed, IsBelow, IsFrom, IsReportIn, IsRight};
 ghost use Rattle.ocfl_joining.specs.Internal.Copying.{AreCopied, CopiesLine, HasCopied};
@@ -10,7 +10,7 @@ ghost use Rattle.ocfl_joining.specs.declared.copying.PartStop.TheVariants.{Chang
 ghost use Rattle.ocfl_report.specs.Line.{Line as ModelLine};
 
 use crate::reports::{KeptMark, PartReports, ReportTrouble};
-use ocfl_parts::Separators;
+use ocfl_separators::Separators;
 use ocfl_report::{TextStop, read_line};
 use ocfl_state::ReportDigests;
 use ocfl_tree::Place;

@@ -14,7 +14,7 @@ use crate::copying::{PartStop, copy_part};
 use crate::missing::{find_hindering, find_left, find_missing};
 use crate::part::{ClosedPart, MissingPart};
 use crate::reports::{PartReports, ReportTrouble};
-use ocfl_parts::Separators;
+use ocfl_separators::Separators;
 use ocfl_tree::Place;
 use std::alloc::{AllocError, Global};
 

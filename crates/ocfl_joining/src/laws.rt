@@ -3,8 +3,8 @@ ghost use Rattle.std.specs.Prelude.{◌≡◌, ℕ, List, None, Some, map, true}
 ghost use Rattle.ocfl_tree.specs.{Ascending.{IsAscending}, Place.{Place, Text, place_cmp}};
 ghost use Rattle.ocfl_tree.specs.StorageRoot.{StorageRoot};
 ghost use Rattle.ocfl_report.specs.Text.{text};
-ghost use Rattle.ocfl_audit.specs.{Audit.{Unread, audit}, Parts.{Part, parts_of, together, within}};
-ghost use Rattle.ocfl_parts.specs.Separators.{end_of_part, start_of_part};
+ghost use Rattle.ocfl_rules.specs.{Audit.{Unread, audit}, Parts.{Part, parts_of, together, within}};
+ghost use Rattle.ocfl_separators.specs.Separators.{end_of_part, start_of_part};
 ghost use Rattle.ocfl_joining.specs.{Joined.{all_parts, joined_text}, Missing.{fault_of}};
 ghost use Rattle.ocfl_joining.specs.{Reports.{Seen}, declared.part.ClosedPart.{ClosedPart}};
 

@@ -5,7 +5,7 @@ ghost use Rattle.ocfl_joining.specs.Missing.{left_by, left_of, missing_of, most_
 ghost use Rattle.ocfl_joining.specs.Missing.{names_of, part_at, same_end};
 
 use crate::part::{ClosedPart, MissingPart, PartFault};
-use ocfl_parts::Separators;
+use ocfl_separators::Separators;
 use ocfl_tree::{Place, is_bytes};
 use std::alloc::{AllocError, Global};
 

@@ -12,7 +12,7 @@ use ocfl_kept::names::About;
 use ocfl_kept::state_dir::Folder;
 use ocfl_report::DisplayPlace;
 use ocfl_state::StateFolder;
-use ocfl_telling::{NightRow, Shown};
+use ocfl_messages::{NightRow, Shown};
 use ocfl_tree::Place;
 use std::alloc::{AllocError, Global};
 use std::fs::File;

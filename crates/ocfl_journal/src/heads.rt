@@ -2,7 +2,7 @@
 
 use ocfl_report::{TextStop, split_once};
 use ocfl_state::{FolderTrouble, StateFolder};
-use ocfl_telling::Heads;
+use ocfl_messages::Heads;
 use std::alloc::Global;
 
 /// How many bytes of a report are looked at.

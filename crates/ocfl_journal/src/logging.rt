@@ -8,7 +8,7 @@ use ocfl_kept::stand::Standing;
 use ocfl_kept::state::{failed_folder, folder_failure};
 use ocfl_kept::state_dir::Folder;
 use ocfl_state::{Checkpoint, Left};
-use ocfl_telling::{BeganRow, LeftRow, LogRow, NightRow, RefusalRow, SliceRow, Stands, log_line};
+use ocfl_messages::{BeganRow, LeftRow, LogRow, NightRow, RefusalRow, SliceRow, Stands, log_line};
 use std::alloc::{AllocError, Global};
 use std::cell::Cell;
 use std::fs::File;

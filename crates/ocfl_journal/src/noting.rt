@@ -15,7 +15,7 @@ use ocfl_kept::state::open_state;
 use ocfl_kept::state_dir::{Folder, StateDir};
 use ocfl_report::Line;
 use ocfl_state::{Checkpoint, Observed, Observer, StateFolder, decode_checkpoint};
-use ocfl_telling::Heads;
+use ocfl_messages::Heads;
 use std::alloc::{AllocError, Global};
 use std::cell::Cell;
 use std::fs::File;

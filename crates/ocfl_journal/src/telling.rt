@@ -7,7 +7,7 @@ use ocfl_kept::names::Names;
 use ocfl_kept::stand::Standing;
 use ocfl_reading::lines::{CLEAN, error_of, put_lines};
 use ocfl_report::{Code, Line, TextStop, read_line, split_once, write_all_of};
-use ocfl_telling::{Finding, Found, Gravest, Heads, Known, Night, find_shown, night_text};
+use ocfl_messages::{Finding, Found, Gravest, Heads, Known, Night, find_shown, night_text};
 use std::alloc::{AllocError, Global};
 use std::cell::Cell;
 use std::io::{self, ErrorKind, Write};

@@ -8,7 +8,7 @@ use ocfl_disk::{OpenReport, StateFile};
 use ocfl_files::failing::Failure;
 use ocfl_files::making::failed_file;
 use ocfl_state::{Checkpoint, Left, ReportDigests, ReportMark, decode_checkpoint};
-use ocfl_telling::Shown;
+use ocfl_messages::Shown;
 use ocfl_tree::Place;
 use std::alloc::{AllocError, Global};
 use std::io::{self, Read};

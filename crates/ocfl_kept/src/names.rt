@@ -1,6 +1,6 @@
 //! How a night and its state folder are called.
 
-use ocfl_telling::Known;
+use ocfl_messages::Known;
 
 /// How what a night speaks of is called.
 #[derive(Clone, Copy)]

@@ -6,7 +6,7 @@ use ocfl_disk::{FsState, Reason, StateFile, StateStop};
 use ocfl_files::failing::Failure;
 use ocfl_files::making::{FILE_MODE, failed_file, is_there};
 use ocfl_state::FolderTrouble;
-use ocfl_telling::{RefusalMessage, Shown, refusal_text};
+use ocfl_messages::{RefusalMessage, Shown, refusal_text};
 use std::alloc::{AllocError, Global};
 use std::fs::{self, File, OpenOptions, TryLockError};
 use std::io::{self, ErrorKind};

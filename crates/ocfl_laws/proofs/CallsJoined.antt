@@ -4,10 +4,10 @@ use Rattle.std.specs.{Prelude.{◌⊎◌, flat_map, option_map}, List.{AllByRecu
 use Rattle.std.specs.declared.alloc.Global.{Global}
 use Rattle.ocfl_tree.specs.{Place.{Text}, StorageRoot.{StorageRoot}, Store.{Store}}
 use Rattle.ocfl_report.specs.Text.{text}
-use Rattle.ocfl_audit.specs.{Audit.{audit, total_cost}, Due.{item_places, hashed_among}}
-use Rattle.ocfl_audit.specs.{Parts.{within, places_within}, Runs.{total_files, IsAtLeast}}
-use Rattle.ocfl_audit.specs.Trail.{content_trail}
-use Rattle.ocfl_audit.proofs.PartLaws.{texts_join, hashed_join}
+use Rattle.ocfl_rules.specs.{Audit.{audit, total_cost}, Due.{item_places, hashed_among}}
+use Rattle.ocfl_rules.specs.{Parts.{within, places_within}, Runs.{total_files, IsAtLeast}}
+use Rattle.ocfl_rules.specs.Trail.{content_trail}
+use Rattle.ocfl_rules.proofs.PartLaws.{texts_join, hashed_join}
 use Rattle.ocfl_cursor.specs.{Cursor.{Cursor, IsCursor}, Part.{IsPartText, part_text}}
 use Rattle.ocfl_cursor.specs.declared.ends.PartEnds.{PartEnds}
 use Rattle.ocfl_cursor.specs.declared.part_reading.PartCursorStop.{PartCursorStop}

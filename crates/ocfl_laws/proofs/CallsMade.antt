@@ -6,8 +6,8 @@ use Rattle.std.specs.declared.alloc.Global.{Global}
 use Rattle.ocfl_tree.specs.{Place.{Text}, StorageRoot.{StorageRoot}, Store.{Store}}
 use Rattle.ocfl_tree.specs.declared.store.Opening.{Opening}
 use Rattle.ocfl_report.specs.Text.{text}
-use Rattle.ocfl_audit.specs.{Audit.{Unread, audit, total_cost}, Parts.{within}}
-use Rattle.ocfl_audit.specs.Runs.{total_files, IsAtLeast}
+use Rattle.ocfl_rules.specs.{Audit.{Unread, audit, total_cost}, Parts.{within}}
+use Rattle.ocfl_rules.specs.Runs.{total_files, IsAtLeast}
 use Rattle.ocfl_cursor.specs.{Cursor.{Cursor, IsCursor, ended}, Part.{IsPartText, part_text}}
 use Rattle.ocfl_cursor.specs.declared.ends.PartEnds.{PartEnds}
 use Rattle.ocfl_cursor.specs.declared.limits.Limits.{Limits as MadeLimits}

@@ -5,8 +5,8 @@ use Rattle.std.specs.{Prelude.{flat_map}, List.{AllByRecursion}}
 use Rattle.ocfl_tree.specs.{Place.{Place, place_cmp}, Ascending.{IsBeforeAll, IsAscending}}
 use Rattle.ocfl_tree.specs.{StorageRoot.{StorageRoot}, Store.{Store}}
 use Rattle.ocfl_tree.specs.declared.store.Opening.{Opening}
-use Rattle.ocfl_audit.specs.{Lines.{is_empty}, Parts.{Part}, Runs.{Limits}, Trail.{heads_of}}
-use Rattle.ocfl_audit.proofs.Trails.{filter_append}
+use Rattle.ocfl_rules.specs.{Lines.{is_empty}, Parts.{Part}, Runs.{Limits}, Trail.{heads_of}}
+use Rattle.ocfl_rules.proofs.Trails.{filter_append}
 use Rattle.ocfl_cursor.specs.Cursor.{Cursor, new_cursor}
 use Rattle.ocfl_scrub.specs.{Call.{Call, call_of}, Chaining.{MadeRun, IsMadeOf, CycleOfRunsWithin}}
 use Rattle.ocfl_scrub.specs.Running.{place_in, RunEndsWithin}

@@ -12,7 +12,7 @@ use Rattle.ocfl_cursor.specs.declared.refused.PartRefused.{PartRefused}
 use Rattle.ocfl_cursor.specs.declared.refused.Refused.{Refused}
 use Rattle.ocfl_cursor.proofs.PartLimited.{read_as_part}
 use Rattle.ocfl_cursor.proofs.{PartRefusals.{front-part_text}, Refusals.{only_memory}}
-use Rattle.ocfl_audit.specs.Runs.{Limits}
+use Rattle.ocfl_rules.specs.Runs.{Limits}
 use Rattle.ocfl_cursor.specs.declared.refused.PartRefused.TheVariants as part
 use Rattle.ocfl_cursor.specs.declared.refused.Refused.TheVariants as refused
 use Rattle.ocfl_deed.specs.declared.deed.Deed.TheVariants as deed

@@ -4,9 +4,9 @@ use Rattle.std.proofs.lemmas.Bool.{false≢true}
 use Rattle.ocfl_tree.specs.{Place.{Text}, StorageRoot.{StorageRoot}, Store.{Store}}
 use Rattle.ocfl_tree.specs.declared.store.Opening.{Opening}
 use Rattle.ocfl_report.specs.Text.{text}
-use Rattle.ocfl_audit.specs.{Audit.{audit, total_cost}, Due.{hashed_among, item_places}}
-use Rattle.ocfl_audit.specs.{Parts.{whole}, Runs.{Limits, IsAtLeast, joined, runs, total_files}}
-use Rattle.ocfl_audit.specs.Trail.{content_trail}
+use Rattle.ocfl_rules.specs.{Audit.{audit, total_cost}, Due.{hashed_among, item_places}}
+use Rattle.ocfl_rules.specs.{Parts.{whole}, Runs.{Limits, IsAtLeast, joined, runs, total_files}}
+use Rattle.ocfl_rules.specs.Trail.{content_trail}
 use Rattle.ocfl_scrub.specs.{Call.{Call, known_call}, Cycling.{HeadlineOf}}
 use Rattle.ocfl_scrub.specs.declared.cycling.CycleStatus.TheVariants as cycle
 use Rattle.ocfl_laws.proofs.JoinLaws.{places_are}

@@ -5,13 +5,13 @@ use Rattle.std.specs.{Prelude.{flat_map, slice_get}, List.{AllByRecursion, last_
 use Rattle.ocfl_tree.specs.{Place.{Place, place_cmp}, Ascending.{IsAscending}}
 use Rattle.ocfl_tree.specs.StorageRoot.{StorageRoot}
 use Rattle.ocfl_report.specs.{Line.{Item}, Text.{text}}
-use Rattle.ocfl_audit.specs.{Audit.{audit, after, item_of, total_cost}, Lines.{is_empty}}
-use Rattle.ocfl_audit.specs.Due.{item_places, hashed_among}
-use Rattle.ocfl_audit.specs.Parts.{Part, within, places_within, parts_of}
-use Rattle.ocfl_audit.specs.Runs.{Limits, cut, left, runs, total_files, IsAtLeast}
-use Rattle.ocfl_audit.specs.Trail.{content_trail, unread_of}
-use Rattle.ocfl_audit.proofs.PartLaws.{texts_join, hashed_join, within_by_places}
-use Rattle.ocfl_audit.proofs.RunLaws.{large_few}
+use Rattle.ocfl_rules.specs.{Audit.{audit, after, item_of, total_cost}, Lines.{is_empty}}
+use Rattle.ocfl_rules.specs.Due.{item_places, hashed_among}
+use Rattle.ocfl_rules.specs.Parts.{Part, within, places_within, parts_of}
+use Rattle.ocfl_rules.specs.Runs.{Limits, cut, left, runs, total_files, IsAtLeast}
+use Rattle.ocfl_rules.specs.Trail.{content_trail, unread_of}
+use Rattle.ocfl_rules.proofs.PartLaws.{texts_join, hashed_join, within_by_places}
+use Rattle.ocfl_rules.proofs.RunLaws.{large_few}
 use Rattle.ocfl_item.proofs.AuditingLaws.{hashed_append}
 use Rattle.ocfl_cursor.specs.Cursor.{Cursor}
 use Rattle.ocfl_scrub.specs.{Call.{known_call}, Written.{places}}

@@ -2,7 +2,7 @@
 use Rattle.std.proofs.Common.{◌≡◌, ℕ, List, [], ◌++◌, sym, subst, append-nil, Bool, Option, Some, None}
 use Rattle.ocfl_tree.specs.{Place.{Place, place_cmp}, Ascending.{IsAscending}}
 use Rattle.ocfl_tree.specs.declared.store.Opening.{Opening}
-use Rattle.ocfl_audit.specs.{Parts.{Part}, Runs.{Limits}, Trail.{heads_of}}
+use Rattle.ocfl_rules.specs.{Parts.{Part}, Runs.{Limits}, Trail.{heads_of}}
 use Rattle.ocfl_item.specs.{Looking.{IsFront}}
 use Rattle.ocfl_scrub.specs.declared.stop.ReportStop.{ReportStop}
 use Rattle.ocfl_scrub.specs.{Call.{Call}, Running.{RunEndsWithin}}

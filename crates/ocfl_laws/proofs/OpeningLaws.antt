@@ -4,11 +4,11 @@ use Rattle.ocfl_tree.specs.{Place.{Place}, Ascending.{IsAmong}, StorageRoot.{Sto
 use Rattle.ocfl_tree.specs.declared.store.Opening.{Opening}
 use Rattle.ocfl_tree.proofs.Orders.{among_filter, among_from_filter, among_left, among_map}
 use Rattle.ocfl_tree.proofs.Stores.{among_either}
-use Rattle.ocfl_audit.specs.{Due.{hashed_among}, Lines.{is_hashed}}
-use Rattle.ocfl_audit.specs.{Parts.{Part, lies_in, places_within}, Runs.{Limits}}
-use Rattle.ocfl_audit.specs.Trail.{is_meta, content_openings, content_trail}
-use Rattle.ocfl_audit.specs.Between.{looked_between}
-use Rattle.ocfl_audit.proofs.PartLaws.{places_within_is}
+use Rattle.ocfl_rules.specs.{Due.{hashed_among}, Lines.{is_hashed}}
+use Rattle.ocfl_rules.specs.{Parts.{Part, lies_in, places_within}, Runs.{Limits}}
+use Rattle.ocfl_rules.specs.Trail.{is_meta, content_openings, content_trail}
+use Rattle.ocfl_rules.specs.Between.{looked_between}
+use Rattle.ocfl_rules.proofs.PartLaws.{places_within_is}
 use Rattle.ocfl_item.specs.{Auditing.{LiesIn, LieIn}, Looking.{IsFront, way_to}}
 use Rattle.ocfl_scrub.specs.declared.stop.ReportStop.{ReportStop}
 use Rattle.ocfl_walk.specs.WalkCalls.{way_of}

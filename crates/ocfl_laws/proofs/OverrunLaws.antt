@@ -3,10 +3,10 @@ use Rattle.std.proofs.Common.{◌≡◌, ℕ, ◌+◌, ◌<◌, List, [], ◌∷
 use Rattle.std.specs.Prelude.{cond, ◌==◌}
 use Rattle.ocfl_tree.specs.Place.{Place}
 use Rattle.ocfl_report.specs.Line.{Item}
-use Rattle.ocfl_audit.specs.{Audit.{total_cost}, Parts.{Part}, Runs.{Limits, cut}}
+use Rattle.ocfl_rules.specs.{Audit.{total_cost}, Parts.{Part}, Runs.{Limits, cut}}
 use Rattle.ocfl_scrub.specs.Starting.{items_in}
 use Rattle.ocfl_scrub.specs.{Call.{Call}, Running.{taken_in, RunsWithin}}
-use Rattle.ocfl_audit.proofs.RunLaws.{cost_append}
+use Rattle.ocfl_rules.proofs.RunLaws.{cost_append}
 use Rattle.ocfl_scrub.proofs.{CutLaws.{last_cost, no_cost, paid_passes}, PartLaws.{cut_paid}}
 
 some_cost : (n : ℕ) → 0 < n → (c : ℕ) → cond (n == 0) c n ≡ n

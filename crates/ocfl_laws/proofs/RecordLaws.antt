@@ -7,11 +7,11 @@ use Rattle.ocfl_tree.specs.{Place.{Place, place_cmp}, Name.{IsPlace}, Ascending.
 use Rattle.ocfl_tree.specs.{StorageRoot.{StorageRoot}, Store.{Store}}
 use Rattle.ocfl_tree.specs.declared.store.Opening.{Opening}
 use Rattle.ocfl_report.specs.{Line.{Item, found}, Text.{place_text, text}}
-use Rattle.ocfl_audit.specs.{Lines.{is_empty}, Audit.{audit, after, total_cost}}
-use Rattle.ocfl_audit.specs.Due.{hashed_among, item_places}
-use Rattle.ocfl_audit.specs.Trail.{content_trail, heads_of, inventories, unread_of}
-use Rattle.ocfl_audit.specs.{Walk.{item_at}, Between.{looked_between, read_between}, Parts.{whole}}
-use Rattle.ocfl_audit.specs.Runs.{Limits, cut, left, runs, joined, total_files, IsAtLeast, FilesFit, sum_of}
+use Rattle.ocfl_rules.specs.{Lines.{is_empty}, Audit.{audit, after, total_cost}}
+use Rattle.ocfl_rules.specs.Due.{hashed_among, item_places}
+use Rattle.ocfl_rules.specs.Trail.{content_trail, heads_of, inventories, unread_of}
+use Rattle.ocfl_rules.specs.{Walk.{item_at}, Between.{looked_between, read_between}, Parts.{whole}}
+use Rattle.ocfl_rules.specs.Runs.{Limits, cut, left, runs, joined, total_files, IsAtLeast, FilesFit, sum_of}
 use Rattle.ocfl_item.specs.Looking.{failures_at, way_to}
 use Rattle.ocfl_scrub.specs.declared.stop.ReportStop.{ReportStop}
 use Rattle.ocfl_scrub.specs.declared.stop.ReportStop.TheVariants as halt

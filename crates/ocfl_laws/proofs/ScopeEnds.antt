@@ -4,7 +4,7 @@ use Rattle.std.proofs.lemmas.Bool.{true≢false}
 use Rattle.std.specs.{Prelude.{◌≢◌, ◌⊎◌}, declared.alloc.Global.{Global}, List.{last_or}}
 use Rattle.ocfl_tree.specs.{Place.{Text, Place}, declared.store.Opening.{Opening}}
 use Rattle.ocfl_report.specs.Line.{Item}
-use Rattle.ocfl_audit.specs.{Audit.{audit}, Parts.{branch, within}, Trail.{unread_of}}
+use Rattle.ocfl_rules.specs.{Audit.{audit}, Parts.{branch, within}, Trail.{unread_of}}
 use Rattle.ocfl_cursor.specs.{Cursor.{Cursor}, Part.{IsPartText}, Refusal.{IsTextOf}}
 use Rattle.ocfl_cursor.specs.{Stop.{is_read_as_part, max_part_text}, declared.ends.PartEnds.{PartEnds}}
 use Rattle.ocfl_cursor.specs.declared.refused.PartRefused.{PartRefused}

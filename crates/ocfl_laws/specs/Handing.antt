@@ -7,7 +7,7 @@ use Rattle.std.specs.declared.alloc.Global.{Global}
 use Rattle.ocfl_tree.specs.{Place.{Text, Place}, StorageRoot.{StorageRoot}, Store.{Store}}
 use Rattle.ocfl_tree.specs.declared.store.Opening.{Opening}
 use Rattle.ocfl_report.specs.Text.{text}
-use Rattle.ocfl_audit.specs.{Runs.{Limits}, Trail.{content_trail}}
+use Rattle.ocfl_rules.specs.{Runs.{Limits}, Trail.{content_trail}}
 use Rattle.ocfl_cursor.specs.{Cursor.{Cursor}, Part.{IsPartText}, declared.ends.PartEnds.{PartEnds}}
 use Rattle.ocfl_cursor.specs.declared.limits.Limits.{Limits as MadeLimits}
 use Rattle.ocfl_deed.specs.declared.deed.Deed.TheVariants as deed

@@ -1,7 +1,7 @@
 -- Runs of a part that went well, made one after the other, by whatever processes.
 use Rattle.std.specs.Prelude.{◌≡◌, List, [], ◌∷◌, ◌++◌, None, flat_map}
 use Rattle.ocfl_tree.specs.{Place.{Text, Place}, StorageRoot.{StorageRoot}, Store.{Store}}
-use Rattle.ocfl_audit.specs.{Parts.{Part}, Trail.{content_trail}}
+use Rattle.ocfl_rules.specs.{Parts.{Part}, Trail.{content_trail}}
 use Rattle.ocfl_cursor.specs.Cursor.{Cursor}
 use Rattle.ocfl_scrub.specs.{Call.{known_call}, Running.{place_in, RunsFromWithin}}
 use Rattle.ocfl_scrub.specs.Joining.{PartRun, PartCycle}

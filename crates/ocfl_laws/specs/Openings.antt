@@ -2,7 +2,7 @@
 use Rattle.std.specs.Prelude.{◌≡◌, ◌⊎◌, List, ◌++◌, true, Option, Some}
 use Rattle.ocfl_tree.specs.{Place.{Place}, Ascending.{IsAmong}, Store.{Store}}
 use Rattle.ocfl_tree.specs.declared.store.Opening.{Opening}
-use Rattle.ocfl_audit.specs.Parts.{Part, lies_in}
+use Rattle.ocfl_rules.specs.Parts.{Part, lies_in}
 use Rattle.ocfl_item.specs.Auditing.{LiesIn}
 use Rattle.ocfl_scrub.specs.Starting.{entry}
 

@@ -1,7 +1,7 @@
 -- What an audit, a run and a cycle do over the whole storage root, which is one part.
 use Rattle.std.specs.Prelude.{ℕ, List, Bool, Option}
 use Rattle.ocfl_tree.specs.Place.{Place}
-use Rattle.ocfl_audit.specs.{Parts.{whole}, Runs.{Limits}}
+use Rattle.ocfl_rules.specs.{Parts.{whole}, Runs.{Limits}}
 use Rattle.ocfl_cursor.specs.Cursor.{Cursor}
 use Rattle.ocfl_scrub.specs.Call.{Call}
 use Rattle.ocfl_scrub.specs.declared.cycling.CycleStatus.{CycleStatus}

@@ -5,10 +5,10 @@ ghost use Rattle.ocfl_tree.specs.{Place.{Place, place_cmp}, Ascending.{IsAmong, 
 ghost use Rattle.ocfl_tree.specs.{StorageRoot.{StorageRoot}, Store.{Store}};
 ghost use Rattle.ocfl_tree.specs.declared.store.Opening.{Opening};
 ghost use Rattle.ocfl_report.specs.{Line.{Item}, Text.{text}};
-ghost use Rattle.ocfl_audit.specs.{Audit.{audit, total_cost}, Parts.{Part}};
-ghost use Rattle.ocfl_audit.specs.Runs.{IsAtLeast, Limits, joined, runs, total_files};
-ghost use Rattle.ocfl_audit.specs.{Trail.{content_trail}, Between.{looked_between, read_between}};
-ghost use Rattle.ocfl_audit.specs.{Due.{hashed_among, item_places}, Lines.{is_hashed}};
+ghost use Rattle.ocfl_rules.specs.{Audit.{audit, total_cost}, Parts.{Part}};
+ghost use Rattle.ocfl_rules.specs.Runs.{IsAtLeast, Limits, joined, runs, total_files};
+ghost use Rattle.ocfl_rules.specs.{Trail.{content_trail}, Between.{looked_between, read_between}};
+ghost use Rattle.ocfl_rules.specs.{Due.{hashed_among, item_places}, Lines.{is_hashed}};
 ghost use Rattle.ocfl_cursor.specs.Cursor.{Cursor, new_cursor, cursor_lines, cursor_text};
 ghost use Rattle.ocfl_cursor.specs.{Moves.{after_run}, Part.{IsPartText, part_lines}};
 ghost use Rattle.ocfl_cursor.specs.Refusal.{IsTextOf, refusal};

@@ -1,7 +1,7 @@
 //! The main promise: what a cycle keeps while the root stays unchanged and every call succeeds. It
 //! follows from what the contract of a cycle says of its runs (`told`).
 ghost use Rattle.std.specs.Prelude.{List};
-ghost use Rattle.ocfl_audit.specs.{Parts.{Part, whole}, Runs.{Limits}};
+ghost use Rattle.ocfl_rules.specs.{Parts.{Part, whole}, Runs.{Limits}};
 ghost use Rattle.ocfl_scrub.specs.Call.{Call, IsUnfailing};
 ghost use Rattle.ocfl_scrub.specs.declared.cycling.CycleEnd.{CycleEnd};
 ghost use Rattle.ocfl_scrub.specs.Chaining.{CycleOfRunsWithin};

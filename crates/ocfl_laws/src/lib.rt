@@ -33,7 +33,7 @@
 //!   are called unreadable (`parts_with_runs_that_stop_join`).
 //!
 //! Audits of parts, each with its own unreadable files, join in the same way (`parts_apart_join` of
-//! `ocfl_audit`).
+//! `ocfl_rules`).
 #![tactic(auto)]
 
 pub mod commands;

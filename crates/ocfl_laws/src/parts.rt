@@ -6,10 +6,10 @@ ghost use Rattle.ocfl_tree.specs.{Place.{Place, Text, place_cmp}, Ascending.{IsA
 ghost use Rattle.ocfl_tree.specs.{StorageRoot.{StorageRoot}, Store.{Store}};
 ghost use Rattle.ocfl_tree.specs.declared.store.Opening.{Opening};
 ghost use Rattle.ocfl_report.specs.Text.{text};
-ghost use Rattle.ocfl_audit.specs.{Audit.{audit, total_cost}, Due.{hashed_among, item_places}};
-ghost use Rattle.ocfl_audit.specs.{Lines.{is_empty}, Parts.{Part, parts_of, places_within, within}};
-ghost use Rattle.ocfl_audit.specs.Runs.{IsAtLeast, Limits, total_files};
-ghost use Rattle.ocfl_audit.specs.Trail.{content_trail, heads_of};
+ghost use Rattle.ocfl_rules.specs.{Audit.{audit, total_cost}, Due.{hashed_among, item_places}};
+ghost use Rattle.ocfl_rules.specs.{Lines.{is_empty}, Parts.{Part, parts_of, places_within, within}};
+ghost use Rattle.ocfl_rules.specs.Runs.{IsAtLeast, Limits, total_files};
+ghost use Rattle.ocfl_rules.specs.Trail.{content_trail, heads_of};
 ghost use Rattle.ocfl_cursor.specs.Cursor.{Cursor, ended};
 ghost use Rattle.ocfl_item.specs.Auditing.{FailedAt};
 ghost use Rattle.ocfl_item.specs.declared.fault.Fault.TheVariants as fault;

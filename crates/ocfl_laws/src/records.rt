@@ -6,12 +6,12 @@ ghost use Rattle.ocfl_tree.specs.{Place.{Place, Text, place_cmp}, Name.{IsPlace}
 ghost use Rattle.ocfl_tree.specs.{Ascending.{IsAscending}, StorageRoot.{StorageRoot}};
 ghost use Rattle.ocfl_tree.specs.{Store.{Store}, declared.store.Opening.{Opening}};
 ghost use Rattle.ocfl_report.specs.{Line.{Item, found}, Text.{place_text, text}};
-ghost use Rattle.ocfl_audit.specs.{Lines.{is_empty}, Audit.{audit, after, total_cost}};
-ghost use Rattle.ocfl_audit.specs.Due.{hashed_among, item_places};
-ghost use Rattle.ocfl_audit.specs.Trail.{content_trail, heads_of, inventories, unread_of};
-ghost use Rattle.ocfl_audit.specs.{Walk.{item_at}, Between.{looked_between, read_between}};
-ghost use Rattle.ocfl_audit.specs.Parts.{Part, whole};
-ghost use Rattle.ocfl_audit.specs.Runs.{Limits, cut, left, runs, joined, total_files, IsAtLeast, FilesFit, sum_of};
+ghost use Rattle.ocfl_rules.specs.{Lines.{is_empty}, Audit.{audit, after, total_cost}};
+ghost use Rattle.ocfl_rules.specs.Due.{hashed_among, item_places};
+ghost use Rattle.ocfl_rules.specs.Trail.{content_trail, heads_of, inventories, unread_of};
+ghost use Rattle.ocfl_rules.specs.{Walk.{item_at}, Between.{looked_between, read_between}};
+ghost use Rattle.ocfl_rules.specs.Parts.{Part, whole};
+ghost use Rattle.ocfl_rules.specs.Runs.{Limits, cut, left, runs, joined, total_files, IsAtLeast, FilesFit, sum_of};
 ghost use Rattle.ocfl_item.specs.Looking.{failures_at, way_to};
 ghost use Rattle.ocfl_walk.specs.WalkCalls.{holder, way_of};
 ghost use Rattle.ocfl_cursor.specs.Cursor.{Cursor, start, behind, ended, cursor_text, new_cursor};

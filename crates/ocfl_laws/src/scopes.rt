@@ -2,7 +2,7 @@
 ghost use Rattle.std.specs.Prelude.{◌≡◌, ◌≢◌, ◌⊎◌, ◌≤◌, ◌++◌, ℕ, List, [], Option, Some, Vec, length};
 ghost use Rattle.std.specs.declared.alloc.Global.{Global};
 ghost use Rattle.ocfl_tree.specs.{Place.{Place}, declared.store.Opening.{Opening}};
-ghost use Rattle.ocfl_audit.specs.Parts.{branch};
+ghost use Rattle.ocfl_rules.specs.Parts.{branch};
 ghost use Rattle.ocfl_cursor.specs.{Cursor.{Cursor}, Part.{IsPartText}, Refusal.{IsTextOf}};
 ghost use Rattle.ocfl_cursor.specs.{Stop.{max_part_text}, declared.ends.PartEnds.{PartEnds}};
 ghost use Rattle.ocfl_cursor.specs.declared.refused.PartRefused.{PartRefused};

@@ -3,7 +3,7 @@ use Rattle.std.proofs.Common.{◌≡◌, ◌≢◌, ◌⊎◌, ⊎_elim, inl, in
 use Rattle.std.proofs.lemmas.List.{append-nil}
 use Rattle.std.specs.Prelude.{IfOk}
 use Rattle.ocfl_tree.specs.{Place.{Text, Place, place_cmp}, Ascending.{IsAmong, IsAscending}, StorageRoot.{StorageRoot}, Store.{Store}}
-use Rattle.ocfl_audit.specs.Parts.{Part}
+use Rattle.ocfl_rules.specs.Parts.{Part}
 use Rattle.ocfl_cursor.specs.{Cursor.{Cursor, State, ended}, declared.limits.Limits.{Limits}}
 use Rattle.ocfl_scrub.specs.{Keeping.{met_at, met_in}, declared.kept.KeptWalk.{KeptWalk}}
 use Rattle.ocfl_scrub.specs.{Joining.{is_taken}, Running.{begun, begun_in}, declared.running.RunEnd.{RunEnd}}
@@ -24,7 +24,7 @@ use Rattle.ocfl_night.specs.{Leaving.{done_by, remedy_at}, declared.tally.Remedy
 use Rattle.ocfl_night.specs.declared.tally.Remedy.TheVariants as remedy
 use Rattle.ocfl_night.specs.declared.slicing.SliceEnd.TheVariants as slice
 use Rattle.ocfl_tree.proofs.Stores.{among_either}
-use Rattle.ocfl_audit.proofs.BelowLaws.{ascends_append}
+use Rattle.ocfl_rules.proofs.BelowLaws.{ascends_append}
 use Rattle.ocfl_scrub.proofs.Lists.{ascends_left}
 use Rattle.ocfl_night.proofs.{Beginnings.{cycle_next}, Foreigners.{at_once}, Moments.{OnlyNow, joined_moments, leaves, leaves_weaker, left_after, unmoved}}
 use Rattle.ocfl_night.proofs.{Reading.{content_first_alone, content_none, reached_next, taken_below}, Runs.{stops_open}, Sound.{closing_of}}

@@ -1,12 +1,12 @@
 -- What holds of any nights.
 use Rattle.std.proofs.Common.{◌≡◌, ◌≢◌, inl, inr, ⊎_elim, ℕ, ◌+◌, List, [], ◌∷◌, ◌++◌, take, length, Option, Some, None, MatchOption, refl, sym, ◌∙◌, ap, subst, arith, Bool, true, false, not, ◌&&◌, filter}
-use Rattle.ocfl_audit.proofs.{PartLaws.{filter_twice}, Lists.{filter_same}}
+use Rattle.ocfl_rules.proofs.{PartLaws.{filter_twice}, Lists.{filter_same}}
 use Rattle.std.specs.{Prelude.{map}, List.{AllByRecursion}}
 use Rattle.ocfl_tree.specs.{Place.{Place, Text}, Ascending.{IsAmong}, StorageRoot.{StorageRoot}}
 use Rattle.ocfl_tree.specs.{Store.{Store, failed_openings}, declared.store.Opening.{Opening}}
 use Rattle.ocfl_tree.proofs.{Orders.{among_from_filter, among_left, among_right}, Stores.{among_either}}
 use Rattle.ocfl_report.specs.Text.{text}
-use Rattle.ocfl_audit.specs.{Audit.{Unread, audit}, Parts.{Part, within}, Trail.{is_meta, unread_of}}
+use Rattle.ocfl_rules.specs.{Audit.{Unread, audit}, Parts.{Part, within}, Trail.{is_meta, unread_of}}
 use Rattle.ocfl_cursor.specs.Cursor.{Cursor, ended}
 use Rattle.ocfl_scrub.specs.{Running.{begun, place_in}, Joining.{PartRun, Ran, AreOneCycle, cursor_after, is_taken, reports_of, unread_by, unread_together}}
 use Rattle.ocfl_state.specs.{Checkpoint.{Checkpoint}, Content.{Content, Closed, empty}}

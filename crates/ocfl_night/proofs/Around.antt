@@ -7,9 +7,9 @@ use Rattle.std.specs.{Prelude.{filter, not, cond, ◌&&◌, slice_get}, List.{Al
 use Rattle.ocfl_tree.specs.{Place.{Text, Place, place_cmp}, StorageRoot.{StorageRoot}}
 use Rattle.ocfl_tree.specs.declared.store.Opening.{Opening}
 use Rattle.ocfl_report.specs.{Line.{Item}, Text.{text}}
-use Rattle.ocfl_audit.specs.{Audit.{Unread, audit, after}, Parts.{Part, within}}
-use Rattle.ocfl_audit.specs.{Runs.{Limits, cut, left}, Trail.{unread_of}}
-use Rattle.ocfl_audit.proofs.{PartLaws.{filter_twice}, Lists.{filter_same}}
+use Rattle.ocfl_rules.specs.{Audit.{Unread, audit, after}, Parts.{Part, within}}
+use Rattle.ocfl_rules.specs.{Runs.{Limits, cut, left}, Trail.{unread_of}}
+use Rattle.ocfl_rules.proofs.{PartLaws.{filter_twice}, Lists.{filter_same}}
 use Rattle.ocfl_cursor.specs.Cursor.{Cursor}
 use Rattle.ocfl_scrub.specs.{Call.{Call, known_call}, Written.{places}}
 use Rattle.ocfl_scrub.specs.Running.{place_in, state_after, RunEndsWithin}

@@ -4,7 +4,7 @@ use Rattle.std.specs.Prelude.{IfErr, IfOk, OnErr, ⊤}
 use Rattle.ocfl_tree.specs.{Place.{Place, Text}, Ascending.{IsAmong}, StorageRoot.{StorageRoot, at}}
 use Rattle.ocfl_tree.specs.{Store.{Did, Store}, declared.store.Opening.{Opening}}
 use Rattle.ocfl_tree.proofs.Orders.{among_left}
-use Rattle.ocfl_audit.specs.Parts.{Part}
+use Rattle.ocfl_rules.specs.Parts.{Part}
 use Rattle.ocfl_item.specs.{Judging.{HasShortFiles}, Looking.{IsFront}}
 use Rattle.ocfl_identity.specs.Identity.{AreNamed, IsUnread, OpensFirst, in_listing, in_opening, openings_of, too_long}
 use Rattle.ocfl_identity.specs.declared.identity.NoIdentity.{NoIdentity}

@@ -5,8 +5,8 @@ use Rattle.std.specs.Prelude.{◌&&◌, ◌||◌, All, IsTrue, List, nat_le, nat
 use Rattle.ocfl_tree.specs.{Name.{IsName}, Place.{Text, Place}}
 use Rattle.ocfl_inventory.specs.Declaration.{is_declaration}
 use Rattle.ocfl_inventory.specs.declared.declaration.Level.TheVariants.{Root}
-use Rattle.ocfl_audit.specs.Trail.{is_root_meta}
-use Rattle.ocfl_audit.proofs.BranchLaws.{end_is_name}
+use Rattle.ocfl_rules.specs.Trail.{is_root_meta}
+use Rattle.ocfl_rules.proofs.BranchLaws.{end_is_name}
 use Rattle.ocfl_night.specs.Chain.{past}
 use Rattle.ocfl_night.specs.Done.{Done}
 use Rattle.ocfl_night.specs.Leaving.{MayLeave, branch_at, branch_for, end_of, has_end, is_at, last_name, remedy_at, remedy_by, tried_by}

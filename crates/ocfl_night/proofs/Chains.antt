@@ -4,7 +4,7 @@ use Rattle.std.proofs.{lemmas.List.{append-nil, take_all, take-append-le}, lemma
 use Rattle.std.proofs.{lemmas.Bool.Decides.{eqb_tells}, lemmas.List.Concat.{flat_map-append}}
 use Rattle.std.specs.Prelude.{slice_get}
 use Rattle.ocfl_tree.specs.{Place.{Text, Place}, Ascending.{IsAmong}, StorageRoot.{StorageRoot}}
-use Rattle.ocfl_audit.specs.Parts.{Part}
+use Rattle.ocfl_rules.specs.Parts.{Part}
 use Rattle.ocfl_cursor.specs.{Cursor.{Cursor, State, ended}, Moves.{after_run}}
 use Rattle.ocfl_scrub.specs.Running.{place_in, begun, begun_in, state_after}
 use Rattle.ocfl_scrub.specs.Joining.{PartRun, Ran}

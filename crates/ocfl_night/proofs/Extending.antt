@@ -5,9 +5,9 @@ use Rattle.ocfl_tree.specs.Calls.{opening}
 use Rattle.ocfl_item.specs.Auditing.{FailedAt, in_listing, in_opening}
 use Rattle.ocfl_tree.specs.{Store.{Did, Store, failed_openings}, declared.store.Opening.{Opening}}
 use Rattle.ocfl_report.specs.Text.{text}
-use Rattle.ocfl_audit.specs.{Audit.{Unread}, Parts.{Part}, Runs.{Limits}, Trail.{content_trail, unread_of}}
-use Rattle.ocfl_audit.specs.Due.{hashed_among}
-use Rattle.ocfl_audit.proofs.Trails.{content_behind, unread_behind}
+use Rattle.ocfl_rules.specs.{Audit.{Unread}, Parts.{Part}, Runs.{Limits}, Trail.{content_trail, unread_of}}
+use Rattle.ocfl_rules.specs.Due.{hashed_among}
+use Rattle.ocfl_rules.proofs.Trails.{content_behind, unread_behind}
 use Rattle.ocfl_cursor.specs.Cursor.{Cursor}
 use Rattle.ocfl_scrub.specs.{Call.{Call, known_call}, Keeping.{GoesOnFrom, RunsOn}, Joining.{PartRun, Ran, items_out}}
 use Rattle.ocfl_item.specs.declared.fault.Fault.TheVariants as fault

@@ -6,7 +6,7 @@ use Rattle.ocfl_tree.specs.{Place.{Text, Place, place_eq}, Ascending.{IsAmong}, 
 use Rattle.ocfl_tree.specs.{Store.{Store, Did, failed_openings}, declared.store.Opening.{Opening}}
 use Rattle.ocfl_tree.specs.Calls.{opening}
 use Rattle.ocfl_tree.proofs.{Orders.{among_left, among_right}, Places.{place_eq-same}}
-use Rattle.ocfl_audit.specs.{Audit.{Unread}, Trail.{unread_of}}
+use Rattle.ocfl_rules.specs.{Audit.{Unread}, Trail.{unread_of}}
 use Rattle.ocfl_item.proofs.AuditingLaws.{unread_append}
 use Rattle.ocfl_item.specs.Judging.{HasShortFiles}
 use Rattle.ocfl_identity.specs.Identity.{IsUnread, OpensFirst, in_listing, in_opening, too_long}

@@ -6,8 +6,8 @@ use Rattle.ocfl_tree.specs.StorageRoot.{StorageRoot}
 use Rattle.ocfl_tree.proofs.Bools.{and_both, and_first, and_second}
 use Rattle.ocfl_tree.proofs.Orders.{among_filter, among_from_filter, among_left, among_map, among_right}
 use Rattle.ocfl_report.specs.Line.{Item}
-use Rattle.ocfl_audit.specs.{Audit.{after, audit}, Parts.{Part, is_below, is_from, lies_in, within}}
-use Rattle.ocfl_audit.proofs.{BranchLaws.{enclosed_is}, PartLaws.{within_is}}
+use Rattle.ocfl_rules.specs.{Audit.{after, audit}, Parts.{Part, is_below, is_from, lies_in, within}}
+use Rattle.ocfl_rules.proofs.{BranchLaws.{enclosed_is}, PartLaws.{within_is}}
 use Rattle.ocfl_scrub.specs.Starting.{due_within}
 use Rattle.ocfl_scrub.proofs.{AuditLaws.{places_of_items}, PartStarts.{above_in}}
 use Rattle.ocfl_state.specs.declared.checkpoint_parts.Left.{Left}

@@ -9,8 +9,8 @@ use Rattle.ocfl_tree.specs.{Listing.{entries_in}, Store.{Store, Did}, declared.s
 use Rattle.ocfl_tree.proofs.{Bools.{and_second}, Orders.{among_left, below_from_greater, less_from, place_cmp_exact, place_cmp_total, true_not_false}, Stores.{among_either}}
 use Rattle.ocfl_inventory.specs.{Declaration.{is_declaration}, Entries.{is_counted, is_file}}
 use Rattle.ocfl_inventory.specs.declared.declaration.Level.TheVariants.{Root}
-use Rattle.ocfl_audit.specs.{Trail.{content_trail, is_meta, is_meta_zone}, Zone.{zone}}
-use Rattle.ocfl_audit.proofs.BelowLaws.{ascends_append}
+use Rattle.ocfl_rules.specs.{Trail.{content_trail, is_meta, is_meta_zone}, Zone.{zone}}
+use Rattle.ocfl_rules.proofs.BelowLaws.{ascends_append}
 use Rattle.ocfl_item.proofs.AuditingLaws.{trail_append}
 use Rattle.ocfl_item.specs.Judging.{HasShortFiles}
 use Rattle.ocfl_item.specs.declared.fault.Fault.TheVariants as fault

@@ -8,9 +8,9 @@ use Rattle.ocfl_tree.specs.{Place.{Place, place_cmp}, Ascending.{IsAscending, Is
 use Rattle.ocfl_tree.specs.{declared.store.Opening.{Opening}}
 use Rattle.ocfl_tree.proofs.Orders.{among_from_filter, ascends_filter, before_each, not_both_below, not_less, not_less_itself, place_cmp_total, true_not_false}
 use Rattle.ocfl_report.specs.Line.{Item}
-use Rattle.ocfl_audit.specs.{Between.{IsBeyond}, Due.{due, hashed_among}, Lines.{is_hashed}}
-use Rattle.ocfl_audit.specs.{Parts.{Part, lies_in}, Runs.{Limits, left}, Trail.{content_trail}}
-use Rattle.ocfl_audit.proofs.PartLaws.{places_within_is}
+use Rattle.ocfl_rules.specs.{Between.{IsBeyond}, Due.{due, hashed_among}, Lines.{is_hashed}}
+use Rattle.ocfl_rules.specs.{Parts.{Part, lies_in}, Runs.{Limits, left}, Trail.{content_trail}}
+use Rattle.ocfl_rules.proofs.PartLaws.{places_within_is}
 use Rattle.ocfl_cursor.specs.Cursor.{State, start, behind, ended, Cursor}
 use Rattle.ocfl_scrub.specs.{Call.{Call, known_call}, Joining.{PartRun, Ran, is_taken}}
 use Rattle.ocfl_scrub.specs.Running.{RunEndsWithin, RunsWithin, RunStopsWithin, begun, begun_in, place_in, state_after, taken_in}

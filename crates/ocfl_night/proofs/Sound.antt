@@ -2,7 +2,7 @@
 use Rattle.std.proofs.Common.{◌≡◌, ◌≢◌, ◌⊎◌, inl, inr, ℕ, ◌-◌, ◌≤◌, List, [], ◌∷◌, ◌++◌, length, take, drop, Option, None, MatchOption, Bool, ◌&&◌, refl, sym, ◌∙◌, ap, subst, arith, append_assoc, length-append, true, false, take-append-drop}
 use Rattle.std.proofs.lemmas.List.{append-nil, take_all, take-append-le, length-drop}
 use Rattle.ocfl_tree.specs.Place.{Text, Place}
-use Rattle.ocfl_audit.specs.{Lines.{is_empty}, Parts.{Part}}
+use Rattle.ocfl_rules.specs.{Lines.{is_empty}, Parts.{Part}}
 use Rattle.ocfl_cursor.specs.Cursor.{Cursor}
 use Rattle.ocfl_scrub.specs.{Running.{place_in, begun}, declared.running.RunEnd.{RunEnd}}
 use Rattle.ocfl_scrub.specs.declared.running.RunStatus.{RunStatus}

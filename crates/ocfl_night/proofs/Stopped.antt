@@ -9,11 +9,11 @@ use Rattle.ocfl_tree.proofs.Orders.{among_filter, among_from_filter, among_map, 
 use Rattle.ocfl_digest.specs.declared.algorithm.Algorithm.TheVariants.{Sha256, Sha512}
 use Rattle.ocfl_inventory.specs.Declaration.{is_declaration}
 use Rattle.ocfl_inventory.specs.declared.declaration.Level.TheVariants.{Object}
-use Rattle.ocfl_audit.specs.{Due.{hashed_among}, Head.{sidecar_name}, Parts.{Part}}
-use Rattle.ocfl_audit.specs.Lines.{is_hashed, is_inventory_or_sidecar}
-use Rattle.ocfl_audit.specs.Trail.{content_openings, is_meta, is_meta_zone, is_object_meta, is_root_meta}
-use Rattle.ocfl_audit.specs.Zone.{Zone, skipped, hierarchy, inside, inventory_name, zone}
-use Rattle.ocfl_audit.proofs.{AuditExists.{zone_is}, BelowLaws.{cmp_behind, text_from_test}, BranchLaws.{nothing_above}}
+use Rattle.ocfl_rules.specs.{Due.{hashed_among}, Head.{sidecar_name}, Parts.{Part}}
+use Rattle.ocfl_rules.specs.Lines.{is_hashed, is_inventory_or_sidecar}
+use Rattle.ocfl_rules.specs.Trail.{content_openings, is_meta, is_meta_zone, is_object_meta, is_root_meta}
+use Rattle.ocfl_rules.specs.Zone.{Zone, skipped, hierarchy, inside, inventory_name, zone}
+use Rattle.ocfl_rules.proofs.{AuditExists.{zone_is}, BelowLaws.{cmp_behind, text_from_test}, BranchLaws.{nothing_above}}
 use Rattle.ocfl_item.specs.{Auditing.{Fails, FailedAt, in_listing, in_opening}}
 use Rattle.ocfl_item.specs.declared.fault.Fault.TheVariants as fault
 use Rattle.ocfl_cursor.specs.Cursor.{Cursor}

@@ -3,7 +3,7 @@
 use Rattle.std.specs.Prelude.{◌≡◌, ◌⊎◌, List, [], ◌∷◌, ◌++◌, Option, Some, None, ⊤}
 use Rattle.ocfl_tree.specs.{Listing.{entries_in}, Place.{Place, Text}, StorageRoot.{StorageRoot}}
 use Rattle.ocfl_tree.specs.{Store.{Store}, declared.store.Opening.{Opening}}
-use Rattle.ocfl_audit.specs.{Parts.{Part}, Runs.{Limits}}
+use Rattle.ocfl_rules.specs.{Parts.{Part}, Runs.{Limits}}
 use Rattle.ocfl_item.specs.Looking.{IsFront}
 use Rattle.ocfl_identity.specs.Identity.{AreNamed, declarations_among}
 use Rattle.ocfl_identity.specs.declared.identity.Identity.{Identity}

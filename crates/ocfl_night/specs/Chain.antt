@@ -4,7 +4,7 @@ use Rattle.std.specs.Prelude.{◌≡◌, ◌≢◌, ◌⊎◌, ℕ, ◌+◌, Lis
 use Rattle.std.specs.{List.{AllByRecursion}, Ordering.{is_lt}}
 use Rattle.ocfl_tree.specs.{Place.{Text, Place, begins, place_cmp}, Ascending.{IsAmong}, StorageRoot.{StorageRoot}}
 use Rattle.ocfl_report.specs.Line.{Item}
-use Rattle.ocfl_audit.specs.{Audit.{after}, Parts.{Part, within}, Trail.{unread_of}}
+use Rattle.ocfl_rules.specs.{Audit.{after}, Parts.{Part, within}, Trail.{unread_of}}
 use Rattle.ocfl_cursor.specs.Cursor.{Cursor}
 use Rattle.ocfl_scrub.specs.{Running.{place_in}, Joining.{PartRun, Ran}, Starting.{due_within}}
 use Rattle.ocfl_scrub.specs.declared.running.RunStatus.TheVariants as status

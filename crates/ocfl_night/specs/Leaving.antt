@@ -4,7 +4,7 @@ use Rattle.std.specs.List.{starts_with}
 use Rattle.ocfl_tree.specs.Place.{Text, Place, text_eq, place_eq}
 use Rattle.ocfl_inventory.specs.Declaration.{is_declaration}
 use Rattle.ocfl_inventory.specs.declared.declaration.Level.TheVariants.{Object}
-use Rattle.ocfl_audit.specs.{Trail.{is_root_meta}, Zone.{inventory_name}}
+use Rattle.ocfl_rules.specs.{Trail.{is_root_meta}, Zone.{inventory_name}}
 use Rattle.ocfl_item.specs.declared.fault.Fault.TheVariants as fault
 use Rattle.ocfl_state.specs.{Checkpoint.{Checkpoint}, declared.checkpoint_parts.Left.{Left}}
 use Rattle.ocfl_night.specs.{Chain.{past}, Done.{Done, counted}, Site.{IsAlike}, Steps.{with_left}, declared.plan.Pause.{Pause}}

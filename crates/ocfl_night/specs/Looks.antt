@@ -2,7 +2,7 @@
 use Rattle.std.specs.Prelude.{◌≡◌, ◌&&◌, ℕ, ◌+◌, ◌≤◌, List, ◌++◌, Option, None, IfSome, drop, filter, length}
 use Rattle.ocfl_tree.specs.{Place.{Place, place_eq}, Ascending.{IsAmong}, StorageRoot.{StorageRoot}}
 use Rattle.ocfl_tree.specs.{Store.{Store, failed_openings}, declared.store.Opening.{Opening}}
-use Rattle.ocfl_audit.specs.{Audit.{Unread}, Parts.{Part}, Trail.{unread_of}}
+use Rattle.ocfl_rules.specs.{Audit.{Unread}, Parts.{Part}, Trail.{unread_of}}
 
 -- ---- of a store
 

@@ -1,7 +1,7 @@
 -- What the steps of a night promise of a state folder, and when.
 use Rattle.std.specs.Prelude.{◌≡◌, [], ◌∷◌, ◌++◌, Bool, IsTrue, Ok, false}
 use Rattle.ocfl_tree.specs.{Place.{Place, Text}, StorageRoot.{StorageRoot}, Store.{Store, IfTold}}
-use Rattle.ocfl_audit.specs.Parts.{Part}
+use Rattle.ocfl_rules.specs.Parts.{Part}
 use Rattle.ocfl_item.specs.Judging.{HasShortFiles}
 use Rattle.ocfl_scrub.specs.{Running.{place_in}, declared.kept.KeptWalk.{KeptWalk}}
 use Rattle.ocfl_state.specs.declared.folder.StateFolder as state

@@ -2,7 +2,7 @@
 use Rattle.std.specs.Prelude.{◌≡◌, ◌≢◌, ℕ, List, [], ◌∷◌, true, false, Option, Some, None, Result, Ok, Err, ⊤}
 use Rattle.ocfl_tree.specs.{Place.{Place, place_cmp}, Ascending.{IsAmong, IsAscending}}
 use Rattle.ocfl_tree.specs.{StorageRoot.{StorageRoot}, Store.{Store}}
-use Rattle.ocfl_audit.specs.Trail.{content_trail}
+use Rattle.ocfl_rules.specs.Trail.{content_trail}
 use Rattle.ocfl_inventory.specs.Declaration.{is_declaration}
 use Rattle.ocfl_inventory.specs.declared.declaration.Level.TheVariants.{Root}
 use Rattle.ocfl_cursor.specs.Cursor.{Cursor, State}

@@ -1,6 +1,6 @@
 -- Whose a checkpoint is, and what it says of the root.
 use Rattle.std.specs.Prelude.{◌≡◌, ◌≢◌, ◌⊎◌, ◌||◌, ◌+◌, ◌<◌, ◌≤◌, [], Bool, true, false, Option, Some, None, if◌then◌else◌, is_none, length, nat_lt}
-use Rattle.ocfl_audit.specs.Parts.{Part, whole}
+use Rattle.ocfl_rules.specs.Parts.{Part, whole}
 use Rattle.ocfl_cursor.specs.{Cursor.{new_cursor}, declared.ends.PartEnds.{PartEnds}}
 use Rattle.ocfl_scope.specs.Numbered.{part_between}
 use Rattle.ocfl_scrub.specs.Running.{place_in}

@@ -1,7 +1,7 @@
 -- What the steps of a night do to a state folder.
 use Rattle.std.specs.Prelude.{◌≡◌, ◌≢◌, ◌⊎◌, ◌↔◌, ℕ, ◌-◌, ◌≤◌, min, [], ◌∷◌, ◌++◌, ◌&&◌, Bool, IsTrue, true, false, if◌then◌else◌, Option, Some, None, length, take, drop, ⊤}
 use Rattle.ocfl_tree.specs.{Place.{Text, Place}, StorageRoot.{StorageRoot}}
-use Rattle.ocfl_audit.specs.{Lines.{is_empty}, Parts.{Part}, Trail.{unread_of}}
+use Rattle.ocfl_rules.specs.{Lines.{is_empty}, Parts.{Part}, Trail.{unread_of}}
 use Rattle.ocfl_cursor.specs.Cursor.{Cursor}
 use Rattle.ocfl_scrub.specs.{Running.{place_in}, Joining.{PartRun, Ran}}
 use Rattle.ocfl_scrub.specs.{Keeping.{IsReady as IsWalkReady}, declared.kept.KeptWalk.{KeptWalk}}

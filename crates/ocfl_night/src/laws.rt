@@ -4,7 +4,7 @@ ghost use Rattle.ocfl_tree.specs.{Ascending.{IsAmong, IsAscending}, Name.{IsPlac
 ghost use Rattle.ocfl_tree.specs.{StorageRoot.{StorageRoot}, Store.{Store}};
 ghost use Rattle.ocfl_item.specs.Judging.{HasShortFiles};
 ghost use Rattle.ocfl_report.specs.{Line.{Item}, Text.{text}};
-ghost use Rattle.ocfl_audit.specs.{Audit.{after, audit}, Parts.{Part, within}, Trail.{unread_of}};
+ghost use Rattle.ocfl_rules.specs.{Audit.{after, audit}, Parts.{Part, within}, Trail.{unread_of}};
 ghost use Rattle.ocfl_cursor.specs.Cursor.{Cursor};
 ghost use Rattle.ocfl_scrub.specs.{Joining.{unread_together}, Running.{place_in}};
 ghost use Rattle.ocfl_state.specs.{Checkpoint.{Checkpoint}, Content.{Closed, Content, empty}};

@@ -1,7 +1,7 @@
 //! Leaving out a branch that cannot be read.
 ghost use Rattle.std.specs.Prelude.{◌≡◌, ◌-◌, ◌<◌, ◌≤◌, ◌++◌, ◌∷◌, [], IfErr, IfOk, IfSome, IsNone, IsSome, IsTrue, OnOk, length, take};
 ghost use Rattle.ocfl_tree.specs.Name.{IsName};
-ghost use Rattle.ocfl_audit.specs.Trail.{is_root_meta};
+ghost use Rattle.ocfl_rules.specs.Trail.{is_root_meta};
 ghost use Rattle.ocfl_cursor.specs.State.{state_of};
 ghost use Rattle.ocfl_scrub.specs.{Running.{place_in}, Starting.{part_of}};
 ghost use Rattle.ocfl_state.specs.declared.checkpoint_parts.Phase.TheVariants.{Open};

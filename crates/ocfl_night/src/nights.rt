@@ -1,6 +1,6 @@
 //! A night.
 ghost use Rattle.std.specs.Prelude.{◌≡◌, ◌≢◌, ◌⊎◌, ◌↔◌, ◌≤◌, ◌∷◌, [], IfOk, IfSome, IsErr, All, IsOk, IsSome, IsTrue, List, Err, Ok, OnErr, OnOk, Some, false, true, length, ℕ};
-ghost use Rattle.ocfl_audit.specs.Parts.{Part as ModelPart};
+ghost use Rattle.ocfl_rules.specs.Parts.{Part as ModelPart};
 ghost use Rattle.ocfl_tree.specs.{Place.{Text}, StorageRoot.{StorageRoot}, Store.{IfTold}};
 ghost use Rattle.ocfl_scrub.specs.{Keeping.{met_at}, Starting.{part_of}};
 ghost use Rattle.ocfl_state.specs.{Content.{Closed}, Crash.{LeavesOnly}};

@@ -8,7 +8,7 @@ use ocfl_joining::{KeptMark, PartReports, ReportTrouble};
 use ocfl_kept::kept::{ClosedIn, part_path, report_path};
 use ocfl_kept::room::Room;
 use ocfl_state::Checkpoint;
-use ocfl_telling::Shown;
+use ocfl_messages::Shown;
 use std::alloc::{AllocError, Global};
 use std::fs::File;
 use std::io::{self, BufRead, BufReader, BufWriter, ErrorKind, Read, Write};

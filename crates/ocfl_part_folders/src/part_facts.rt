@@ -7,7 +7,7 @@ use ocfl_kept::kept::{ClosedIn, is_told, part_path, place_of, places_of};
 use ocfl_kept::room::Room;
 use ocfl_kept::stand::Standing;
 use ocfl_state::{Checkpoint, RootIdentity, decode_checkpoint};
-use ocfl_telling::Shown;
+use ocfl_messages::Shown;
 use ocfl_tree::Place;
 use std::alloc::{AllocError, Global};
 

@@ -7,7 +7,7 @@ use ocfl_files::failing::Failure;
 use ocfl_files::heard::HeardReader;
 use ocfl_joining::find_within;
 use ocfl_report::{InputStop, read_next_line};
-use ocfl_telling::Shown;
+use ocfl_messages::Shown;
 use ocfl_tree::Place;
 use std::alloc::{AllocError, Global};
 use std::fs::File;

@@ -3,7 +3,7 @@
 use crate::lines::{line_of, put_lines};
 use crate::reading::{TakeLine, take_lines};
 use ocfl_report::{Code, Line};
-use ocfl_telling::{Finding, Gathering, Gravest, Heads, Known, Tally};
+use ocfl_messages::{Finding, Gathering, Gravest, Heads, Known, Tally};
 use std::alloc::{AllocError, Global};
 use std::io::{self, BufRead};
 

@@ -2,7 +2,7 @@
 
 use crate::refusing::unread;
 use ocfl_files::failing::Failure;
-use ocfl_telling::{Known, KnownStop, read_known};
+use ocfl_messages::{Known, KnownStop, read_known};
 use std::alloc::{AllocError, Global};
 use std::fs::File;
 use std::io::Read;

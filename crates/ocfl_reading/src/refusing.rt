@@ -1,7 +1,7 @@
 //! What is said of a list that cannot be used.
 
 use ocfl_files::failing::Failure;
-use ocfl_telling::Shown;
+use ocfl_messages::Shown;
 use std::alloc::{AllocError, Global};
 use std::fmt::Display;
 

@@ -4,7 +4,7 @@ ghost use Rattle.std.specs.Prelude.{⊤};
 use crate::finding::sort_lines;
 use ocfl_compare::{Change, GoneList, TakeChange, TakeStop};
 use ocfl_report::{Code, Line};
-use ocfl_telling::{Gone, GoneKind, Known, SHOWN};
+use ocfl_messages::{Gone, GoneKind, Known, SHOWN};
 use ocfl_tree::Place;
 use std::alloc::{AllocError, Global};
 use std::fs::File;

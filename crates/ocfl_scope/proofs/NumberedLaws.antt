@@ -4,11 +4,11 @@ use Rattle.std.proofs.lemmas.Bool.Decides.{nat_tests}
 use Rattle.std.proofs.lemmas.Option.{none-some, same_Some, slice_get_within}
 use Rattle.std.specs.Prelude.{◌⊎◌, ◌↔◌, ◌==◌, IsSome, slice_get, if◌then◌else◌, false}
 use Rattle.ocfl_tree.specs.Place.{Place, Text}
-use Rattle.ocfl_audit.specs.Parts.{Part, parts_from, parts_of}
+use Rattle.ocfl_rules.specs.Parts.{Part, parts_from, parts_of}
 use Rattle.ocfl_cursor.specs.declared.ends.PartEnds.{PartEnds}
-use Rattle.ocfl_parts.specs.{Parts.{IsPartsText}, Separators.{end_of_part, start_of_part}}
-use Rattle.ocfl_parts.specs.declared.reading.PartsStop.TheVariants as parts
-use Rattle.ocfl_parts.proofs.PartsTexts.{parts_text_determines, not_bad, not_long}
+use Rattle.ocfl_separators.specs.{Parts.{IsPartsText}, Separators.{end_of_part, start_of_part}}
+use Rattle.ocfl_separators.specs.declared.reading.PartsStop.TheVariants as parts
+use Rattle.ocfl_separators.proofs.PartsTexts.{parts_text_determines, not_bad, not_long}
 use Rattle.ocfl_scope.specs.Finding.{PartStops}
 use Rattle.ocfl_scope.specs.Numbered.{AreAllFrom, IsPartOf, part_between, part_numbered}
 use Rattle.ocfl_scope.specs.declared.stop.ScopeStop.{ScopeStop}

@@ -2,7 +2,7 @@
 use Rattle.std.specs.Prelude.{◌≡◌, ◌≢◌, ℕ, Option, IfSome, ⊤}
 use Rattle.ocfl_tree.specs.{Place.{Text, Place}, Name.{IsPlace}}
 use Rattle.ocfl_report.specs.Text.{place_text}
-use Rattle.ocfl_parts.specs.Stop.{StopsRightly}
+use Rattle.ocfl_separators.specs.Stop.{StopsRightly}
 use Rattle.ocfl_scope.specs.{Numbered.{IsPartOf, HasNoSuchPart}, declared.scope.Scope.{Scope}}
 use Rattle.ocfl_scope.specs.declared.stop.ScopeStop.{ScopeStop}
 use Rattle.ocfl_scope.specs.declared.scope.Scope.TheVariants as scope

@@ -1,9 +1,9 @@
 -- The parts that separators make, by their numbers and by their ends.
 use Rattle.std.specs.Prelude.{◌≡◌, ℕ, zero, suc, List, [], ◌∷◌, Option, Some, None, slice_get}
 use Rattle.ocfl_tree.specs.Place.{Text, Place}
-use Rattle.ocfl_audit.specs.Parts.{Part, parts_of}
+use Rattle.ocfl_rules.specs.Parts.{Part, parts_of}
 use Rattle.ocfl_cursor.specs.declared.ends.PartEnds.{PartEnds}
-use Rattle.ocfl_parts.specs.Parts.{IsPartsText}
+use Rattle.ocfl_separators.specs.Parts.{IsPartsText}
 
 -- the part that has these ends
 abbrev pub part_between : PartEnds → Part

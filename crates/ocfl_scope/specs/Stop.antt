@@ -1,6 +1,6 @@
 -- The status with which a command ends that has no scope.
 use Rattle.std.specs.Prelude.{ℕ}
-use Rattle.ocfl_parts.specs.declared.reading.PartsStop.TheVariants as parts
+use Rattle.ocfl_separators.specs.declared.reading.PartsStop.TheVariants as parts
 use Rattle.ocfl_scope.specs.declared.stop.ScopeStop.{ScopeStop}
 use Rattle.ocfl_scope.specs.declared.stop.ScopeStop.TheVariants as stop
 

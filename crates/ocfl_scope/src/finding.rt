@@ -6,7 +6,7 @@ ghost use Rattle.ocfl_scope.specs.Numbered.{part_between, part_numbered};
 use crate::scope::Scope;
 use crate::stop::ScopeStop;
 use ocfl_cursor::PartEnds;
-use ocfl_parts::{Separators, read_parts};
+use ocfl_separators::{Separators, read_parts};
 use ocfl_report::{TextStop, read_place};
 use ocfl_tree::Place;
 use std::alloc::{AllocError, Global};

@@ -3,13 +3,13 @@ ghost use Rattle.std.specs.Prelude.{◌≡◌, ◌⊎◌, ◌↔◌, ◌+◌, �
 ghost use Rattle.std.specs.Prelude.{map};
 ghost use Rattle.ocfl_tree.specs.Place.{Place, Text};
 ghost use Rattle.ocfl_cursor.specs.declared.ends.PartEnds.{PartEnds};
-ghost use Rattle.ocfl_audit.specs.Parts.{parts_of};
-ghost use Rattle.ocfl_parts.specs.{Parts.{IsPartsText}, Separators.{end_of_part, start_of_part}};
+ghost use Rattle.ocfl_rules.specs.Parts.{parts_of};
+ghost use Rattle.ocfl_separators.specs.{Parts.{IsPartsText}, Separators.{end_of_part, start_of_part}};
 ghost use Rattle.ocfl_scope.specs.Finding.{PartStops};
 ghost use Rattle.ocfl_scope.specs.Numbered.{AreAllFrom, IsPartOf, part_between, part_numbered};
 ghost use Rattle.ocfl_scope.specs.declared.stop.ScopeStop.{ScopeStop};
 ghost use Rattle.ocfl_scope.specs.declared.stop.ScopeStop.TheVariants as stop;
-ghost use Rattle.ocfl_parts.specs.declared.reading.PartsStop.TheVariants as parts;
+ghost use Rattle.ocfl_separators.specs.declared.reading.PartsStop.TheVariants as parts;
 
 /// The ends that `Separators::ends` gives by a number are those of the part with that number, of
 /// all the parts that the separators make. There are just as many parts as it gives ends for.

@@ -2,7 +2,7 @@
 ghost use Rattle.std.specs.Prelude.{◌≡◌};
 ghost use Rattle.ocfl_scope.specs.Stop.{stop_status};
 
-use ocfl_parts::PartsStop;
+use ocfl_separators::PartsStop;
 use thiserror::Error;
 
 /// Why no scope is found. Its `Display` is what is said of it.

@@ -4,8 +4,8 @@ use Rattle.std.specs.Ordering.{is_lt}
 use Rattle.std.specs.declared.cmp.Ordering.TheVariants.{Less}
 use Rattle.ocfl_tree.specs.{Place.{Place, place_cmp}, Ascending.{IsAmong}, StorageRoot.{StorageRoot}}
 use Rattle.ocfl_tree.proofs.{Orders.{among_from_filter, among_left}, Stores.{among_either}}
-use Rattle.ocfl_audit.specs.{Between.{IsBeyond}, Due.{due}, Parts.{Part, lies_in}}
-use Rattle.ocfl_audit.proofs.PartLaws.{places_within_is}
+use Rattle.ocfl_rules.specs.{Between.{IsBeyond}, Due.{due}, Parts.{Part, lies_in}}
+use Rattle.ocfl_rules.proofs.PartLaws.{places_within_is}
 use Rattle.ocfl_item.specs.Looking.{IsFront}
 use Rattle.ocfl_walk.specs.WalkCalls.{way_of}
 use Rattle.ocfl_walk.proofs.BeforeLaws.{not_below}

@@ -5,9 +5,9 @@ use Rattle.std.specs.{Io.KnownBytes.{Appends}, List.{last_or}}
 use Rattle.ocfl_tree.specs.{Place.{Place}, StorageRoot.{StorageRoot}, Store.{Store}}
 use Rattle.ocfl_tree.specs.declared.store.Opening.{Opening}
 use Rattle.ocfl_report.specs.{Line.{Item, found}, Text.{text}}
-use Rattle.ocfl_audit.specs.{Audit.{audit, item_of}, Due.{item_places, due, items_at}}
-use Rattle.ocfl_audit.specs.{Trail.{unread_of}, Parts.{Part, whole, within}}
-use Rattle.ocfl_audit.proofs.{DueLaws.{after_is_due}, Trails.{unread_behind}}
+use Rattle.ocfl_rules.specs.{Audit.{audit, item_of}, Due.{item_places, due, items_at}}
+use Rattle.ocfl_rules.specs.{Trail.{unread_of}, Parts.{Part, whole, within}}
+use Rattle.ocfl_rules.proofs.{DueLaws.{after_is_due}, Trails.{unread_behind}}
 use Rattle.ocfl_item.specs.{Looking.{IsFront}, Auditing.{Audits}}
 use Rattle.ocfl_item.specs.declared.fault.Fault.{Fault}
 use Rattle.ocfl_scrub.specs.declared.stop.ReportStop.TheVariants.{Output}

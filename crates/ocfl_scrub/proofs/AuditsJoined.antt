@@ -8,9 +8,9 @@ use Rattle.ocfl_tree.specs.{StorageRoot.{StorageRoot}, Store.{Store}}
 use Rattle.ocfl_tree.specs.declared.store.Opening.{Opening}
 use Rattle.ocfl_tree.proofs.Orders.{place_cmp_total, place_cmp_exact, not_below_itself, before_each, among_from_filter}
 use Rattle.ocfl_inventory.specs.Note.{lines_at}
-use Rattle.ocfl_audit.specs.{Lines.{notes, cost, is_hashed}, Audit.{Unread, given_by, item_of}}
-use Rattle.ocfl_audit.specs.Trail.{content_openings, content_trail, unread_of}
-use Rattle.ocfl_audit.specs.Due.{items_at, hashed_among}
+use Rattle.ocfl_rules.specs.{Lines.{notes, cost, is_hashed}, Audit.{Unread, given_by, item_of}}
+use Rattle.ocfl_rules.specs.Trail.{content_openings, content_trail, unread_of}
+use Rattle.ocfl_rules.specs.Due.{items_at, hashed_among}
 use Rattle.ocfl_item.specs.Auditing.{Audits}
 use Rattle.ocfl_scrub.proofs.Lists.{ascends_across}
 use Rattle.ocfl_item.proofs.AuditingLaws.{unread_append}

@@ -3,8 +3,8 @@ use Rattle.std.proofs.Common.{◌≡◌, ◌⊎◌, inl, inr, List, [], ◌++◌
 use Rattle.std.specs.{Prelude.{not}, Ordering.{is_lt}, declared.cmp.Ordering.TheVariants.{Less}}
 use Rattle.ocfl_tree.specs.{Place.{Place, place_cmp}, StorageRoot.{StorageRoot}, Store.{Store}}
 use Rattle.ocfl_tree.proofs.Orders.{place_cmp_total}
-use Rattle.ocfl_audit.specs.Between.{IsBeyond, IsWithin, between, looked_between, read_between}
-use Rattle.ocfl_audit.proofs.{BetweenLaws.{looked_on, read_on}, Trails.{filter_append}}
+use Rattle.ocfl_rules.specs.Between.{IsBeyond, IsWithin, between, looked_between, read_between}
+use Rattle.ocfl_rules.proofs.{BetweenLaws.{looked_on, read_on}, Trails.{filter_append}}
 use Rattle.ocfl_item.specs.{Looking.{IsFront}, declared.fault.Fault.{Fault}}
 use Rattle.ocfl_item.proofs.AuditingLaws.{front_all, front_more}
 use Rattle.ocfl_walk.specs.{Ends.{is_past, before_end}, WalkCalls.{FailsOut, next_due}, declared.end.End.{End}}

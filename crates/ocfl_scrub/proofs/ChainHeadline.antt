@@ -4,10 +4,10 @@ use Rattle.std.proofs.Common.{◌≡◌, ◌⊎◌, inl, inr, ℕ, zero, suc, �
 use Rattle.std.specs.{Prelude.{slice_get}, Io.KnownBytes.{Appends}, List.{last_or}}
 use Rattle.ocfl_tree.specs.{Place.{Place}, StorageRoot.{StorageRoot}, Store.{Store}}
 use Rattle.ocfl_report.specs.{Line.{Item}, Text.{text}}
-use Rattle.ocfl_audit.specs.{Audit.{audit, after, total_cost}, Due.{hashed_among}}
-use Rattle.ocfl_audit.specs.Parts.{Part, whole, within}
-use Rattle.ocfl_audit.specs.Runs.{Limits, files_of, total_files, StaysWithin, cut, left, runs, runs_after}
-use Rattle.ocfl_audit.specs.Trail.{unread_of}
+use Rattle.ocfl_rules.specs.{Audit.{audit, after, total_cost}, Due.{hashed_among}}
+use Rattle.ocfl_rules.specs.Parts.{Part, whole, within}
+use Rattle.ocfl_rules.specs.Runs.{Limits, files_of, total_files, StaysWithin, cut, left, runs, runs_after}
+use Rattle.ocfl_rules.specs.Trail.{unread_of}
 use Rattle.ocfl_cursor.specs.Cursor.{Cursor, new_cursor}
 use Rattle.ocfl_scrub.specs.Call.{Call, call_of, IsUnfailing}
 use Rattle.ocfl_scrub.specs.Chaining.{MadeRun, IsMadeOf, CycleOfRunsWithin}

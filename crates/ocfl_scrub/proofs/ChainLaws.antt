@@ -2,7 +2,7 @@
 use Rattle.std.proofs.Common.{◌≡◌, ◌⊎◌, inl, inr, ℕ, suc, ◌+◌, ◌≤◌, List, [], ◌∷◌, ◌++◌, refl, sym, ◌∙◌, ap, subst, true, false, Bool, Some, None, Option, map, length, arith}
 use Rattle.std.specs.{Prelude.{◌||◌}, List.{list_any}}
 use Rattle.ocfl_tree.specs.{Place.{Place}, StorageRoot.{StorageRoot}, Store.{Store}}
-use Rattle.ocfl_audit.specs.{Lines.{is_empty}, Parts.{Part}, Runs.{Limits}}
+use Rattle.ocfl_rules.specs.{Lines.{is_empty}, Parts.{Part}, Runs.{Limits}}
 use Rattle.ocfl_cursor.specs.{Cursor.{State, Cursor, new_cursor}, Moves.{after_run}}
 use Rattle.ocfl_item.specs.declared.fault.Fault.TheVariants.{Memory}
 use Rattle.ocfl_scrub.specs.declared.stop.ReportStop.TheVariants as halt

@@ -1,7 +1,7 @@
 -- A cycle's chain of runs taken apart: its runs one by one, the calls that they were, where they ended.
 use Rattle.std.proofs.Common.{◌≡◌, List, [], ◌∷◌, ◌++◌, refl, map, length, sym, subst}
 use Rattle.std.specs.{Prelude.{⊤}, List.{list_any}}
-use Rattle.ocfl_audit.specs.{Parts.{Part}, Runs.{Limits}}
+use Rattle.ocfl_rules.specs.{Parts.{Part}, Runs.{Limits}}
 use Rattle.ocfl_cursor.specs.Cursor.{Cursor, new_cursor}
 use Rattle.ocfl_scrub.specs.Call.{Call, call_of}
 use Rattle.ocfl_scrub.specs.Chaining.{MadeRun, AreChained, IsMadeOf, ChainEnds, CycleOfRunsWithin}

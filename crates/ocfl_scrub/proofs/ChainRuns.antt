@@ -3,7 +3,7 @@ use Rattle.std.proofs.Common.{◌≡◌, inl, inr, ℕ, ◌≤◌, ◌+◌, List
 use Rattle.std.proofs.{lemmas.List.Folds.{list_any-append}, lemmas.List.{map-append}}
 use Rattle.std.specs.{Prelude.{◌||◌}, List.{AllByRecursion, list_any}}
 use Rattle.ocfl_tree.specs.{Place.{Place}, StorageRoot.{StorageRoot}, Store.{Store}}
-use Rattle.ocfl_audit.specs.{Parts.{Part}, Runs.{Limits}}
+use Rattle.ocfl_rules.specs.{Parts.{Part}, Runs.{Limits}}
 use Rattle.ocfl_cursor.specs.Cursor.{Cursor, new_cursor}
 use Rattle.ocfl_item.specs.declared.fault.Fault.TheVariants.{Memory}
 use Rattle.ocfl_scrub.specs.declared.stop.ReportStop.TheVariants as halt

@@ -7,13 +7,13 @@ use Rattle.ocfl_tree.specs.declared.store.Opening.{Opening}
 use Rattle.ocfl_tree.proofs.Orders.{true_not_false}
 use Rattle.ocfl_report.specs.{Line.{found}, Text.{text}}
 use Rattle.ocfl_inventory.specs.Note.{lines_at}
-use Rattle.ocfl_audit.specs.{Head.{on}, Lines.{is_empty, notes, is_hashed}}
-use Rattle.ocfl_audit.specs.Audit.{Unread, given_by, item_of, has_lines}
-use Rattle.ocfl_audit.specs.Trail.{is_meta, places_of, content_trail, unread_of}
-use Rattle.ocfl_audit.specs.Due.{hashed_among, items_at}
-use Rattle.ocfl_audit.proofs.{AuditExists.{lines_from_notes}, DueLaws.{lines_alike}}
-use Rattle.ocfl_audit.proofs.PathLaws.{hashed_lines, hashed_no_meta}
-use Rattle.ocfl_audit.proofs.Trails.{unread_behind, all_meta, meta_at}
+use Rattle.ocfl_rules.specs.{Head.{on}, Lines.{is_empty, notes, is_hashed}}
+use Rattle.ocfl_rules.specs.Audit.{Unread, given_by, item_of, has_lines}
+use Rattle.ocfl_rules.specs.Trail.{is_meta, places_of, content_trail, unread_of}
+use Rattle.ocfl_rules.specs.Due.{hashed_among, items_at}
+use Rattle.ocfl_rules.proofs.{AuditExists.{lines_from_notes}, DueLaws.{lines_alike}}
+use Rattle.ocfl_rules.proofs.PathLaws.{hashed_lines, hashed_no_meta}
+use Rattle.ocfl_rules.proofs.Trails.{unread_behind, all_meta, meta_at}
 use Rattle.ocfl_item.specs.{Auditing.{Fails}, Pending.{IsPending}}
 use Rattle.ocfl_item.specs.{Meeting.{IsItemAt}}
 use Rattle.ocfl_scrub.specs.Types.{ReportStop}

@@ -5,10 +5,10 @@ use Rattle.std.specs.Prelude.{if◌then◌else◌, cond, ◌==◌, ◌||◌, ◌
 use Rattle.ocfl_tree.specs.{Place.{Place}, StorageRoot.{StorageRoot, Leaf, file, dir, other}}
 use Rattle.ocfl_report.specs.Line.{Item}
 use Rattle.ocfl_inventory.specs.Table.{Named}
-use Rattle.ocfl_audit.specs.{Zone.{seen}, Lines.{named_at, cost_of, cost, is_hashed}}
-use Rattle.ocfl_audit.specs.Audit.{total_cost}
-use Rattle.ocfl_audit.specs.Runs.{Limits, files_of, total_files, may_take, cut_len, cut, left}
-pub use Rattle.ocfl_audit.proofs.RunLaws.{cut_and_left, taken_test}
+use Rattle.ocfl_rules.specs.{Zone.{seen}, Lines.{named_at, cost_of, cost, is_hashed}}
+use Rattle.ocfl_rules.specs.Audit.{total_cost}
+use Rattle.ocfl_rules.specs.Runs.{Limits, files_of, total_files, may_take, cut_len, cut, left}
+pub use Rattle.ocfl_rules.proofs.RunLaws.{cut_and_left, taken_test}
 use Rattle.ocfl_scrub.proofs.Paying.{Paid}
 
 -- ---- cuts

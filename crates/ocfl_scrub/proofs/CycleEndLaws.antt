@@ -7,12 +7,12 @@ use Rattle.ocfl_item.proofs.AuditingLaws.{audits_nothing}
 use Rattle.ocfl_tree.specs.{Place.{Place}, StorageRoot.{StorageRoot}, Store.{Store}}
 use Rattle.ocfl_tree.specs.declared.store.Opening.{Opening}
 use Rattle.ocfl_report.specs.{Line.{Item}, Text.{text}}
-use Rattle.ocfl_audit.specs.{Audit.{audit}, Zone.{inventory_name}, Lines.{is_empty}}
-use Rattle.ocfl_audit.specs.{Trail.{unread_of, inventories}, Due.{due, items_at, hashed_among}}
-use Rattle.ocfl_audit.specs.{Between.{read_between}, Runs.{Limits, runs, joined, sum_of}}
-use Rattle.ocfl_audit.specs.Parts.{Part, whole, within}
-use Rattle.ocfl_audit.proofs.ObjectLaws.{inventories_read}
-use Rattle.ocfl_audit.proofs.RunLaws.{large_whole, large_few, limits_join, limits_few}
+use Rattle.ocfl_rules.specs.{Audit.{audit}, Zone.{inventory_name}, Lines.{is_empty}}
+use Rattle.ocfl_rules.specs.{Trail.{unread_of, inventories}, Due.{due, items_at, hashed_among}}
+use Rattle.ocfl_rules.specs.{Between.{read_between}, Runs.{Limits, runs, joined, sum_of}}
+use Rattle.ocfl_rules.specs.Parts.{Part, whole, within}
+use Rattle.ocfl_rules.proofs.ObjectLaws.{inventories_read}
+use Rattle.ocfl_rules.proofs.RunLaws.{large_whole, large_few, limits_join, limits_few}
 use Rattle.ocfl_item.specs.{Looking.{IsFront}, Auditing.{Audits, Fails}}
 use Rattle.ocfl_scrub.specs.Types.{ReportStop}
 use Rattle.ocfl_scrub.specs.{Call.{Call, call_of}, Written.{places, Figures}}

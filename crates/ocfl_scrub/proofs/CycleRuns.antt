@@ -12,15 +12,15 @@ use Rattle.ocfl_tree.specs.{Store.{Store}, declared.store.Opening.{Opening}}
 use Rattle.ocfl_tree.proofs.Orders.{place_cmp_total, place_cmp_exact, true_not_false, not_less, not_both_below, not_less_itself, before_each, among_from_filter, among_left, among_right}
 use Rattle.ocfl_tree.proofs.Stores.{among_either}
 use Rattle.ocfl_report.specs.{Line.{Item}, Text.{text}}
-use Rattle.ocfl_audit.specs.Audit.{Unread, given_by, audit, after, item_of, total_cost}
-use Rattle.ocfl_audit.specs.Due.{item_places, due, items_at, hashed_among}
-use Rattle.ocfl_audit.specs.Parts.{Part, lies_in, within, places_within, parts_of, unread_in, together}
-use Rattle.ocfl_audit.specs.Runs.{Limits, total_files, may_take, IsAtLeast, left}
-use Rattle.ocfl_audit.specs.Trail.{content_trail, content_openings, unread_of}
-use Rattle.ocfl_audit.proofs.{ApartLaws.{apart_texts, unread_is}, DueLaws.{audit_by_places}}
-use Rattle.ocfl_audit.proofs.Lists.{map_filter}
-use Rattle.ocfl_audit.proofs.PartLaws.{part_goes_on, within_is, places_within_is}
-use Rattle.ocfl_audit.proofs.RunLaws.{cost_append, files_append}
+use Rattle.ocfl_rules.specs.Audit.{Unread, given_by, audit, after, item_of, total_cost}
+use Rattle.ocfl_rules.specs.Due.{item_places, due, items_at, hashed_among}
+use Rattle.ocfl_rules.specs.Parts.{Part, lies_in, within, places_within, parts_of, unread_in, together}
+use Rattle.ocfl_rules.specs.Runs.{Limits, total_files, may_take, IsAtLeast, left}
+use Rattle.ocfl_rules.specs.Trail.{content_trail, content_openings, unread_of}
+use Rattle.ocfl_rules.proofs.{ApartLaws.{apart_texts, unread_is}, DueLaws.{audit_by_places}}
+use Rattle.ocfl_rules.proofs.Lists.{map_filter}
+use Rattle.ocfl_rules.proofs.PartLaws.{part_goes_on, within_is, places_within_is}
+use Rattle.ocfl_rules.proofs.RunLaws.{cost_append, files_append}
 use Rattle.ocfl_cursor.specs.Cursor.{State, start, behind, ended, Cursor}
 use Rattle.ocfl_scrub.specs.declared.stop.ReportStop.TheVariants.{Output}
 use Rattle.ocfl_scrub.specs.Types.{ReportStop}

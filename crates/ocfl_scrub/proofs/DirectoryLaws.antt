@@ -4,10 +4,10 @@ use Rattle.std.specs.{Prelude.{cond, nat_lt}, List.{list_all}}
 use Rattle.ocfl_tree.specs.{Place.{Text, Place}, StorageRoot.{StorageRoot, Leaf, at}}
 use Rattle.ocfl_tree.proofs.Orders.{true_not_false}
 use Rattle.ocfl_inventory.specs.Table.{Named}
-use Rattle.ocfl_audit.specs.{Between.{is_looked_into}, Lines.{cost_of, is_hashed, named_at}}
-use Rattle.ocfl_audit.specs.{Walk.{is_reached}, Zone.{beginnings, is_entered, seen}}
-use Rattle.ocfl_audit.proofs.{AuditExists.{zone_is}, PathLaws.{hashed_path}}
-use Rattle.ocfl_audit.proofs.StepLaws.{all_beginnings_step}
+use Rattle.ocfl_rules.specs.{Between.{is_looked_into}, Lines.{cost_of, is_hashed, named_at}}
+use Rattle.ocfl_rules.specs.{Walk.{is_reached}, Zone.{beginnings, is_entered, seen}}
+use Rattle.ocfl_rules.proofs.{AuditExists.{zone_is}, PathLaws.{hashed_path}}
+use Rattle.ocfl_rules.proofs.StepLaws.{all_beginnings_step}
 use Rattle.ocfl_walk.proofs.ReachLaws.{reached_looked}
 
 -- ---- what is hashed is in such a directory

@@ -5,7 +5,7 @@ use Rattle.std.specs.{Prelude.{IfSome, not}, List.{last_or}}
 use Rattle.ocfl_tree.specs.{Place.{Text, Place}, Ascending.{IsAmong}, StorageRoot.{StorageRoot}}
 use Rattle.ocfl_tree.specs.Store.{Store, Did}
 use Rattle.ocfl_tree.proofs.Orders.{among_from_filter, among_left}
-use Rattle.ocfl_audit.specs.{Due.{due}, Parts.{Part, lies_in}, Runs.{Limits}}
+use Rattle.ocfl_rules.specs.{Due.{due}, Parts.{Part, lies_in}, Runs.{Limits}}
 use Rattle.ocfl_item.proofs.AuditingLaws.{audits_meta, front_all, front_none, near_none, none_once}
 use Rattle.ocfl_walk.specs.{Ends.{is_past}, WalkCalls.{GoesDown, IsRootFirst, way_of}}
 use Rattle.ocfl_walk.specs.Walks.{Gives}

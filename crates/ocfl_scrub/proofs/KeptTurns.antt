@@ -3,7 +3,7 @@
 use Rattle.std.proofs.Common.{◌≡◌, ℕ, ◌+◌, List, sym, ◌∙◌, subst, true, false, Bool, Some, None, Option}
 use Rattle.std.specs.Prelude.{◌||◌, IfSome}
 use Rattle.ocfl_tree.specs.{Place.{Place}, StorageRoot.{StorageRoot}, Store.{Store}}
-use Rattle.ocfl_audit.specs.{Due.{due}, Parts.{Part}, Runs.{Limits, files_of}}
+use Rattle.ocfl_rules.specs.{Due.{due}, Parts.{Part}, Runs.{Limits, files_of}}
 use Rattle.ocfl_item.specs.{Pending.{IsPending}, declared.fault.Fault.{Fault}}
 use Rattle.ocfl_scrub.specs.Types.{ReportStop}
 use Rattle.ocfl_item.specs.declared.pending.Pending.{Pending}

@@ -2,7 +2,7 @@
 use Rattle.std.proofs.Common.{◌++◌, [], List, Option, None, refl, sym, subst, append-nil, ℕ}
 use Rattle.ocfl_tree.specs.{Place.{Place}, StorageRoot.{StorageRoot}, Store.{Store}}
 use Rattle.ocfl_tree.specs.declared.store.Opening.{Opening}
-use Rattle.ocfl_audit.specs.Parts.{Part}
+use Rattle.ocfl_rules.specs.Parts.{Part}
 use Rattle.ocfl_item.specs.{Looking.{IsFront, failed_place}, Auditing.{Audits, Fails}}
 use Rattle.ocfl_item.specs.declared.fault.Fault.{Fault}
 use Rattle.ocfl_scrub.specs.Types.{ReportStop}

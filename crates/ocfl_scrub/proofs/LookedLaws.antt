@@ -4,9 +4,9 @@ use Rattle.std.specs.Prelude.{cond, not}
 use Rattle.ocfl_tree.specs.{Place.{Place}, Ascending.{IsAmong}, StorageRoot.{StorageRoot}}
 use Rattle.ocfl_tree.specs.{Store.{Store, Did}, declared.store.Opening.{Opening}}
 use Rattle.ocfl_tree.proofs.Orders.{among_filter, among_from_filter}
-use Rattle.ocfl_audit.specs.{Between.{IsBeyond, looked_between, read_between}, Due.{due}}
-use Rattle.ocfl_audit.specs.{Parts.{Part, lies_in}, Trail.{heads_of}}
-use Rattle.ocfl_audit.proofs.PartLaws.{places_within_is}
+use Rattle.ocfl_rules.specs.{Between.{IsBeyond, looked_between, read_between}, Due.{due}}
+use Rattle.ocfl_rules.specs.{Parts.{Part, lies_in}, Trail.{heads_of}}
+use Rattle.ocfl_rules.proofs.PartLaws.{places_within_is}
 use Rattle.ocfl_item.specs.{Auditing.{Audits}, Looking.{IsFront}, Pending.{IsPending}}
 use Rattle.ocfl_item.specs.{declared.pending.Pending.{Pending}}
 use Rattle.ocfl_item.specs.declared.fault.Fault.{Fault}

@@ -2,7 +2,7 @@
 use Rattle.std.proofs.Common.{◌≡◌, sym, ◌∙◌, subst, false, Some, Option}
 use Rattle.std.specs.Prelude.{IfSome}
 use Rattle.ocfl_tree.specs.{Place.{Place}, StorageRoot.{StorageRoot}, Store.{Store}}
-use Rattle.ocfl_audit.specs.{Between.{IsBeyond}, Due.{due}}
+use Rattle.ocfl_rules.specs.{Between.{IsBeyond}, Due.{due}}
 use Rattle.ocfl_walk.specs.{Ends.{is_past}, WalkCalls.{Walks}}
 use Rattle.ocfl_walk.specs.{Walks.{Stands, Gives, GivesOut, GoesOn}, declared.end.End.{End}}
 use Rattle.ocfl_walk.specs.declared.walk.Walk.{Walk}

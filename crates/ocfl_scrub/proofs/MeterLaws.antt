@@ -1,7 +1,7 @@
 -- What a run costs on every store.
 use Rattle.std.proofs.Common.{◌≡◌, ℕ, ◌+◌, ◌<◌, ◌≤◌, ◌^◌, List, [], ◌∷◌, ◌++◌, length, refl, subst, arith, eqb-true, true, false, Bool, sym, ◌∙◌, ap}
 use Rattle.std.specs.Prelude.{cond, ◌==◌}
-use Rattle.ocfl_audit.specs.Runs.{Limits, files_of, sum_of}
+use Rattle.ocfl_rules.specs.Runs.{Limits, files_of, sum_of}
 use Rattle.ocfl_item.specs.Judging.{CostFits}
 use Rattle.ocfl_scrub.specs.Running.{ArePaid, IsPaid}
 

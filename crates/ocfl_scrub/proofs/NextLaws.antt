@@ -7,14 +7,14 @@ use Rattle.ocfl_tree.specs.StorageRoot.{StorageRoot, dir}
 use Rattle.ocfl_tree.proofs.Orders.{true_not_false, before_each, among_filter, among_from_filter}
 use Rattle.ocfl_inventory.specs.{Table.{Named}}
 use Rattle.ocfl_inventory.specs.Declaration.{Declared, undeclared, known, unknown, several}
-use Rattle.ocfl_audit.specs.Zone.{root_declared, zone, inside}
-use Rattle.ocfl_audit.specs.Head.{root_notes_by, head_notes_by}
-use Rattle.ocfl_audit.specs.Lines.{is_empty, notes, notes_in, cost_of, named_at, is_hashed}
-use Rattle.ocfl_audit.specs.{Objects.{HasInventory}, Due.{item_places, due}}
-use Rattle.ocfl_audit.specs.{Between.{IsBeyond, IsWithin, read_between}, Parts.{Part, lies_in}}
-use Rattle.ocfl_audit.proofs.{PartLaws.{places_within_is}, Trails.{filter_append}}
-use Rattle.ocfl_audit.proofs.BetweenLaws.{read_on}
-use Rattle.ocfl_audit.proofs.ObjectLaws.{object_by_zone, read_part, object_seen}
+use Rattle.ocfl_rules.specs.Zone.{root_declared, zone, inside}
+use Rattle.ocfl_rules.specs.Head.{root_notes_by, head_notes_by}
+use Rattle.ocfl_rules.specs.Lines.{is_empty, notes, notes_in, cost_of, named_at, is_hashed}
+use Rattle.ocfl_rules.specs.{Objects.{HasInventory}, Due.{item_places, due}}
+use Rattle.ocfl_rules.specs.{Between.{IsBeyond, IsWithin, read_between}, Parts.{Part, lies_in}}
+use Rattle.ocfl_rules.proofs.{PartLaws.{places_within_is}, Trails.{filter_append}}
+use Rattle.ocfl_rules.proofs.BetweenLaws.{read_on}
+use Rattle.ocfl_rules.proofs.ObjectLaws.{object_by_zone, read_part, object_seen}
 use Rattle.ocfl_item.proofs.ItemLaws.{clean_some}
 use Rattle.ocfl_scrub.proofs.{OrderLaws.{item_among}, PartStarts.{due_within_ascends}}
 use Rattle.ocfl_scrub.proofs.PassLaws.{among_beyond}

@@ -4,12 +4,12 @@ use Rattle.ocfl_tree.specs.{Place.{Place, place_cmp}, Ascending.{ascending, IsAs
 use Rattle.ocfl_tree.specs.StorageRoot.{StorageRoot}
 use Rattle.ocfl_tree.proofs.Orders.{place_cmp_exact, ascends_filter, among_ascending, among_filter, among_from_filter}
 use Rattle.ocfl_inventory.specs.Note.{Note}
-use Rattle.ocfl_audit.specs.Audit.{candidates}
-use Rattle.ocfl_audit.specs.Between.{looked_between, read_between}
-use Rattle.ocfl_audit.specs.Due.{item_places, hashed_among}
-use Rattle.ocfl_audit.specs.{Lines.{is_empty, is_hashed, notes}}
-use Rattle.ocfl_audit.proofs.{AuditExists.{notes_candidate}, BetweenLaws.{between_ascends, directories_ascend, objects_ascend}}
-use Rattle.ocfl_audit.proofs.{PartLaws.{items_ascend}, PathLaws.{hashed_lines}}
+use Rattle.ocfl_rules.specs.Audit.{candidates}
+use Rattle.ocfl_rules.specs.Between.{looked_between, read_between}
+use Rattle.ocfl_rules.specs.Due.{item_places, hashed_among}
+use Rattle.ocfl_rules.specs.{Lines.{is_empty, is_hashed, notes}}
+use Rattle.ocfl_rules.proofs.{AuditExists.{notes_candidate}, BetweenLaws.{between_ascends, directories_ascend, objects_ascend}}
+use Rattle.ocfl_rules.proofs.{PartLaws.{items_ascend}, PathLaws.{hashed_lines}}
 
 pub hashed_ascend : (root : StorageRoot) → IsAscending place_cmp (hashed_among root (item_places root))
 unfolding hashed_among

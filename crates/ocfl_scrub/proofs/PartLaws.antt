@@ -6,9 +6,9 @@ use Rattle.ocfl_tree.specs.{Place.{Place}, StorageRoot.{StorageRoot}}
 use Rattle.ocfl_tree.specs.declared.store.Opening.{Opening}
 use Rattle.ocfl_tree.proofs.Orders.{true_not_false}
 use Rattle.ocfl_report.specs.Line.{Item}
-use Rattle.ocfl_audit.specs.{Lines.{is_hashed}, Audit.{given_by, total_cost}, Trail.{unread_of}}
-use Rattle.ocfl_audit.specs.Due.{items_at}
-use Rattle.ocfl_audit.specs.Runs.{Limits, files_of, total_files, may_take, cut_len, cut, left}
+use Rattle.ocfl_rules.specs.{Lines.{is_hashed}, Audit.{given_by, total_cost}, Trail.{unread_of}}
+use Rattle.ocfl_rules.specs.Due.{items_at}
+use Rattle.ocfl_rules.specs.Runs.{Limits, files_of, total_files, may_take, cut_len, cut, left}
 use Rattle.ocfl_scrub.proofs.{Paying.{Paid}, CutLaws.{IsStop, test_free, hashed_costs, free_costs}}
 
 module _ (l : Limits) where

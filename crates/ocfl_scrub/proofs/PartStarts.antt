@@ -10,16 +10,16 @@ use Rattle.ocfl_tree.specs.{Ascending.{IsAscending, IsAmong}, StorageRoot.{Stora
 use Rattle.ocfl_tree.specs.declared.store.Opening.{Opening}
 use Rattle.ocfl_tree.proofs.Orders.{place_cmp_total, place_cmp_exact, true_not_false, below_from_greater, ascends_filter, among_from_filter}
 use Rattle.ocfl_tree.proofs.Places.{begins-itself}
-use Rattle.ocfl_audit.specs.Audit.{Unread, audit, item_of}
-use Rattle.ocfl_audit.specs.Between.{IsBeyond, up_to, looked_between, read_between}
-use Rattle.ocfl_audit.specs.Due.{due, items_at}
-use Rattle.ocfl_audit.specs.Parts.{Part, is_from, is_below, lies_in, within, places_within}
-use Rattle.ocfl_audit.specs.Trail.{unread_of}
-use Rattle.ocfl_audit.proofs.AuditExists.{audit_is}
-use Rattle.ocfl_audit.proofs.BelowLaws.{less_from, begins_rest, cmp_behind}
-use Rattle.ocfl_audit.proofs.{BetweenLaws.{from_between}, BranchLaws.{nothing_above}, DueLaws.{after_is_due}}
-use Rattle.ocfl_audit.proofs.Lists.{map_filter, filter_same}
-use Rattle.ocfl_audit.proofs.PartLaws.{filter_twice, within_is, places_within_is, part_goes_on}
+use Rattle.ocfl_rules.specs.Audit.{Unread, audit, item_of}
+use Rattle.ocfl_rules.specs.Between.{IsBeyond, up_to, looked_between, read_between}
+use Rattle.ocfl_rules.specs.Due.{due, items_at}
+use Rattle.ocfl_rules.specs.Parts.{Part, is_from, is_below, lies_in, within, places_within}
+use Rattle.ocfl_rules.specs.Trail.{unread_of}
+use Rattle.ocfl_rules.proofs.AuditExists.{audit_is}
+use Rattle.ocfl_rules.proofs.BelowLaws.{less_from, begins_rest, cmp_behind}
+use Rattle.ocfl_rules.proofs.{BetweenLaws.{from_between}, BranchLaws.{nothing_above}, DueLaws.{after_is_due}}
+use Rattle.ocfl_rules.proofs.Lists.{map_filter, filter_same}
+use Rattle.ocfl_rules.proofs.PartLaws.{filter_twice, within_is, places_within_is, part_goes_on}
 use Rattle.ocfl_walk.specs.Before.{directory_of, place_before, places_from}
 use Rattle.ocfl_walk.specs.Ends.{is_above_branch, is_at_bound, is_past, before_end}
 use Rattle.ocfl_walk.proofs.BeforeLaws.{below_from, due_from, looked_from, read_from, not_below}

@@ -11,10 +11,10 @@ use Rattle.ocfl_tree.proofs.Orders.{place_cmp_total, place_cmp_exact, not_less_i
 use Rattle.ocfl_tree.proofs.Stores.{among_either}
 use Rattle.ocfl_report.specs.Line.{Item, has_finding, found}
 use Rattle.ocfl_report.specs.Text.{lines_text, text}
-use Rattle.ocfl_audit.specs.{Due.{item_places, due, items_at, hashed_among}, Trail.{content_trail}}
-use Rattle.ocfl_audit.specs.Between.{IsBeyond, IsWithin, looked_between, read_between}
-use Rattle.ocfl_audit.proofs.{BelowLaws.{less_from}, BetweenLaws.{among_between, from_between}}
-use Rattle.ocfl_audit.proofs.{PartLaws.{items_ascend}, Trails.{filter_append}}
+use Rattle.ocfl_rules.specs.{Due.{item_places, due, items_at, hashed_among}, Trail.{content_trail}}
+use Rattle.ocfl_rules.specs.Between.{IsBeyond, IsWithin, looked_between, read_between}
+use Rattle.ocfl_rules.proofs.{BelowLaws.{less_from}, BetweenLaws.{among_between, from_between}}
+use Rattle.ocfl_rules.proofs.{PartLaws.{items_ascend}, Trails.{filter_append}}
 use Rattle.ocfl_item.specs.{Auditing.{Audits, Fails}}
 use Rattle.ocfl_item.specs.declared.fault.Fault.{Fault}
 use Rattle.ocfl_scrub.specs.Types.{ReportStop}

@@ -4,7 +4,7 @@ use Rattle.std.specs.{Io.KnownBytes.{Appends}, List.{last_or}}
 use Rattle.ocfl_tree.specs.{Place.{Text, Place}, Ascending.{IsAmong}, StorageRoot.{StorageRoot}}
 use Rattle.ocfl_tree.specs.{Store.{Store}, declared.store.Opening.{Opening}}
 use Rattle.ocfl_report.specs.{Line.{found}, Text.{text}}
-use Rattle.ocfl_audit.specs.{Due.{due, items_at}, Between.{looked_between, read_between}}
+use Rattle.ocfl_rules.specs.{Due.{due, items_at}, Between.{looked_between, read_between}}
 use Rattle.ocfl_item.specs.{Looking.{IsFront}, Auditing.{Audits, Fails}}
 use Rattle.ocfl_scrub.specs.Types.{ReportStop}
 use Rattle.ocfl_walk.specs.{Ends.{before_end}, declared.end.End.{End}}

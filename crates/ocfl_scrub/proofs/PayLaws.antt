@@ -4,9 +4,9 @@ use Rattle.std.specs.{Prelude.{◌||◌}, Io.KnownBytes.{Appends}}
 use Rattle.ocfl_tree.specs.{Place.{Place}, StorageRoot.{StorageRoot}, Store.{Store}}
 use Rattle.ocfl_tree.specs.declared.store.Opening.{Opening}
 use Rattle.ocfl_report.specs.{Line.{Item, found}, Text.{text}}
-use Rattle.ocfl_audit.specs.{Audit.{total_cost, given_by}, Lines.{cost, is_hashed}}
-use Rattle.ocfl_audit.specs.{Due.{due, items_at}, Between.{IsBeyond, looked_between, read_between}}
-use Rattle.ocfl_audit.specs.{Trail.{unread_of}, Runs.{Limits, files_of, total_files, may_take}}
+use Rattle.ocfl_rules.specs.{Audit.{total_cost, given_by}, Lines.{cost, is_hashed}}
+use Rattle.ocfl_rules.specs.{Due.{due, items_at}, Between.{IsBeyond, looked_between, read_between}}
+use Rattle.ocfl_rules.specs.{Trail.{unread_of}, Runs.{Limits, files_of, total_files, may_take}}
 use Rattle.ocfl_item.specs.{Auditing.{Audits}}
 use Rattle.ocfl_item.specs.declared.fault.Fault.{Fault}
 use Rattle.ocfl_scrub.specs.Types.{ReportStop}
@@ -22,7 +22,7 @@ use Rattle.ocfl_scrub.proofs.CutLaws.{paid_append, test_paid, test_free, free_co
 use Rattle.ocfl_scrub.proofs.PassLaws.{no_items, halves, due_next, passes_none, passes_took, took_items, passes_missed, missed_items, next_is, passes_lost, walked_on, passes_finish, finished_items}
 use Rattle.ocfl_scrub.proofs.TakeLaws.{fault_other}
 use Rattle.ocfl_item.proofs.AuditingLaws.{audits_on}
-use Rattle.ocfl_audit.proofs.RunLaws.{cost_append, files_append}
+use Rattle.ocfl_rules.proofs.RunLaws.{cost_append, files_append}
 
 -- ---- what items cost
 

@@ -4,9 +4,9 @@ use Rattle.std.specs.{Io.KnownBytes.{Appends}, List.{last_or}}
 use Rattle.ocfl_tree.specs.{Place.{Place}, StorageRoot.{StorageRoot}, Store.{Store}}
 use Rattle.ocfl_tree.specs.declared.store.Opening.{Opening}
 use Rattle.ocfl_report.specs.{Line.{Item, found}, Text.{text}}
-use Rattle.ocfl_audit.specs.{Audit.{total_cost}, Lines.{is_hashed}, Due.{items_at}}
-use Rattle.ocfl_audit.specs.Between.{looked_between, read_between}
-use Rattle.ocfl_audit.specs.Runs.{Limits, files_of, total_files, may_take}
+use Rattle.ocfl_rules.specs.{Audit.{total_cost}, Lines.{is_hashed}, Due.{items_at}}
+use Rattle.ocfl_rules.specs.Between.{looked_between, read_between}
+use Rattle.ocfl_rules.specs.Runs.{Limits, files_of, total_files, may_take}
 use Rattle.ocfl_item.specs.{Auditing.{Audits}}
 use Rattle.ocfl_scrub.specs.Types.{ReportStop}
 use Rattle.ocfl_scrub.specs.declared.stop.ReportStop.TheVariants as halt

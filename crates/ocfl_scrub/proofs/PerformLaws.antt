@@ -4,7 +4,7 @@ use Rattle.std.specs.Prelude.{◌≢◌, IsNone, IsSome, IfSome, ◌⊎◌, Stri
 use Rattle.std.specs.declared.alloc.Global.{Global}
 use Rattle.ocfl_tree.specs.{Place.{Text, Place}, Store.{Store}}
 use Rattle.ocfl_report.specs.{Line.{found}, Text.{text}}
-use Rattle.ocfl_audit.specs.{Audit.{audit}, Parts.{Part, whole}, Runs.{Limits}}
+use Rattle.ocfl_rules.specs.{Audit.{audit}, Parts.{Part, whole}, Runs.{Limits}}
 use Rattle.ocfl_cursor.specs.{Cursor.{Cursor, IsCursor}, Moves.{after_run}}
 use Rattle.ocfl_cursor.specs.declared.limits.Limits.{Limits as MadeLimits}
 use Rattle.ocfl_deed.specs.declared.deed.Deed.{Deed}

@@ -7,10 +7,10 @@ use Rattle.ocfl_tree.specs.{StorageRoot.{StorageRoot}, Store.{Store}}
 use Rattle.ocfl_tree.specs.declared.store.Opening.{Opening}
 use Rattle.ocfl_tree.proofs.Orders.{among_right}
 use Rattle.ocfl_report.specs.{Line.{Item, found}, Text.{text}}
-use Rattle.ocfl_audit.specs.{Audit.{audit, after, total_cost, given_by}, Lines.{is_empty, is_hashed}}
-use Rattle.ocfl_audit.specs.{Due.{items_at}, Between.{IsWithin}, Parts.{Part, within}}
-use Rattle.ocfl_audit.specs.Trail.{unread_of}
-use Rattle.ocfl_audit.specs.Runs.{Limits, files_of, total_files, cut_len, cut, left}
+use Rattle.ocfl_rules.specs.{Audit.{audit, after, total_cost, given_by}, Lines.{is_empty, is_hashed}}
+use Rattle.ocfl_rules.specs.{Due.{items_at}, Between.{IsWithin}, Parts.{Part, within}}
+use Rattle.ocfl_rules.specs.Trail.{unread_of}
+use Rattle.ocfl_rules.specs.Runs.{Limits, files_of, total_files, cut_len, cut, left}
 use Rattle.ocfl_cursor.specs.{Cursor.{State, Cursor, IsShortPlace, IsCursor}, Moves.{after_run}}
 use Rattle.ocfl_item.specs.{Looking.{IsFront}, Auditing.{Audits}}
 use Rattle.ocfl_item.specs.declared.fault.Fault.{Fault}

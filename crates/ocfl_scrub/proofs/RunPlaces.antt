@@ -6,9 +6,9 @@ use Rattle.ocfl_tree.specs.{Place.{Place, place_cmp}, Ascending.{IsAscending}}
 use Rattle.ocfl_tree.specs.{StorageRoot.{StorageRoot}, Store.{Store}}
 use Rattle.ocfl_tree.specs.declared.store.Opening.{Opening}
 use Rattle.ocfl_report.specs.{Line.{Item}, Text.{text}}
-use Rattle.ocfl_audit.specs.{Audit.{Unread, audit, after, item_of, total_cost}, Trail.{unread_of}}
-use Rattle.ocfl_audit.specs.{Due.{items_at}, Parts.{Part, within}, Runs.{Limits, total_files, left}}
-use Rattle.ocfl_audit.proofs.AfterLaws.{after_is_end, after_item}
+use Rattle.ocfl_rules.specs.{Audit.{Unread, audit, after, item_of, total_cost}, Trail.{unread_of}}
+use Rattle.ocfl_rules.specs.{Due.{items_at}, Parts.{Part, within}, Runs.{Limits, total_files, left}}
+use Rattle.ocfl_rules.proofs.AfterLaws.{after_is_end, after_item}
 use Rattle.ocfl_item.specs.{Looking.{IsFront}, Auditing.{Audits}}
 use Rattle.ocfl_walk.specs.WalkCalls.{holder}
 use Rattle.ocfl_scrub.specs.{Call.{call_of}, Written.{places, Figures}}

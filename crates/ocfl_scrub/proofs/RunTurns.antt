@@ -2,7 +2,7 @@
 use Rattle.std.proofs.Common.{◌≡◌, ℕ, ◌+◌, List, refl, sym, ◌∙◌, ap, subst, true, false, Bool, Some, None, Option}
 use Rattle.std.specs.{Prelude.{◌||◌}, List.{last_or}}
 use Rattle.ocfl_tree.specs.{Place.{Place}, StorageRoot.{StorageRoot}, Store.{Store}}
-use Rattle.ocfl_audit.specs.{Due.{due}, Lines.{is_hashed}, Parts.{Part}, Runs.{Limits, files_of}}
+use Rattle.ocfl_rules.specs.{Due.{due}, Lines.{is_hashed}, Parts.{Part}, Runs.{Limits, files_of}}
 use Rattle.ocfl_cursor.specs.Meter.{Meter, MayStart}
 use Rattle.ocfl_cursor.specs.declared.limits.Limits.{Limits as MadeLimits}
 use Rattle.ocfl_walk.specs.{Ends.{is_past}, WalkCalls.{GoesDown, FailsOut}}

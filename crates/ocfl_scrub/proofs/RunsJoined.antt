@@ -7,11 +7,11 @@ use Rattle.ocfl_tree.specs.{Place.{Text, Place, place_cmp}, Ascending.{IsAscendi
 use Rattle.ocfl_tree.specs.{StorageRoot.{StorageRoot}, Store.{Store}}
 use Rattle.ocfl_tree.specs.declared.store.Opening.{Opening}
 use Rattle.ocfl_report.specs.{Line.{Item, found}, Text.{text}}
-use Rattle.ocfl_audit.specs.{Audit.{total_cost}, Lines.{is_empty, is_hashed}}
-use Rattle.ocfl_audit.specs.Trail.{content_trail, reads_inventory}
-use Rattle.ocfl_audit.specs.Zone.{Zone, skipped, hierarchy, inside, zone}
-use Rattle.ocfl_audit.specs.{Due.{items_at, hashed_among}, Parts.{Part}}
-use Rattle.ocfl_audit.specs.Runs.{Limits, total_files, cut, left, runs, runs_after, joined}
+use Rattle.ocfl_rules.specs.{Audit.{total_cost}, Lines.{is_empty, is_hashed}}
+use Rattle.ocfl_rules.specs.Trail.{content_trail, reads_inventory}
+use Rattle.ocfl_rules.specs.Zone.{Zone, skipped, hierarchy, inside, zone}
+use Rattle.ocfl_rules.specs.{Due.{items_at, hashed_among}, Parts.{Part}}
+use Rattle.ocfl_rules.specs.Runs.{Limits, total_files, cut, left, runs, runs_after, joined}
 use Rattle.ocfl_item.specs.{Looking.{IsFront}, Auditing.{Fails}}
 use Rattle.ocfl_scrub.specs.Types.{ReportStop}
 use Rattle.ocfl_item.specs.declared.fault.Fault.TheVariants.{Memory}
@@ -32,7 +32,7 @@ use Rattle.ocfl_scrub.proofs.WayOrder.{held_in}
 use Rattle.ocfl_scrub.proofs.RunPlaces.{Took, Turn, front_is, rest_is, due_parts, front_length}
 use Rattle.ocfl_item.proofs.AuditingLaws.{audits_fail, audits_nothing, audits_on}
 use Rattle.ocfl_item.proofs.AuditingLaws.{fails_nothing}
-use Rattle.ocfl_audit.proofs.RunLaws.{cost_append, files_append}
+use Rattle.ocfl_rules.proofs.RunLaws.{cost_append, files_append}
 
 -- ---- some runs
 

@@ -3,7 +3,7 @@ use Rattle.std.proofs.Common.{◌≡◌, ◌≢◌, refl, sym, ◌∙◌, ap, su
 use Rattle.std.specs.{Io.KnownBytes.{Appends}, declared.alloc.Global.{Global}}
 use Rattle.ocfl_tree.specs.{Place.{Text}, StorageRoot.{StorageRoot}, Store.{Store}}
 use Rattle.ocfl_report.specs.{Line.{found}, Text.{text}}
-use Rattle.ocfl_audit.specs.{Audit.{audit}, Parts.{Part, within}}
+use Rattle.ocfl_rules.specs.{Audit.{audit}, Parts.{Part, within}}
 use Rattle.ocfl_deed.specs.declared.deed.Deed.{Deed}
 use Rattle.ocfl_scrub.specs.{Call.{Call, call_of}, Noting.{status_of}, Performing.{OutOfMemoryFirst, PartAudited, Performs}}
 use Rattle.ocfl_scrub.specs.Scoping.{AuditPerformedIn, IsAuditNoteIn, PerformsIn, part_of_scope}

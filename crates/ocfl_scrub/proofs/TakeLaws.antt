@@ -4,7 +4,7 @@ use Rattle.std.proofs.KnownBytes.{Appends-nil}
 use Rattle.std.specs.{Prelude.{cond, ◌||◌}, List.{list_any}, Io.KnownBytes.{Appends}}
 use Rattle.ocfl_tree.specs.{Place.{Text, Place}, StorageRoot.{StorageRoot}, Store.{Store, Did}}
 use Rattle.ocfl_report.specs.{Line.{Line, Item, is_finding_code, has_finding, found}, Text.{lines_text, text}}
-use Rattle.ocfl_audit.specs.{Audit.{total_cost}, Due.{hashed_among, items_at}, Trail.{unread_of}}
+use Rattle.ocfl_rules.specs.{Audit.{total_cost}, Due.{hashed_among, items_at}, Trail.{unread_of}}
 use Rattle.ocfl_item.specs.{Looking.{IsFront}, Auditing.{Fails}, declared.fault.Fault.{Fault}}
 use Rattle.ocfl_item.specs.Judging.{Judges, JudgeFails}
 use Rattle.ocfl_scrub.specs.Types.{ReportStop}

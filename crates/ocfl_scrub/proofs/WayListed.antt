@@ -11,11 +11,11 @@ use Rattle.ocfl_tree.specs.{StorageRoot.{StorageRoot}, Store.{Store}}
 use Rattle.ocfl_tree.proofs.Bools.{and_second}
 use Rattle.ocfl_tree.proofs.Orders.{among_filter, among_from_filter, among_left, among_right, below_from_greater, not_below_itself, place_cmp_exact, place_cmp_total, true_not_false}
 use Rattle.ocfl_tree.proofs.{Stores.{among_either}, Places.{text_cmp_exact}}
-use Rattle.ocfl_audit.specs.Between.{IsBeyond, IsWithin, is_looked_into, looked_between}
-use Rattle.ocfl_audit.specs.{Due.{due}, Lines.{is_hashed}, Parts.{Part, lies_in}, Walk.{is_reached}}
-use Rattle.ocfl_audit.proofs.BelowLaws.{above_self, less_from}
-use Rattle.ocfl_audit.proofs.{BetweenLaws.{among_between, is_directory}, BranchLaws.{nothing_above}}
-use Rattle.ocfl_audit.proofs.PartLaws.{places_within_is}
+use Rattle.ocfl_rules.specs.Between.{IsBeyond, IsWithin, is_looked_into, looked_between}
+use Rattle.ocfl_rules.specs.{Due.{due}, Lines.{is_hashed}, Parts.{Part, lies_in}, Walk.{is_reached}}
+use Rattle.ocfl_rules.proofs.BelowLaws.{above_self, less_from}
+use Rattle.ocfl_rules.proofs.{BetweenLaws.{among_between, is_directory}, BranchLaws.{nothing_above}}
+use Rattle.ocfl_rules.proofs.PartLaws.{places_within_is}
 use Rattle.ocfl_item.specs.{Auditing.{LiesIn}, Looking.{way_to}}
 use Rattle.ocfl_scrub.specs.Types.{ReportStop}
 use Rattle.ocfl_walk.specs.{Before.{directory_of}, Ends.{is_past}}

@@ -8,9 +8,9 @@ use Rattle.ocfl_tree.specs.Ascending.{IsAscending, IsAmong, IsBeforeAll}
 use Rattle.ocfl_tree.proofs.{Bools.{and_first}, Orders.{among_left, place_cmp_total, place_cmp_exact}}
 use Rattle.ocfl_tree.proofs.Orders.{among_filter, among_from_filter, among_map, ascends_filter}
 use Rattle.ocfl_tree.proofs.Orders.{ascending_unique}
-use Rattle.ocfl_audit.specs.Zone.{Zone, skipped, hierarchy, inside, zone, inventory_at, beginnings}
-use Rattle.ocfl_audit.specs.{Between.{IsBeyond}, Parts.{Part}, Trail.{is_head, reads_inventory}}
-use Rattle.ocfl_audit.proofs.BelowLaws.{cmp_behind, from_append, ascends_append}
+use Rattle.ocfl_rules.specs.Zone.{Zone, skipped, hierarchy, inside, zone, inventory_at, beginnings}
+use Rattle.ocfl_rules.specs.{Between.{IsBeyond}, Parts.{Part}, Trail.{is_head, reads_inventory}}
+use Rattle.ocfl_rules.proofs.BelowLaws.{cmp_behind, from_append, ascends_append}
 use Rattle.ocfl_item.specs.Looking.{way_to, IsFront}
 use Rattle.ocfl_item.proofs.{ItemLaws.{head_zone}, LooksZones.{inside_on}}
 use Rattle.ocfl_walk.specs.{WalkCalls.{holder_of, way_of, holder}, Before.{directory_of}}

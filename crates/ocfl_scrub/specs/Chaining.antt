@@ -1,7 +1,7 @@
 -- A cycle, of the whole or of a part, as the runs that it made, each from the cursor that the one
 -- before it answered.
 use Rattle.std.specs.{Prelude.{◌≡◌, ◌≤◌, ◌⊎◌, List, [], ◌∷◌, ◌++◌, map, length}, List.{list_any}}
-use Rattle.ocfl_audit.specs.{Parts.{Part}, Runs.{Limits}}
+use Rattle.ocfl_rules.specs.{Parts.{Part}, Runs.{Limits}}
 use Rattle.ocfl_cursor.specs.Cursor.{Cursor, new_cursor}
 use Rattle.ocfl_item.specs.declared.fault.Fault.TheVariants as fault
 use Rattle.ocfl_scrub.specs.declared.stop.ReportStop.TheVariants as halt

@@ -3,7 +3,7 @@ use Rattle.std.specs.Prelude.{◌≡◌, ◌≢◌, List, [], ◌∷◌, Bool, n
 use Rattle.ocfl_tree.specs.{Place.{Text, Place}, StorageRoot.{StorageRoot}}
 use Rattle.ocfl_tree.specs.declared.store.Opening.{Opening}
 use Rattle.ocfl_report.specs.{Line.{Item, found}, Text.{text}}
-use Rattle.ocfl_audit.specs.{Lines.{is_empty}, Trail.{unread_of}, Walk.{item_at}}
+use Rattle.ocfl_rules.specs.{Lines.{is_empty}, Trail.{unread_of}, Walk.{item_at}}
 use Rattle.ocfl_item.specs.{Looking.{way_to, IsFront}, Auditing.{Audits, Fails}}
 use Rattle.ocfl_walk.specs.WalkCalls.{holder}
 use Rattle.ocfl_scrub.specs.{Call.{Call, Writes}, Starting.{FilesLieIn}, Taking.{PartOf, stop_place}}

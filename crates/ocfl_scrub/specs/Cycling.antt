@@ -2,9 +2,9 @@
 use Rattle.std.specs.Prelude.{◌≡◌, ◌≢◌, ◌≤◌, ◌+◌, ◌/◌, ◌↔◌, ℕ, List, [], ◌∷◌, ◌++◌, Bool, true, false, Option, All, map, length, ⊤}
 use Rattle.ocfl_tree.specs.{Store.{Store}, declared.store.Opening.{Opening}}
 use Rattle.ocfl_report.specs.{Line.{Item}, Text.{text}}
-use Rattle.ocfl_audit.specs.{Audit.{audit, total_cost}, Due.{hashed_among}, Parts.{Part, within}}
-use Rattle.ocfl_audit.specs.Trail.{content_trail}
-use Rattle.ocfl_audit.specs.Runs.{Limits, total_files, StaysWithin, runs, joined, IsAtLeast}
+use Rattle.ocfl_rules.specs.{Audit.{audit, total_cost}, Due.{hashed_among}, Parts.{Part, within}}
+use Rattle.ocfl_rules.specs.Trail.{content_trail}
+use Rattle.ocfl_rules.specs.Runs.{Limits, total_files, StaysWithin, runs, joined, IsAtLeast}
 use Rattle.ocfl_cursor.specs.Cursor.{ended, new_cursor}
 use Rattle.ocfl_cursor.specs.declared.limits.Limits.{Limits as MadeLimits}
 use Rattle.ocfl_scrub.specs.declared.stop.ReportStop.TheVariants as halt

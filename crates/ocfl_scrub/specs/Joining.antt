@@ -5,8 +5,8 @@ use Rattle.std.specs.Ordering.{is_lt}
 use Rattle.ocfl_tree.specs.{Place.{Text, Place, place_cmp}, StorageRoot.{StorageRoot}}
 use Rattle.ocfl_tree.specs.{Store.{Store}, declared.store.Opening.{Opening}}
 use Rattle.ocfl_report.specs.{Line.{Item}, Text.{text}}
-use Rattle.ocfl_audit.specs.{Audit.{Unread, after}, Parts.{Part}, Runs.{Limits}}
-use Rattle.ocfl_audit.specs.Trail.{unread_of}
+use Rattle.ocfl_rules.specs.{Audit.{Unread, after}, Parts.{Part}, Runs.{Limits}}
+use Rattle.ocfl_rules.specs.Trail.{unread_of}
 use Rattle.ocfl_cursor.specs.Cursor.{State, start, behind, ended, Cursor}
 use Rattle.ocfl_scrub.specs.{Call.{Call, known_call}, Types.{RunEnd, RunStatus}}
 use Rattle.ocfl_scrub.specs.Running.{place_in, taken_in, RunEndsWithin, RunsFromWithin}

@@ -17,7 +17,7 @@ use Rattle.ocfl_scrub.specs.{Running.{RunsFromWithin, RunsCleanlyWithin}, Chaini
 use Rattle.ocfl_scrub.specs.Cycling.{HeadlineOf}
 use Rattle.ocfl_scrub.specs.Types.{AuditEnd, AuditStatus, CheckEnd, CycleEnd, CycleStatus, Note, ReportStop, RunEnd, RunStatus}
 use Rattle.ocfl_scrub.specs.declared.checking.AuditStatus.TheVariants as end
-use Rattle.ocfl_audit.specs.{Parts.{Part, whole}, Runs.{Limits}}
+use Rattle.ocfl_rules.specs.{Parts.{Part, whole}, Runs.{Limits}}
 use Rattle.ocfl_scrub.specs.declared.running.RunStatus.TheVariants as run
 use Rattle.ocfl_scrub.specs.declared.cycling.CycleStatus.TheVariants as cycle
 use Rattle.ocfl_scrub.specs.declared.note.Note.TheVariants as note

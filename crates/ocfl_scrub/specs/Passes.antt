@@ -1,7 +1,7 @@
 -- What a pass over the items of a part does, by the walk that met the first of them.
 use Rattle.std.specs.Prelude.{◌≡◌, ◌≢◌, ◌^◌, ◌≤◌, ℕ, List, false, Option, Some, None}
 use Rattle.ocfl_tree.specs.{Place.{Place}, StorageRoot.{StorageRoot}, Store.{Store}}
-use Rattle.ocfl_audit.specs.{Parts.{Part}, Runs.{Limits}}
+use Rattle.ocfl_rules.specs.{Parts.{Part}, Runs.{Limits}}
 use Rattle.ocfl_cursor.specs.declared.limits.Limits.{Limits as MadeLimits}
 use Rattle.ocfl_scrub.specs.declared.stop.ReportStop.TheVariants as halt
 use Rattle.ocfl_walk.specs.{Ends.{is_past}, WalkCalls.{GoesDown}, Walks.{Gives}}

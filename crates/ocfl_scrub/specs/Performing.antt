@@ -3,7 +3,7 @@ use Rattle.std.specs.Prelude.{◌≡◌, ◌≢◌, ◌↔◌, ◌⊎◌, ◌<�
 use Rattle.std.specs.{declared.alloc.Global.{Global}, Borrow.{MutBor}, Io.KnownBytes.{Appends}}
 use Rattle.ocfl_tree.specs.{Place.{Text, Place}, Name.{IsPlace}}
 use Rattle.ocfl_report.specs.{Line.{found}, Text.{place_text, text}}
-use Rattle.ocfl_audit.specs.{Audit.{audit}, Parts.{Part, whole, within}, Runs.{Limits}}
+use Rattle.ocfl_rules.specs.{Audit.{audit}, Parts.{Part, whole, within}, Runs.{Limits}}
 use Rattle.ocfl_cursor.specs.{Cursor.{Cursor, IsCursor, new_cursor, cursor_text}, Moves.{after_run}}
 use Rattle.ocfl_cursor.specs.{Refusal.{IsTextOf}, Shown.{IsShownFrom, UnshownRightly}}
 use Rattle.ocfl_cursor.specs.{Stop.{StopsRightly}, declared.limits.Limits.{Limits as MadeLimits}}

@@ -5,8 +5,8 @@ use Rattle.std.specs.{List.{last_or}, Option.{option_map_or}}
 use Rattle.ocfl_tree.specs.{Place.{Place}, StorageRoot.{StorageRoot}, Store.{Store}}
 use Rattle.ocfl_tree.specs.declared.store.Opening.{Opening}
 use Rattle.ocfl_report.specs.{Line.{Item}, Text.{text}}
-use Rattle.ocfl_audit.specs.{Audit.{audit, after}, Parts.{Part, within}}
-use Rattle.ocfl_audit.specs.Runs.{Limits, sum_of, cut, left}
+use Rattle.ocfl_rules.specs.{Audit.{audit, after}, Parts.{Part, within}}
+use Rattle.ocfl_rules.specs.Runs.{Limits, sum_of, cut, left}
 use Rattle.ocfl_cursor.specs.{Cursor.{State, start, behind, ended, Cursor}, Meter.{max_cost}}
 use Rattle.ocfl_cursor.specs.Moves.{next_cycle, after_run}
 use Rattle.ocfl_cursor.specs.declared.limits.Limits.{Limits as MadeLimits}

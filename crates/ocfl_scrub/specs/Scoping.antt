@@ -2,7 +2,7 @@
 use Rattle.std.specs.Prelude.{◌≡◌, ◌⊎◌, ℕ, Bool, Option, None, Vec, IfSome, ⊤}
 use Rattle.std.specs.declared.alloc.Global.{Global}
 use Rattle.ocfl_tree.specs.Place.{Text, Place}
-use Rattle.ocfl_audit.specs.{Parts.{Part, branch, whole}, Runs.{Limits}}
+use Rattle.ocfl_rules.specs.{Parts.{Part, branch, whole}, Runs.{Limits}}
 use Rattle.ocfl_cursor.specs.{Cursor.{Cursor, new_cursor}, Part.{part_text, IsPartText}}
 use Rattle.ocfl_cursor.specs.{Stop.{PartStopsRightly}, declared.ends.PartEnds.{PartEnds}}
 use Rattle.ocfl_cursor.specs.declared.part_reading.PartCursorStop.{PartCursorStop}

@@ -5,9 +5,9 @@ use Rattle.std.specs.{Ordering.{is_lt}, Option.{option_map_or}}
 use Rattle.ocfl_tree.specs.{Place.{Place, place_cmp}, Ascending.{IsAmong}}
 use Rattle.ocfl_tree.specs.{StorageRoot.{StorageRoot}, declared.store.Opening.{Opening}}
 use Rattle.ocfl_report.specs.Line.{Item}
-use Rattle.ocfl_audit.specs.{Audit.{audit, after}, Due.{due}, Lines.{is_hashed}}
-use Rattle.ocfl_audit.specs.{Between.{looked_between, read_between}, Zone.{beginnings}}
-use Rattle.ocfl_audit.specs.{Parts.{Part, within, places_within}, Trail.{reads_inventory, unread_of}}
+use Rattle.ocfl_rules.specs.{Audit.{audit, after}, Due.{due}, Lines.{is_hashed}}
+use Rattle.ocfl_rules.specs.{Between.{looked_between, read_between}, Zone.{beginnings}}
+use Rattle.ocfl_rules.specs.{Parts.{Part, within, places_within}, Trail.{reads_inventory, unread_of}}
 use Rattle.ocfl_item.specs.{Looking.{IsFront, way_to}, Auditing.{Audits, Fails, LiesIn}}
 use Rattle.ocfl_walk.specs.Before.{directory_of, place_before}
 use Rattle.ocfl_walk.specs.declared.end.End.{End}

@@ -3,7 +3,7 @@ use Rattle.std.specs.Prelude.{◌≡◌, ◌≢◌, ◌<◌, ℕ, List, [], ◌�
 use Rattle.std.specs.Io.KnownBytes.{Appends}
 use Rattle.ocfl_tree.specs.{Place.{Text, Place}, declared.store.Opening.{Opening}}
 use Rattle.ocfl_report.specs.{Line.{Item, found}, Text.{text}}
-use Rattle.ocfl_audit.specs.{Audit.{total_cost}, Trail.{places_of}, Due.{hashed_among, items_at}}
+use Rattle.ocfl_rules.specs.{Audit.{total_cost}, Trail.{places_of}, Due.{hashed_among, items_at}}
 use Rattle.ocfl_item.specs.{Looking.{IsFront, failed_place}, Auditing.{Audits, Fails}}
 use Rattle.ocfl_scrub.specs.Types.{ReportStop}
 use Rattle.ocfl_scrub.specs.declared.stop.ReportStop.TheVariants as halt

@@ -2,7 +2,7 @@
 use Rattle.std.specs.{Prelude.{◌≡◌, ◌≢◌, ℕ, List, ◌++◌, Bool, false, Option, None}, List.{last_or}}
 use Rattle.ocfl_tree.specs.{Place.{Place}, declared.store.Opening.{Opening}}
 use Rattle.ocfl_report.specs.{Line.{found}, Text.{text}}
-use Rattle.ocfl_audit.specs.Parts.{Part, whole}
+use Rattle.ocfl_rules.specs.Parts.{Part, whole}
 use Rattle.ocfl_scrub.specs.declared.stop.ReportStop.TheVariants as halt
 use Rattle.ocfl_scrub.specs.{Call.{Call, Writes}, Taking.{WritesLines}}
 use Rattle.ocfl_scrub.specs.Starting.{LooksOver, StopsLooking, items_in}

@@ -1,7 +1,7 @@
 //! The audit of a storage root, or of a part of it.
 ghost use Rattle.std.specs.Prelude.{◌≡◌, [], None, false};
 ghost use Rattle.ocfl_report.specs.{Line.{found as found_in}, Text.{text}};
-ghost use Rattle.ocfl_audit.specs.{Audit.{audit as whole_audit}, Parts.{within}};
+ghost use Rattle.ocfl_rules.specs.{Audit.{audit as whole_audit}, Parts.{within}};
 ghost use Rattle.ocfl_scrub.specs.{Call.{IsUnfailing, WhereTold, Writes}, Starting.{part_of}};
 ghost use Rattle.ocfl_scrub.specs.WholeAudit.{AuditEnds, AuditEndsWithin, AuditsOnAnyStore};
 

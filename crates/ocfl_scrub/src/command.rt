@@ -2,7 +2,7 @@
 ghost use Rattle.std.specs.Prelude.{◌≡◌, ◌≢◌, ◌⊎◌, [], false, true};
 ghost use Rattle.ocfl_tree.specs.{Place.{Place as ModelPlace}, Name.{IsPlace}};
 ghost use Rattle.ocfl_report.specs.{Line.{found as found_in}, Text.{place_text, text}};
-ghost use Rattle.ocfl_audit.specs.{Audit.{audit as whole_audit}, Parts.{whole}};
+ghost use Rattle.ocfl_rules.specs.{Audit.{audit as whole_audit}, Parts.{whole}};
 ghost use Rattle.ocfl_scrub.specs.Call.{IsUnfailing, WhereTold, Writes};
 ghost use Rattle.ocfl_scrub.specs.Noting.{status_of, IsAuditNote, IsAuditSaid, IsCheckNote, IsCheckSaid, IsRefused, IsStatus, IsStopNote, IsStopSaid, AuditsWithNote, ChecksWithNote, ReportsOnAnyStore};
 

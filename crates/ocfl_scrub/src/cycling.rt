@@ -1,7 +1,7 @@
 //! A cycle of runs from the first item of a storage root, or of a part of it, each with limits of
 //! its own.
 ghost use Rattle.std.specs.Prelude.{◌≡◌, ◌≤◌, IfErr, IfOk};
-ghost use Rattle.ocfl_audit.specs.Parts.{whole};
+ghost use Rattle.ocfl_rules.specs.Parts.{whole};
 ghost use Rattle.ocfl_cursor.specs.Cursor.{new_cursor};
 ghost use Rattle.ocfl_scrub.specs.{Cycling.{CyclesOver}, Starting.{part_of}};
 

@@ -1,6 +1,6 @@
 //! Parts of a storage root.
 ghost use Rattle.std.specs.Prelude.{◌≡◌, ◌≢◌, [], None, Some, Option, option_map, IfErr, IfOk, MatchResult};
-ghost use Rattle.ocfl_audit.specs.Parts.{branch, whole};
+ghost use Rattle.ocfl_rules.specs.Parts.{branch, whole};
 ghost use Rattle.ocfl_scope.specs.Numbered.{part_between};
 ghost use Rattle.ocfl_walk.specs.{WalkCalls.{GoDownFails, GoesDown}, Walks.{Stands}};
 ghost use Rattle.ocfl_scrub.specs.Scoping.{part_of_scope};

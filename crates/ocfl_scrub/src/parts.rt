@@ -3,8 +3,8 @@
 ghost use Rattle.std.specs.Prelude.{◌≡◌, ◌≤◌, ◌+◌, ◌++◌, ◌/◌, ℕ, List, None, All, map};
 ghost use Rattle.ocfl_tree.specs.StorageRoot.{StorageRoot};
 ghost use Rattle.ocfl_report.specs.Text.{text};
-ghost use Rattle.ocfl_audit.specs.{Audit.{audit, total_cost}, Parts.{Part, within}};
-ghost use Rattle.ocfl_audit.specs.Runs.{IsAtLeast, total_files};
+ghost use Rattle.ocfl_rules.specs.{Audit.{audit, total_cost}, Parts.{Part, within}};
+ghost use Rattle.ocfl_rules.specs.Runs.{IsAtLeast, total_files};
 ghost use Rattle.ocfl_cursor.specs.Cursor.{Cursor, ended};
 ghost use Rattle.ocfl_scrub.specs.Running.{place_in};
 ghost use Rattle.ocfl_scrub.specs.Joining.{AreOneCycle, PartRun, cursor_after, left_by, reports_of, unread_together, unstopped};

@@ -3,7 +3,7 @@ ghost use Rattle.std.specs.Prelude.{◌≡◌, ◌≢◌, true, false, None, Som
 ghost use Rattle.ocfl_cursor.specs.{Cursor.{IsShortPlace}, Meter.{IsMeter, MayStart}};
 ghost use Rattle.ocfl_cursor.specs.State.{state_of};
 ghost use Rattle.ocfl_tree.specs.{Place.{Place as Spot}, Store.{IfTold}};
-ghost use Rattle.ocfl_audit.specs.Parts.{whole};
+ghost use Rattle.ocfl_rules.specs.Parts.{whole};
 ghost use Rattle.ocfl_scrub.specs.Call.{WhereTold};
 ghost use Rattle.ocfl_scrub.specs.Keeping.{IsReady, RunsOn, met_at};
 ghost use Rattle.ocfl_scrub.specs.Passes.{IsPass, Meets, PassesOn, TakesNothing};

@@ -5,7 +5,7 @@
 mod nights;
 
 use nights::make_night;
-use ocfl_line::Asked;
+use ocfl_arguments::Asked;
 use ocfl_part_folders::joining::join_parts;
 use ocfl_tasks::{do_task, show_codes};
 use ocfl_terminal::progress::{Terminals, find_terminals};

@@ -20,7 +20,7 @@ use ocfl_journal::{NightLog, SystemLog};
 use ocfl_kept::room::Room;
 use ocfl_kept::stand::Standing;
 use ocfl_kept::state_dir::Folder;
-use ocfl_line::NightAsked;
+use ocfl_arguments::NightAsked;
 use ocfl_night::{NightEnd, Output, Plan, Site, night};
 use ocfl_plan::{Budgeted, Hearing, Telling, plan_of};
 use ocfl_state::StateFolder;

@@ -2,7 +2,7 @@
 use Rattle.std.proofs.Common.{◌≡◌, ℕ, List, [], ◌∷◌, ◌++◌, map, refl}
 use Prim.Native.String.{String}
 use Rattle.ocfl_tree.specs.StorageRoot.{StorageRoot}
-use Rattle.ocfl_audit.proofs.Cases.Trees.{place, text_at, folder, link}
+use Rattle.ocfl_rules.proofs.Cases.Trees.{place, text_at, folder, link}
 use Rattle.ocfl_split.specs.Levels.{level}
 use Rattle.ocfl_split.specs.Splitting.{split_level, level_from, separators_of, listed_for, listed_from}
 

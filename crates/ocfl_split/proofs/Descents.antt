@@ -5,7 +5,7 @@ use Rattle.std.specs.{Prelude.{cond, ◌&&◌, not, nat_le}, Option.{option_map_
 use Rattle.ocfl_tree.specs.{Place.{Place}, Ascending.{IsAmong}}
 use Rattle.ocfl_tree.specs.{StorageRoot.{StorageRoot, is_dir, names_in}, Store.{Store}}
 use Rattle.ocfl_tree.proofs.{Bools.{and_first, and_both}, Orders.{among_from_filter}}
-use Rattle.ocfl_audit.proofs.BelowLaws.{from_flat_map}
+use Rattle.ocfl_rules.proofs.BelowLaws.{from_flat_map}
 use Rattle.ocfl_item.specs.{Ways.{is_extensions_name}, declared.fault.Fault.{Fault}}
 use Rattle.ocfl_split.specs.Levels.{leads_on, directories_in, directories_below, level_below}
 use Rattle.ocfl_split.specs.Splitting.{room_below, next_level, wider, kept, level_from, split_level, listed_within, listed_from, listed_for, ListsAll, ListsStop}

@@ -13,9 +13,9 @@ use Rattle.ocfl_tree.proofs.Bools.{and_first, and_second, and_both}
 use Rattle.ocfl_tree.proofs.Places.{text_eq-Decides, text_eq-same, not_decided}
 use Rattle.ocfl_tree.proofs.Orders.{place_cmp_total, place_cmp_exact, ascending_unique, ascends_ascending, ascends_filter, among_filter, among_from_filter, among_map}
 use Rattle.ocfl_inventory.proofs.Once.{apart_up, up_from_sorted}
-use Rattle.ocfl_audit.proofs.AuditExists.{some_not_none}
-use Rattle.ocfl_audit.proofs.BelowLaws.{text_cmp_total, text_cmp_exact, above_name}
-use Rattle.ocfl_audit.proofs.WayLaws.{entry_named}
+use Rattle.ocfl_rules.proofs.AuditExists.{some_not_none}
+use Rattle.ocfl_rules.proofs.BelowLaws.{text_cmp_total, text_cmp_exact, above_name}
+use Rattle.ocfl_rules.proofs.WayLaws.{entry_named}
 use Rattle.ocfl_item.specs.Ways.{is_dir_kind, is_extensions_name}
 use Rattle.ocfl_item.proofs.{LooksZones.{dir_from_leaf}, NameLaws.{names_of, names_differ}}
 use Rattle.ocfl_split.specs.Levels.{directories_in}

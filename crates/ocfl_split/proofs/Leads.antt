@@ -4,7 +4,7 @@ use Rattle.std.specs.Prelude.{not}
 use Rattle.ocfl_tree.specs.{Place.{Place}, StorageRoot.{StorageRoot}}
 use Rattle.ocfl_tree.specs.{Listing.{IsListing, IsOrdinary}, declared.store.Entry.{Entry}}
 use Rattle.ocfl_inventory.specs.{Declaration.{Declared, declared}, Entries.{file_names}}
-use Rattle.ocfl_audit.specs.Zone.{is_known, is_declared}
+use Rattle.ocfl_rules.specs.Zone.{is_known, is_declared}
 use Rattle.ocfl_inventory.specs.declared.declaration.Level.TheVariants as level
 use Rattle.ocfl_item.specs.{Ways.{IsHead, is_listable}, declared.folder.Head.{Head}}
 use Rattle.ocfl_item.specs.declared.folder.Head.TheVariants as head

@@ -6,7 +6,7 @@ use Rattle.std.specs.Option.{option_map_or, option_to_list}
 use Rattle.ocfl_tree.specs.{Place.{Place}, Ascending.{IsAmong}}
 use Rattle.ocfl_tree.specs.StorageRoot.{StorageRoot, dir, at, is_dir}
 use Rattle.ocfl_tree.proofs.Orders.{true_not_false}
-use Rattle.ocfl_audit.proofs.BelowLaws.{from_append}
+use Rattle.ocfl_rules.proofs.BelowLaws.{from_append}
 use Rattle.ocfl_item.proofs.LooksZones.{dir_from_leaf}
 use Rattle.ocfl_split.specs.Levels.{level, level_below}
 use Rattle.ocfl_split.specs.Splitting.{max_held, held, room_below, next_level, wider, kept, level_from, split_level, firsts, separators_of, IsSplitLevel}

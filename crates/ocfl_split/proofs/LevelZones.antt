@@ -6,11 +6,11 @@ use Rattle.ocfl_tree.specs.{Place.{Text, Place, text_eq}, Ascending.{IsAmong}}
 use Rattle.ocfl_tree.specs.StorageRoot.{StorageRoot, dir, at, is_dir, is_dir_leaf, names_in}
 use Rattle.ocfl_tree.proofs.Bools.{and_both, and_first, and_second}
 use Rattle.ocfl_tree.proofs.Orders.{true_not_false, among_filter, among_from_filter, among_map, among_flat_map}
-use Rattle.ocfl_audit.specs.Objects.{IsObjectRoot}
-use Rattle.ocfl_audit.specs.Zone.{Zone, skipped, hierarchy, inside, zone, root_declared, object_declared, is_known, is_declared}
-use Rattle.ocfl_audit.specs.Walk.{step_zone, is_extensions}
-use Rattle.ocfl_audit.proofs.{BelowLaws.{from_flat_map}, ObjectLaws.{object_by_zone}}
-use Rattle.ocfl_audit.proofs.{StepLaws.{zone_step}, WayLaws.{is_closed, way_dir, entry_named}}
+use Rattle.ocfl_rules.specs.Objects.{IsObjectRoot}
+use Rattle.ocfl_rules.specs.Zone.{Zone, skipped, hierarchy, inside, zone, root_declared, object_declared, is_known, is_declared}
+use Rattle.ocfl_rules.specs.Walk.{step_zone, is_extensions}
+use Rattle.ocfl_rules.proofs.{BelowLaws.{from_flat_map}, ObjectLaws.{object_by_zone}}
+use Rattle.ocfl_rules.proofs.{StepLaws.{zone_step}, WayLaws.{is_closed, way_dir, entry_named}}
 use Rattle.ocfl_item.specs.Ways.{is_extensions_name}
 use Rattle.ocfl_item.proofs.LooksZones.{dir_from_leaf, root_hierarchy}
 use Rattle.ocfl_split.specs.Levels.{leads_on, directories_in, directories_below, level, LiesInHierarchy}

@@ -6,7 +6,7 @@ use Rattle.std.specs.{Option.{option_map_or}, declared.cmp.Ordering.TheVariants.
 use Rattle.ocfl_tree.specs.{Place.{Text, Place, place_cmp}, Ascending.{IsAmong, IsAscending}}
 use Rattle.ocfl_tree.specs.StorageRoot.{StorageRoot}
 use Rattle.ocfl_tree.proofs.Orders.{place_cmp_total, not_below_itself, before_each, among_left}
-use Rattle.ocfl_audit.proofs.BelowLaws.{ascends_append, from_append, from_flat_map}
+use Rattle.ocfl_rules.proofs.BelowLaws.{ascends_append, from_append, from_flat_map}
 use Rattle.ocfl_split.specs.Levels.{leads_on, directories_in, directories_below, level, level_below}
 use Rattle.ocfl_split.specs.Splitting.{room_below, next_level, wider, kept, listed_within, listed_from, listed_for}
 use Rattle.ocfl_split.proofs.{Entries.{among_from_map, tree_rises}, Ranks.{before_longer, all_from}}

@@ -7,7 +7,7 @@ use Rattle.std.specs.declared.cmp.Ordering.TheVariants.{Less, Equal, Greater}
 use Rattle.ocfl_tree.specs.Place.{Place, Text, text_cmp, place_cmp}
 use Rattle.ocfl_tree.specs.Ascending.{IsAscending, IsAmong}
 use Rattle.ocfl_tree.proofs.Orders.{before_each, among_left, among_right}
-use Rattle.ocfl_audit.proofs.BelowLaws.{ascends_append, from_append}
+use Rattle.ocfl_rules.proofs.BelowLaws.{ascends_append, from_append}
 use Rattle.ocfl_split.specs.Splitting.{wider, kept}
 use Rattle.ocfl_split.specs.Internal.Directories.{IsBelow, IsLevel, AddsBelow}
 use Rattle.ocfl_split.proofs.Entries.{pick_among}

@@ -7,9 +7,9 @@ use Rattle.std.specs.declared.cmp.Ordering.TheVariants.{Less}
 use Rattle.ocfl_tree.specs.{Place.{Place, place_cmp}, Ascending.{IsAscending, IsBeforeAll}}
 use Rattle.ocfl_tree.proofs.Orders.{place_cmp_total, not_less, not_less_itself, not_both_below}
 use Rattle.ocfl_report.specs.Line.{Item}
-use Rattle.ocfl_audit.specs.Runs.{joined}
-use Rattle.ocfl_audit.specs.Parts.{Part, is_from, is_below, lies_in, within, parts_from, parts_of}
-use Rattle.ocfl_audit.proofs.{AfterLaws.{places}, PartLaws.{within_is}}
+use Rattle.ocfl_rules.specs.Runs.{joined}
+use Rattle.ocfl_rules.specs.Parts.{Part, is_from, is_below, lies_in, within, parts_from, parts_of}
+use Rattle.ocfl_rules.proofs.{AfterLaws.{places}, PartLaws.{within_is}}
 use Rattle.ocfl_split.specs.Reported.{first_places}
 
 abbrev part_at : Option Place → Option Place → Part

@@ -5,12 +5,12 @@ use Rattle.std.proofs.{lemmas.Bool.{lt-ltb}, lemmas.List.{take-append-drop}}
 use Rattle.std.specs.Prelude.{cond, ◌==◌, ◌||◌, nat_lt}
 use Rattle.ocfl_tree.specs.{Place.{Place, place_cmp}, Ascending.{IsAscending}}
 use Rattle.ocfl_report.specs.Line.{Line, Item}
-use Rattle.ocfl_audit.specs.Audit.{total_cost}
-use Rattle.ocfl_audit.specs.Runs.{Limits, runs, joined, FileLimitFits, budget_len, budget_cut, budget_left, budget_runs_after, budget_runs}
-use Rattle.ocfl_audit.specs.Parts.{within, parts_of}
-use Rattle.ocfl_audit.proofs.{AfterLaws.{places}, RunLaws.{affords, cancel, left_over, same_equal}}
-use Rattle.ocfl_parts.specs.Splits.{reported, cuts}
-use Rattle.ocfl_parts.proofs.ItemCuts.{item_cuts, cuts_of_items}
+use Rattle.ocfl_rules.specs.Audit.{total_cost}
+use Rattle.ocfl_rules.specs.Runs.{Limits, runs, joined, FileLimitFits, budget_len, budget_cut, budget_left, budget_runs_after, budget_runs}
+use Rattle.ocfl_rules.specs.Parts.{within, parts_of}
+use Rattle.ocfl_rules.proofs.{AfterLaws.{places}, RunLaws.{affords, cancel, left_over, same_equal}}
+use Rattle.ocfl_separators.specs.Splits.{reported, cuts}
+use Rattle.ocfl_separators.proofs.ItemCuts.{item_cuts, cuts_of_items}
 use Rattle.ocfl_split.specs.Reported.{first_places, PassesJust}
 use Rattle.ocfl_split.proofs.ReportedParts.{AreSome, parts_are_cuts}
 

@@ -1,8 +1,8 @@
 -- The directories of the storage hierarchy, level by level.
 use Rattle.std.specs.Prelude.{◌≡◌, ◌⊎◌, ℕ, zero, suc, ◌&&◌, Some, List, [], ◌∷◌, ◌++◌, Bool, not, if◌then◌else◌, filter, flat_map, map}
 use Rattle.ocfl_tree.specs.{Place.{Place}, StorageRoot.{StorageRoot, dir, at, is_dir, names_in}}
-use Rattle.ocfl_audit.specs.Zone.{hierarchy, zone, root_declared, object_declared, is_known, is_declared}
-use Rattle.ocfl_audit.specs.Objects.{IsObjectRoot}
+use Rattle.ocfl_rules.specs.Zone.{hierarchy, zone, root_declared, object_declared, is_known, is_declared}
+use Rattle.ocfl_rules.specs.Objects.{IsObjectRoot}
 use Rattle.ocfl_item.specs.Ways.{is_extensions_name}
 
 -- whether what is in a directory of the hierarchy belongs to the hierarchy too: in the storage

@@ -2,7 +2,7 @@
 use Rattle.std.specs.Prelude.{◌≡◌, ◌<◌, ◌≤◌, ◌+◌, ℕ, List, [], ◌∷◌, ◌++◌}
 use Rattle.ocfl_tree.specs.Place.{Place}
 use Rattle.ocfl_report.specs.Line.{Item}
-use Rattle.ocfl_audit.specs.Audit.{total_cost}
+use Rattle.ocfl_rules.specs.Audit.{total_cost}
 
 -- the place of the first item of each run that takes any
 abbrev pub first_places : List (List Item) → List Place

@@ -2,7 +2,7 @@
 use Rattle.std.specs.Prelude.{◌≡◌, ◌≢◌, ◌⊎◌, ◌<◌, ◌≤◌, ℕ, zero, suc, ◌+◌, ◌-◌, ◌*◌, ◌/◌, ◌||◌, ◌==◌, nat_le, nat_lt, min, length, List, [], ◌∷◌, ◌++◌, Option, Some, None, if◌then◌else◌, slice_get}
 use Rattle.std.specs.Option.{option_map_or, option_to_list}
 use Rattle.ocfl_tree.specs.{Place.{Place}, StorageRoot.{StorageRoot}, Store.{Store, Did}}
-use Rattle.ocfl_audit.specs.Zone.{max_listed_depth}
+use Rattle.ocfl_rules.specs.Zone.{max_listed_depth}
 use Rattle.ocfl_item.specs.{Looking.{IsFront, failures_by}, declared.fault.Fault.{Fault}}
 use Rattle.ocfl_item.specs.declared.fault.Fault.TheVariants as fault
 use Rattle.ocfl_split.specs.Levels.{level, level_below, directories_below}

@@ -2,12 +2,12 @@
 ghost use Rattle.std.specs.Prelude.{◌≡◌, ◌++◌, ◌∷◌, ◌-◌, ◌≤◌, [], length, IsTrue, IfOk, OnOk, MatchResult};
 ghost use Rattle.ocfl_tree.specs.{Ascending.{IsAscending}, Place.{place_cmp}};
 ghost use Rattle.ocfl_tree.specs.{StorageRoot.{StorageRoot}, Store.{IfTold}};
-ghost use Rattle.ocfl_parts.specs.Separators.{AreSeparators};
+ghost use Rattle.ocfl_separators.specs.Separators.{AreSeparators};
 ghost use Rattle.ocfl_split.specs.Splitting.{ListsAll, ListsStop, cut_evenly, listed_for, max_held, separators_of};
 
 use crate::descent::split_level;
 use ocfl_item::Fault;
-use ocfl_parts::{PushStop, Separators};
+use ocfl_separators::{PushStop, Separators};
 use ocfl_tree::laws::every_place_has_names;
 use ocfl_tree::{Place, Tree};
 use std::alloc::{AllocError, Global};

@@ -3,9 +3,9 @@ ghost use Rattle.std.specs.Prelude.{◌≡◌, ◌↔◌, ℕ, ◌+◌, ◌-◌,
 ghost use Rattle.ocfl_tree.specs.{Ascending.{IsAmong, IsAscending}, Place.{Place, place_cmp}};
 ghost use Rattle.ocfl_tree.specs.StorageRoot.{StorageRoot, dir, at};
 ghost use Rattle.ocfl_report.specs.Line.{Line, Item};
-ghost use Rattle.ocfl_audit.specs.Runs.{Limits, runs, joined, FileLimitFits};
-ghost use Rattle.ocfl_audit.specs.Parts.{within, parts_of};
-ghost use Rattle.ocfl_parts.specs.Splits.{cuts, reported};
+ghost use Rattle.ocfl_rules.specs.Runs.{Limits, runs, joined, FileLimitFits};
+ghost use Rattle.ocfl_rules.specs.Parts.{within, parts_of};
+ghost use Rattle.ocfl_separators.specs.Splits.{cuts, reported};
 ghost use Rattle.ocfl_split.specs.Levels.{level, LiesInHierarchy};
 ghost use Rattle.ocfl_split.specs.Reported.{first_places, PassesJust};
 ghost use Rattle.ocfl_split.specs.Splitting.{IsSplitLevel, listed_for, split_level, separators_of};

@@ -8,7 +8,7 @@ use ocfl_files::files::put_in_place;
 use ocfl_files::reasons::{Reasons, words_on};
 use ocfl_files::saying::{STOPPED, say};
 use ocfl_folder::FsTree;
-use ocfl_line::Task;
+use ocfl_arguments::Task;
 use ocfl_report::DisplayPlace;
 use ocfl_scope::Scope;
 use ocfl_scrub::{Note, Performed, perform_part};

@@ -3,9 +3,9 @@
 use crate::scope::read_scope;
 use ocfl_cursor::PartEnds;
 use ocfl_files::failing::Failure;
-use ocfl_line::Chosen;
+use ocfl_arguments::Chosen;
 use ocfl_scope::Scope;
-use ocfl_telling::{RefusalMessage, Shown, refusal_text};
+use ocfl_messages::{RefusalMessage, Shown, refusal_text};
 use ocfl_tree::Place;
 use std::alloc::{AllocError, Global};
 use std::rt::Files;

@@ -2,8 +2,8 @@
 
 use crate::paths::why_no_place;
 use ocfl_files::saying::say;
-use ocfl_line::Chosen;
-use ocfl_parts::PartsStop;
+use ocfl_arguments::Chosen;
+use ocfl_separators::PartsStop;
 use ocfl_scope::{Scope, ScopeStop, find_branch, find_part};
 use std::fs::File;
 use std::io;

@@ -3,7 +3,7 @@
 
 use crate::paths::write_as_reports;
 use ocfl_deed::Deed;
-use ocfl_line::{Asked, Chosen, NightAsked, Split, Task};
+use ocfl_arguments::{Asked, Chosen, NightAsked, Split, Task};
 use std::alloc::Global;
 use std::rt::Env;
 use std::{env, io};

@@ -4,7 +4,7 @@ use crate::version::print_build;
 use crate::whole::make_asked_whole;
 use clap::error::ErrorKind;
 use ocfl_files::saying::{STOPPED, USAGE, say, say_out_of_memory};
-use ocfl_line::{Asked, CommandStop, asked};
+use ocfl_arguments::{Asked, CommandStop, asked};
 use std::alloc::{AllocError, Global};
 use std::rt::{Env, Files};
 use std::{env, io};

@@ -8,10 +8,10 @@ use Rattle.ocfl_tree.specs.Place.{Place, Text, place_cmp}
 use Rattle.ocfl_tree.specs.Ascending.{ascending, IsAscending, IsAmong}
 use Rattle.ocfl_tree.specs.StorageRoot.{StorageRoot, dir}
 use Rattle.ocfl_tree.proofs.Orders.{place_cmp_total, place_cmp_exact, true_not_false, below_from_greater, not_below_itself, not_both_below, before_each, among_ascending, among_filter, among_from_filter, ascends_filter, ascends_ascending}
-use Rattle.ocfl_audit.specs.{Audit.{candidates}, Between.{looked_between, read_between, up_to}}
-use Rattle.ocfl_audit.specs.{Due.{due, item_places, places_after}, Lines.{is_empty, notes}}
-use Rattle.ocfl_audit.proofs.{AuditExists.{seen_candidate}, BelowLaws.{less_from}}
-use Rattle.ocfl_audit.proofs.BetweenLaws.{directories, from_directory, from_object, looked_seen, objects, read_seen}
+use Rattle.ocfl_rules.specs.{Audit.{candidates}, Between.{looked_between, read_between, up_to}}
+use Rattle.ocfl_rules.specs.{Due.{due, item_places, places_after}, Lines.{is_empty, notes}}
+use Rattle.ocfl_rules.proofs.{AuditExists.{seen_candidate}, BelowLaws.{less_from}}
+use Rattle.ocfl_rules.proofs.BetweenLaws.{directories, from_directory, from_object, looked_seen, objects, read_seen}
 use Rattle.ocfl_walk.proofs.FilterLaws.{left_whole}
 use Rattle.ocfl_walk.specs.Before.{directory_of, last_place, place_before, places_from}
 

@@ -5,8 +5,8 @@ use Rattle.std.specs.{Prelude.{cond, Result, Ok, Err, IfOk, MatchResult}, Orderi
 use Rattle.ocfl_tree.specs.{Place.{Text, Place, text_cmp}, Ascending.{IsAscending, IsBeforeAll}}
 use Rattle.ocfl_tree.specs.{StorageRoot.{StorageRoot, names_in, max_entries}, Store.{Store}}
 use Rattle.ocfl_tree.specs.{Listing.{kind_at}, declared.store.Entry.{Entry}}
-use Rattle.ocfl_audit.specs.{Zone.{hierarchy, inside, zone}, Walk.{seen_names}}
-use Rattle.ocfl_audit.specs.Stack.{IsListed, listed_at, seen_left, seen_places}
+use Rattle.ocfl_rules.specs.{Zone.{hierarchy, inside, zone}, Walk.{seen_names}}
+use Rattle.ocfl_rules.specs.Stack.{IsListed, listed_at, seen_left, seen_places}
 use Rattle.ocfl_item.specs.{Ways.{IsAt, way_below}, Around.{IsPart, IsTableAround}}
 use Rattle.ocfl_item.specs.{Meeting.{IsFairFolder}, declared.fault.Fault.{Fault}}
 use Rattle.ocfl_item.specs.{declared.folder.Folder.{Folder}, declared.meeting.Around.{Around}}
@@ -15,8 +15,8 @@ use Rattle.ocfl_walk.specs.Internal.Standing.{IsChain, IsOrderly, IsAroundIf}
 use Rattle.ocfl_walk.specs.Internal.Entering.{Comes, DescendFails, IsBrought, IsComing, IsShut, Leads, may_open}
 use Rattle.ocfl_item.proofs.NameLaws.{names_of}
 use Rattle.ocfl_tree.proofs.Orders.{among_from_filter, ascends_filter}
-use Rattle.ocfl_audit.proofs.{AuditExists.{append_one}, BelowLaws.{begins_front, less_from}}
-use Rattle.ocfl_audit.proofs.{Lists.{map_filter}, StackLaws.{start_stops}}
+use Rattle.ocfl_rules.proofs.{AuditExists.{append_one}, BelowLaws.{begins_front, less_from}}
+use Rattle.ocfl_rules.proofs.{Lists.{map_filter}, StackLaws.{start_stops}}
 use Rattle.ocfl_walk.proofs.{DescentLaws.{descent_fails_on}, FilterLaws.{left_all, left_fewer}}
 use Rattle.ocfl_walk.proofs.{ReachLaws.{comes_on}, KeepLaws.{left_above}, LeadsLaws.{around_on}}
 use Rattle.ocfl_walk.proofs.OrderlyLaws.{before_below, orderly_top}

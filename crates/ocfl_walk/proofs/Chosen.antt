@@ -10,11 +10,11 @@ use Rattle.ocfl_walk.specs.Internal.Standing.{IsBelowNext, IsOrderlyIf, TurnIs, 
 use Rattle.ocfl_walk.specs.{Internal.Walking.{GoesOn}}
 use Rattle.ocfl_walk.specs.{declared.end.End.{End}, declared.stand.Stand.{Stand}}
 use Rattle.ocfl_walk.specs.{declared.stand.Step.{Step}, declared.stand.Turn.{Turn}}
-use Rattle.ocfl_audit.specs.Between.{IsBeyond}
+use Rattle.ocfl_rules.specs.Between.{IsBeyond}
 use Rattle.ocfl_item.specs.declared.meeting.Around.{Around}
 use Rattle.ocfl_walk.specs.declared.stand.Step.TheVariants as step
 use Rattle.ocfl_walk.specs.declared.stand.Turn.TheVariants as turn
-use Rattle.ocfl_audit.proofs.BelowLaws.{equal_itself, less_from}
+use Rattle.ocfl_rules.proofs.BelowLaws.{equal_itself, less_from}
 use Rattle.ocfl_tree.proofs.Orders.{place_cmp_total}
 use Rattle.ocfl_walk.proofs.DueTurns.{turn_comes}
 use Rattle.ocfl_walk.proofs.OrderlyLaws.{fit_of, orderly_trimmed, size_trimmed}

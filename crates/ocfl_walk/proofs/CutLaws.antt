@@ -9,15 +9,15 @@ use Rattle.ocfl_tree.specs.Place.{Place, Text, text_cmp, place_cmp, begins}
 use Rattle.ocfl_tree.specs.{Ascending.{IsAmong, IsBeforeAll}, StorageRoot.{StorageRoot, Leaf, dir}}
 use Rattle.ocfl_tree.specs.{Listing.{kind_at}, declared.store.Entry.{Entry}}
 use Rattle.ocfl_tree.proofs.Orders.{place_cmp_total, place_cmp_exact, true_not_false, not_below_itself, ascending_unique, among_filter, among_from_filter, ascends_filter}
-use Rattle.ocfl_audit.specs.Audit.{candidates}
-use Rattle.ocfl_audit.specs.Stack.{Frame, IsListed, IsStack, seen_in, seen_left, seen_places}
-use Rattle.ocfl_audit.specs.{Walk.{seen_names}, Zone.{inside, seen, table_at, zone}}
-use Rattle.ocfl_audit.proofs.AuditExists.{object_at, object_key, path_candidate, seen_candidate, zone_is}
-use Rattle.ocfl_audit.proofs.BelowLaws.{above, above_self, begins_front, begins_rest, cmp_behind, from_append, from_flat_map, less_from, equal_itself}
-use Rattle.ocfl_audit.proofs.Lists.{map_filter}
-use Rattle.ocfl_audit.proofs.NextLaws.{same_above, seen_ascend, seen_from, seen_to}
-use Rattle.ocfl_audit.proofs.{StackLaws.{entry_seen, stack_pops}, Trails.{filter_append}}
-use Rattle.ocfl_audit.proofs.WayLaws.{head_seen, is_closed}
+use Rattle.ocfl_rules.specs.Audit.{candidates}
+use Rattle.ocfl_rules.specs.Stack.{Frame, IsListed, IsStack, seen_in, seen_left, seen_places}
+use Rattle.ocfl_rules.specs.{Walk.{seen_names}, Zone.{inside, seen, table_at, zone}}
+use Rattle.ocfl_rules.proofs.AuditExists.{object_at, object_key, path_candidate, seen_candidate, zone_is}
+use Rattle.ocfl_rules.proofs.BelowLaws.{above, above_self, begins_front, begins_rest, cmp_behind, from_append, from_flat_map, less_from, equal_itself}
+use Rattle.ocfl_rules.proofs.Lists.{map_filter}
+use Rattle.ocfl_rules.proofs.NextLaws.{same_above, seen_ascend, seen_from, seen_to}
+use Rattle.ocfl_rules.proofs.{StackLaws.{entry_seen, stack_pops}, Trails.{filter_append}}
+use Rattle.ocfl_rules.proofs.WayLaws.{head_seen, is_closed}
 use Rattle.ocfl_item.specs.{Around.{IsTableAround}, declared.meeting.Around.{Around}}
 use Rattle.ocfl_item.proofs.{LooksZones.{inside_step}, NameLaws.{names_of}}
 use Rattle.ocfl_walk.specs.Standing.{HaveEntries, Pile, entry_weight, frames_of, size_of, weigh, levels}

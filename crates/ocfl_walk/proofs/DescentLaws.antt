@@ -6,13 +6,13 @@ use Rattle.ocfl_tree.specs.{Place.{Place, text_eq}, Ascending.{IsAmong}, Storage
 use Rattle.ocfl_tree.specs.{Store.{Store, Did}, declared.store.Opening.{Opening}}
 use Rattle.ocfl_inventory.specs.Table.{Table}
 use Rattle.ocfl_tree.proofs.{Orders.{true_not_false}, Stores.{did_then, did_nothing, listed_well}}
-use Rattle.ocfl_audit.specs.Zone.{Zone, skipped, hierarchy, inside, zone, inventory_name}
-use Rattle.ocfl_audit.specs.{Head.{on}, Trail.{heads_of, inventory_of, reads_inventory}}
+use Rattle.ocfl_rules.specs.Zone.{Zone, skipped, hierarchy, inside, zone, inventory_name}
+use Rattle.ocfl_rules.specs.{Head.{on}, Trail.{heads_of, inventory_of, reads_inventory}}
 use Rattle.ocfl_item.specs.{Looking.{IsFront, failures_by}, Ways.{AreInventories, Stops}}
 use Rattle.ocfl_item.specs.{Internal.Ways.{Opens, ReadsTable}, Around.{IsTableAround}}
 use Rattle.ocfl_item.specs.{Auditing.{LiesIn, LieIn}, declared.fault.Fault.{Fault}}
 use Rattle.ocfl_walk.specs.Internal.Entering.{AreReached, Calls, NamesFailed, Descends, DescendFails, OpensIn, Opens as Opened}
-use Rattle.ocfl_audit.proofs.{AuditExists.{zone_is}, Trails.{content_behind, filter_append}}
+use Rattle.ocfl_rules.proofs.{AuditExists.{zone_is}, Trails.{content_behind, filter_append}}
 use Rattle.ocfl_item.proofs.AuditingLaws.{failed_behind, front_of_none, near_none, near_on, read_behind, heads_append}
 use Rattle.ocfl_item.proofs.{LooksCalls.{memory_no_store}, LooksZones.{is_plain}}
 use Rattle.ocfl_item.specs.declared.fault.Fault.TheVariants as fault

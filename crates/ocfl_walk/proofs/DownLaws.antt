@@ -5,8 +5,8 @@ use Rattle.std.specs.Prelude.{cond, ◌&&◌, ◌||◌, not, Ok, Err}
 use Rattle.ocfl_tree.specs.{Place.{Text, Place}, Ascending.{IsAmong}}
 use Rattle.ocfl_tree.specs.{StorageRoot.{StorageRoot, is_dir}, Store.{Store, Did}}
 use Rattle.ocfl_tree.specs.declared.store.Entry.{Entry}
-use Rattle.ocfl_audit.specs.Zone.{skipped, inside, object_zone, root_declared, is_in_extensions, zone, table_at, is_entered, is_listed_zone, is_listed_in_object, is_known}
-use Rattle.ocfl_audit.specs.{Walk.{is_reached}, Trail.{heads_of}}
+use Rattle.ocfl_rules.specs.Zone.{skipped, inside, object_zone, root_declared, is_in_extensions, zone, table_at, is_entered, is_listed_zone, is_listed_in_object, is_known}
+use Rattle.ocfl_rules.specs.{Walk.{is_reached}, Trail.{heads_of}}
 use Rattle.ocfl_item.specs.Ways.{Enters, Stops, way_below, is_listable, is_extensions_name, IsAt, IsObject}
 use Rattle.ocfl_item.specs.{Around.{IsPart, IsTableAround}, Looking.{IsFront, failures_by}}
 use Rattle.ocfl_item.specs.{declared.fault.Fault.{Fault}, declared.folder.Folder.{Folder}}
@@ -14,7 +14,7 @@ use Rattle.ocfl_item.specs.declared.meeting.Around.{Around}
 use Rattle.ocfl_walk.specs.Internal.Entering.{Descends, IsIn, IsShut, Leads, LeadsOn, Opens, OpensIn, may_open}
 use Rattle.ocfl_walk.specs.WalkCalls.{holder_of}
 use Rattle.ocfl_tree.proofs.Orders.{true_not_false}
-use Rattle.ocfl_audit.proofs.{AuditExists.{append_one}, StepLaws.{reached_step, listed_step}}
+use Rattle.ocfl_rules.proofs.{AuditExists.{append_one}, StepLaws.{reached_step, listed_step}}
 use Rattle.ocfl_item.proofs.LooksZones.{inside_on, inside_step, not_entered, out_of_zone, open_object, reach_on, entered_from, is_plain, plain_below, plain_extensions}
 use Rattle.ocfl_item.proofs.AuditingLaws.{near_none, near_within}
 use Rattle.ocfl_walk.proofs.DescentLaws.{both_inventories, calls_then, failed_then, descends_not, descends_one, descends_end, listing_fails, lists_calls, plain_table}

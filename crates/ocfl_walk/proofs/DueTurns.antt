@@ -6,19 +6,19 @@ use Rattle.ocfl_tree.specs.StorageRoot.{StorageRoot, Leaf}
 use Rattle.ocfl_tree.proofs.Orders.{place_cmp_total, not_below_itself, among_filter, among_from_filter}
 use Rattle.ocfl_report.specs.Line.{Item}
 use Rattle.ocfl_inventory.specs.Note.{Note, lines_at}
-use Rattle.ocfl_audit.specs.{Audit.{Unread, item_of, audit, after}, Due.{due, items_at}, Head.{on}}
-use Rattle.ocfl_audit.specs.{Lines.{notes, is_empty}, Walk.{item_at}}
-use Rattle.ocfl_audit.specs.Stack.{Frame, IsListed, IsStack, NoPathBetween, NoneSeenBetween, seen_places}
-use Rattle.ocfl_audit.specs.Zone.{seen}
+use Rattle.ocfl_rules.specs.{Audit.{Unread, item_of, audit, after}, Due.{due, items_at}, Head.{on}}
+use Rattle.ocfl_rules.specs.{Lines.{notes, is_empty}, Walk.{item_at}}
+use Rattle.ocfl_rules.specs.Stack.{Frame, IsListed, IsStack, NoPathBetween, NoneSeenBetween, seen_places}
+use Rattle.ocfl_rules.specs.Zone.{seen}
 use Rattle.ocfl_walk.specs.Standing.{Pile, IsStanding, frames_of}
 use Rattle.ocfl_walk.specs.Internal.Standing.{IsFitIf, IsTurn, TurnIs, next_of, path_from, place_by, trimmed, turn_of}
 use Rattle.ocfl_walk.specs.declared.stand.Turn.{Turn}
 use Rattle.ocfl_item.specs.declared.meeting.Around.{Around}
 use Rattle.ocfl_walk.specs.declared.stand.Turn.TheVariants as turn
-use Rattle.ocfl_audit.proofs.{BelowLaws.{above, less_from}, DueLaws.{after_is_due}}
-use Rattle.ocfl_audit.proofs.MachineLaws.{IsNext, NextIs, from_root}
-use Rattle.ocfl_audit.proofs.NextLaws.{walk_takes, walk_ends, seen_to}
-use Rattle.ocfl_audit.proofs.{BetweenLaws.{looked_step, read_step}, WayLaws.{is_closed}}
+use Rattle.ocfl_rules.proofs.{BelowLaws.{above, less_from}, DueLaws.{after_is_due}}
+use Rattle.ocfl_rules.proofs.MachineLaws.{IsNext, NextIs, from_root}
+use Rattle.ocfl_rules.proofs.NextLaws.{walk_takes, walk_ends, seen_to}
+use Rattle.ocfl_rules.proofs.{BetweenLaws.{looked_step, read_step}, WayLaws.{is_closed}}
 use Rattle.ocfl_walk.proofs.{WalkCallLaws.{IsNear}, TurnLaws.{standing_trimmed, turn_is_next}}
 
 places_at : (root : StorageRoot) (u : Unread) (ps : List Place) → map (λ i. i.place) (map (item_of root u) ps) ≡ ps

@@ -9,12 +9,12 @@ use Rattle.ocfl_tree.specs.{Ascending.{IsAscending, IsAmong}, StorageRoot.{Stora
 use Rattle.ocfl_tree.proofs.Bools.{and_first, and_second, and_both}
 use Rattle.ocfl_tree.proofs.Orders.{place_cmp_total, place_cmp_exact, true_not_false, not_below_itself, below_from_greater}
 use Rattle.ocfl_inventory.specs.Note.{Note}
-use Rattle.ocfl_audit.specs.{Zone.{seen}, Lines.{notes}, Due.{due, item_places}}
-use Rattle.ocfl_audit.specs.Between.{IsBeyond, IsWithin, between, looked_between, read_between}
-use Rattle.ocfl_audit.specs.Stack.{NoneSeenBetween}
-use Rattle.ocfl_audit.proofs.BelowLaws.{less_from, begins_rest, text_cmp_total, text_cmp_exact}
-use Rattle.ocfl_audit.proofs.BetweenLaws.{between_on, directories, directories_ascend, from_between, from_directory, from_object, looked_seen, objects, objects_ascend, read_seen}
-use Rattle.ocfl_audit.proofs.Trails.{filter_append}
+use Rattle.ocfl_rules.specs.{Zone.{seen}, Lines.{notes}, Due.{due, item_places}}
+use Rattle.ocfl_rules.specs.Between.{IsBeyond, IsWithin, between, looked_between, read_between}
+use Rattle.ocfl_rules.specs.Stack.{NoneSeenBetween}
+use Rattle.ocfl_rules.proofs.BelowLaws.{less_from, begins_rest, text_cmp_total, text_cmp_exact}
+use Rattle.ocfl_rules.proofs.BetweenLaws.{between_on, directories, directories_ascend, from_between, from_directory, from_object, looked_seen, objects, objects_ascend, read_seen}
+use Rattle.ocfl_rules.proofs.Trails.{filter_append}
 use Rattle.ocfl_walk.proofs.FilterLaws.{left_whole, left_nothing}
 use Rattle.ocfl_walk.specs.Ends.{is_above_branch, is_at_bound, is_past, before_end}
 use Rattle.ocfl_walk.specs.declared.end.End.{End}

@@ -5,8 +5,8 @@ use Rattle.ocfl_tree.specs.{Place.{Place}, StorageRoot.{StorageRoot}, Store.{Sto
 use Rattle.ocfl_tree.specs.{Listing.{IsOrdinary}, Ascending.{IsAmong}, declared.store.Entry.{Entry}}
 use Rattle.ocfl_inventory.specs.{Declaration.{declared}, Entries.{file_names}}
 use Rattle.ocfl_inventory.specs.declared.declaration.Level.TheVariants as level
-use Rattle.ocfl_audit.specs.Zone.{hierarchy, skipped, root_declared, is_listed_zone, zone, is_known}
-use Rattle.ocfl_audit.specs.{Walk.{is_reached}, Stack.{seen_places}}
+use Rattle.ocfl_rules.specs.Zone.{hierarchy, skipped, root_declared, is_listed_zone, zone, is_known}
+use Rattle.ocfl_rules.specs.{Walk.{is_reached}, Stack.{seen_places}}
 use Rattle.ocfl_item.specs.{Looking.{way_to}, Ways.{Enters, IsHead, Stops, way_below}}
 use Rattle.ocfl_item.specs.{declared.fault.Fault.{Fault}, declared.folder.Folder.{Folder}}
 use Rattle.ocfl_item.specs.{declared.folder.Head.{Head}, declared.meeting.Around.{Around}}
@@ -21,7 +21,7 @@ use Rattle.ocfl_walk.proofs.DescentLaws.{descends_end, descent_fails_on, descent
 use Rattle.ocfl_item.proofs.AuditingLaws.{near_none}
 use Rattle.ocfl_item.proofs.LooksCalls.{head_unknown, root_entered, way_is}
 use Rattle.ocfl_item.proofs.LooksZones.{declared_root, out_of_zone, plain_unknown}
-use Rattle.ocfl_audit.proofs.{StackLaws.{stack_starts, start_stops}, WayLaws.{is_closed}}
+use Rattle.ocfl_rules.proofs.{StackLaws.{stack_starts, start_stops}, WayLaws.{is_closed}}
 
 -- nothing is kept
 pub orderly_nothing : (p : Place) (fs : List Folder) → fs ≡ [] → IsOrderly p (piles_of fs) None

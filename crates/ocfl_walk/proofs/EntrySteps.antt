@@ -7,16 +7,16 @@ use Rattle.ocfl_tree.specs.{StorageRoot.{StorageRoot, names_in}, Store.{Store}}
 use Rattle.ocfl_tree.specs.declared.store.Entry.{Entry}
 use Rattle.ocfl_tree.proofs.Orders.{place_cmp_total, not_below_itself, true_not_false}
 use Rattle.ocfl_inventory.specs.Table.{Table}
-use Rattle.ocfl_audit.specs.{Due.{due}, Lines.{notes}, Walk.{is_reached, seen_names}}
-use Rattle.ocfl_audit.specs.Stack.{IsListed}
-use Rattle.ocfl_audit.specs.Zone.{Zone, skipped, hierarchy, inside, zone, table_at, is_listed_zone, is_listed_in_object}
+use Rattle.ocfl_rules.specs.{Due.{due}, Lines.{notes}, Walk.{is_reached, seen_names}}
+use Rattle.ocfl_rules.specs.Stack.{IsListed}
+use Rattle.ocfl_rules.specs.Zone.{Zone, skipped, hierarchy, inside, zone, table_at, is_listed_zone, is_listed_in_object}
 use Rattle.ocfl_walk.specs.Standing.{HaveEntries, Pile, StandsAt, frames_of}
 use Rattle.ocfl_walk.specs.Internal.Standing.{IsAroundIf, IsHeld, IsOrderly, IsTaken, next_of, still}
 use Rattle.ocfl_walk.specs.{Internal.Walking.{Steps, step_from}, declared.stand.Stand.{Stand}}
 use Rattle.ocfl_item.specs.{Around.{IsMet, IsPart, IsTableAround}, Meeting.{IsItemAt, Meets}}
 use Rattle.ocfl_item.specs.{declared.pending.Pending.{Pending}, declared.meeting.Around.{Around}}
-use Rattle.ocfl_audit.proofs.AuditExists.{zone_is}
-use Rattle.ocfl_audit.proofs.BelowLaws.{above_self, begins_front, begins_rest, text_from_test}
+use Rattle.ocfl_rules.proofs.AuditExists.{zone_is}
+use Rattle.ocfl_rules.proofs.BelowLaws.{above_self, begins_front, begins_rest, text_from_test}
 use Rattle.ocfl_item.proofs.LooksZones.{inside_on}
 use Rattle.ocfl_walk.proofs.{OrderlyLaws.{entry_after, old_chain}, ReachLaws.{reached_listed}}
 use Rattle.ocfl_walk.proofs.{WalkCallLaws.{IsNear, meets_walks}, StandLaws.{object_zone}}

@@ -5,9 +5,9 @@ use Rattle.std.specs.Prelude.{AllPairs, Result, Ok, Err}
 use Rattle.ocfl_tree.specs.{Place.{Text, Place}, StorageRoot.{StorageRoot, dir}, Store.{Store, Did}}
 use Rattle.ocfl_tree.specs.{Listing.{kind_at, kind_in}, declared.store.Entry.{Entry}}
 use Rattle.ocfl_tree.specs.{declared.store.Opening.{Opening}, Ascending.{IsAmong}}
-use Rattle.ocfl_audit.specs.Zone.{Zone, skipped, hierarchy, inside, zone, seen}
-use Rattle.ocfl_audit.specs.Trail.{heads_of, is_head, content_trail, reads_inventory}
-use Rattle.ocfl_audit.specs.{Walk.{is_reached}, Head.{on}, Between.{is_looked_into}}
+use Rattle.ocfl_rules.specs.Zone.{Zone, skipped, hierarchy, inside, zone, seen}
+use Rattle.ocfl_rules.specs.Trail.{heads_of, is_head, content_trail, reads_inventory}
+use Rattle.ocfl_rules.specs.{Walk.{is_reached}, Head.{on}, Between.{is_looked_into}}
 use Rattle.ocfl_walk.specs.WalkCalls.{holder_of, AreAllListed}
 use Rattle.ocfl_walk.specs.Internal.Entering.{Comes, Descends, DescendFails, Leads, may_open}
 use Rattle.ocfl_walk.specs.Internal.Finding.{Finds, FindsAll, FindFails, FindsItem}
@@ -22,8 +22,8 @@ use Rattle.ocfl_tree.proofs.Stores.{among_either, did_nothing}
 use Rattle.ocfl_walk.proofs.ReachLaws.{own_listed}
 use Rattle.ocfl_walk.proofs.DescentLaws.{calls_then, failed_then, front_on, front_within, no_calls, own_inventory_reached}
 use Rattle.ocfl_walk.proofs.MeetLaws.{own_head}
-use Rattle.ocfl_audit.proofs.{BetweenLaws.{seen_reached}, AuditExists.{append_one, some_not_none}}
-use Rattle.ocfl_audit.proofs.WayLaws.{head_seen, is_closed}
+use Rattle.ocfl_rules.proofs.{BetweenLaws.{seen_reached}, AuditExists.{append_one, some_not_none}}
+use Rattle.ocfl_rules.proofs.WayLaws.{head_seen, is_closed}
 use Rattle.ocfl_item.proofs.AuditingLaws.{few_once, front_all, near_none, near_on, none_once, heads_append}
 use Rattle.ocfl_item.proofs.{ItemLaws.{head_zone}, LooksCalls.{memory_no_store}}
 use Rattle.ocfl_item.proofs.LooksZones.{inside_step, sight_nothing, unseen_behind}

@@ -9,11 +9,11 @@ use Rattle.ocfl_tree.specs.{Place.{Place, Text, place_cmp}, Ascending.{IsAmong}}
 use Rattle.ocfl_tree.specs.{StorageRoot.{StorageRoot, dir}, Store.{Store}}
 use Rattle.ocfl_tree.specs.declared.store.Entry.{Entry}
 use Rattle.ocfl_tree.proofs.Orders.{place_cmp_exact, place_cmp_total, below_from_greater, true_not_false}
-use Rattle.ocfl_audit.specs.{Audit.{candidates}, Between.{IsBeyond, looked_between, read_between}}
-use Rattle.ocfl_audit.specs.{Due.{due, item_places}, Stack.{IsListed, IsStack}, Walk.{seen_names}}
-use Rattle.ocfl_audit.specs.Zone.{seen}
-use Rattle.ocfl_audit.proofs.{AuditExists.{seen_candidate}, BelowLaws.{above_self}}
-use Rattle.ocfl_audit.proofs.BetweenLaws.{directories, from_directory, from_object, looked_seen, objects, read_seen}
+use Rattle.ocfl_rules.specs.{Audit.{candidates}, Between.{IsBeyond, looked_between, read_between}}
+use Rattle.ocfl_rules.specs.{Due.{due, item_places}, Stack.{IsListed, IsStack}, Walk.{seen_names}}
+use Rattle.ocfl_rules.specs.Zone.{seen}
+use Rattle.ocfl_rules.proofs.{AuditExists.{seen_candidate}, BelowLaws.{above_self}}
+use Rattle.ocfl_rules.proofs.BetweenLaws.{directories, from_directory, from_object, looked_seen, objects, read_seen}
 use Rattle.ocfl_item.specs.{Around.{IsNamedIn}, Meeting.{IsItemAt}, declared.fault.Fault.{Fault}}
 use Rattle.ocfl_item.specs.declared.pending.Pending.{Pending}
 use Rattle.ocfl_item.proofs.{ShutLaws.{shut_unseen}, VisitLaws.{meets_shut}}

@@ -3,10 +3,10 @@ use Rattle.std.proofs.Common.{◌≡◌, ◌≢◌, ℕ, ◌+◌, List, [], ◌�
 use Rattle.std.specs.Prelude.{AllPairs, cond, ◌||◌, not, Result, Ok, Err, MatchResult}
 use Rattle.ocfl_tree.specs.{Place.{Text, Place, text_eq}, StorageRoot.{StorageRoot}}
 use Rattle.ocfl_tree.specs.{Store.{Store, Did}, declared.store.Opening.{Opening}}
-use Rattle.ocfl_audit.specs.Zone.{Zone, skipped, hierarchy, inside, inventory_name, is_in_extensions, object_zone, root_declared, zone, is_known}
-use Rattle.ocfl_audit.specs.{Due.{hashed_among}, Lines.{is_hashed, notes, notes_in}}
-use Rattle.ocfl_audit.specs.Between.{is_looked_into}
-use Rattle.ocfl_audit.specs.Trail.{content_trail, heads_of, inventory_of, reads_inventory}
+use Rattle.ocfl_rules.specs.Zone.{Zone, skipped, hierarchy, inside, inventory_name, is_in_extensions, object_zone, root_declared, zone, is_known}
+use Rattle.ocfl_rules.specs.{Due.{hashed_among}, Lines.{is_hashed, notes, notes_in}}
+use Rattle.ocfl_rules.specs.Between.{is_looked_into}
+use Rattle.ocfl_rules.specs.Trail.{content_trail, heads_of, inventory_of, reads_inventory}
 use Rattle.ocfl_item.specs.Auditing.{FailedAt, IsMetadataRead, LieIn}
 use Rattle.ocfl_item.specs.{Looking.{IsFront, failures_by, way_to}, Meeting.{IsItemAt, Visits}}
 use Rattle.ocfl_item.specs.{Ways.{Stops, way_below}, declared.fault.Fault.{Fault}}
@@ -15,7 +15,7 @@ use Rattle.ocfl_walk.specs.WalkCalls.{AreAllListed, GoDownFails, GoesDown, IsRoo
 use Rattle.ocfl_walk.specs.Internal.Entering.{Starts, StartFails}
 use Rattle.ocfl_walk.specs.Internal.Finding.{Finds, FindsAll, FindFails, FindsItem}
 use Rattle.ocfl_item.specs.declared.fault.Fault.TheVariants as fault
-use Rattle.ocfl_audit.proofs.{AuditExists.{zone_is}, PathLaws.{notes_at}}
+use Rattle.ocfl_rules.proofs.{AuditExists.{zone_is}, PathLaws.{notes_at}}
 use Rattle.ocfl_item.proofs.AuditingLaws.{audits_meta, audits_nothing, fails_meta, front_all, front_kept, none_once}
 use Rattle.ocfl_walk.proofs.{DescentLaws.{front_within}, ReachLaws.{own_listed}}
 use Rattle.ocfl_walk.proofs.EnterLaws.{comes_first, start_listed, start_unlisted}

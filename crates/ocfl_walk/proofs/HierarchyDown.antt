@@ -10,7 +10,7 @@ use Rattle.ocfl_inventory.specs.declared.declaration.Declared.{Declared as MadeD
 use Rattle.ocfl_inventory.specs.declared.declaration.Version.{Version}
 use Rattle.ocfl_inventory.specs.declared.declaration.Declared.TheVariants as made
 use Rattle.ocfl_inventory.specs.declared.declaration.Level.TheVariants as level
-use Rattle.ocfl_audit.specs.Zone.{inside, table_at, zone, is_known, max_listed_depth}
+use Rattle.ocfl_rules.specs.Zone.{inside, table_at, zone, is_known, max_listed_depth}
 use Rattle.ocfl_item.specs.{Ways.{InHierarchy, IsObject}, Internal.Ways.{IsDeclared}}
 use Rattle.ocfl_item.specs.{Meeting.{IsFairFolder}, declared.fault.Fault.{Fault}}
 use Rattle.ocfl_item.specs.{declared.folder.Folder.{Folder}, declared.meeting.Around.{Around}}

@@ -1,9 +1,9 @@
 -- Whose inventory is read on the way down to a place, and which directories are on it.
 use Rattle.std.proofs.Common.{◌≡◌, Bool, true, false, cond, [], ◌∷◌, ◌++◌, None, Some, inl, inr, filter, refl, ap, sym, ◌∙◌}
 use Rattle.ocfl_tree.specs.{Place.{Place}, Ascending.{IsAmong}, StorageRoot.{StorageRoot}}
-use Rattle.ocfl_audit.specs.Zone.{Zone, skipped, hierarchy, inside, zone, beginnings}
-use Rattle.ocfl_audit.specs.Trail.{reads_inventory}
-use Rattle.ocfl_audit.proofs.AuditExists.{zone_is}
+use Rattle.ocfl_rules.specs.Zone.{Zone, skipped, hierarchy, inside, zone, beginnings}
+use Rattle.ocfl_rules.specs.Trail.{reads_inventory}
+use Rattle.ocfl_rules.proofs.AuditExists.{zone_is}
 use Rattle.ocfl_walk.specs.WalkCalls.{holder_of, holder, way_of}
 
 module _ (root : StorageRoot) (p o : Place) where

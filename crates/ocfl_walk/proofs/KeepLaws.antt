@@ -8,7 +8,7 @@ use Rattle.ocfl_tree.specs.declared.store.Entry.{Entry}
 use Rattle.ocfl_item.proofs.NameLaws.{names_of}
 use Rattle.ocfl_walk.specs.Standing.{back}
 use Rattle.ocfl_walk.proofs.Backs.{back_push, last_split}
-use Rattle.ocfl_audit.proofs.BelowLaws.{text_cmp_total, less_from}
+use Rattle.ocfl_rules.proofs.BelowLaws.{text_cmp_total, less_from}
 
 abbrev pub left_above : Text → List Entry → List Entry
 left_above n es = filter (λ e. is_lt (text_cmp n e.name)) es

@@ -5,11 +5,11 @@ use Rattle.std.specs.Prelude.{◌&&◌, nat_le}
 use Rattle.ocfl_tree.specs.{Place.{Text, Place, text_eq}, StorageRoot.{StorageRoot}}
 use Rattle.ocfl_tree.specs.declared.store.Entry.{Entry}
 use Rattle.ocfl_inventory.specs.ListedPath.{is_version_name}
-use Rattle.ocfl_audit.specs.Zone.{inside, zone, table_at, is_listed_zone, is_listed_in_object, is_listed_within, max_listed_depth}
-use Rattle.ocfl_audit.specs.Walk.{step_listed}
+use Rattle.ocfl_rules.specs.Zone.{inside, zone, table_at, is_listed_zone, is_listed_in_object, is_listed_within, max_listed_depth}
+use Rattle.ocfl_rules.specs.Walk.{step_listed}
 use Rattle.ocfl_item.specs.{Ways.{IsAt}, declared.meeting.Around.{Around}}
 use Rattle.ocfl_walk.specs.Internal.Standing.{IsAround, IsAroundIf}
-use Rattle.ocfl_audit.proofs.{BelowLaws.{begins_front, begins_rest}, AuditExists.{zone_is}}
+use Rattle.ocfl_rules.proofs.{BelowLaws.{begins_front, begins_rest}, AuditExists.{zone_is}}
 use Rattle.ocfl_walk.proofs.{OrderlyLaws.{begins_on}, ReachLaws.{reached_listed}}
 use Rattle.ocfl_tree.proofs.Bools.{and_first}
 

@@ -14,9 +14,9 @@ use Rattle.ocfl_tree.specs.{declared.store.Entry.{Entry}, declared.store.Kind.{K
 use Rattle.ocfl_tree.proofs.Places.{text_eq-Decides, text_eq-same, not_decided, differ}
 use Rattle.ocfl_tree.proofs.Orders.{below_from_greater}
 use Rattle.ocfl_walk.specs.Standing.{AreEntries, back, back_onto}
-use Rattle.ocfl_audit.proofs.AuditExists.{some_not_none}
-use Rattle.ocfl_audit.proofs.{BelowLaws.{text_cmp_total, text_cmp_exact}, WayLaws.{entry_named}}
-use Rattle.ocfl_audit.proofs.StackLaws.{names_sorted}
+use Rattle.ocfl_rules.proofs.AuditExists.{some_not_none}
+use Rattle.ocfl_rules.proofs.{BelowLaws.{text_cmp_total, text_cmp_exact}, WayLaws.{entry_named}}
+use Rattle.ocfl_rules.proofs.StackLaws.{names_sorted}
 use Rattle.ocfl_item.proofs.{LooksEntries.{name_there}, NameLaws.{names_of, names_differ}}
 
 abbrev backward : List Entry → List Entry → List Entry

@@ -5,14 +5,14 @@ use Rattle.ocfl_tree.specs.{Place.{Place, Text}, StorageRoot.{StorageRoot}}
 use Rattle.ocfl_tree.specs.{declared.store.Entry.{Entry}, Listing.{IsOrdinary}}
 use Rattle.ocfl_tree.proofs.Places.{begins-itself}
 use Rattle.ocfl_inventory.specs.Table.{IsFit, Table}
-use Rattle.ocfl_audit.specs.Trail.{is_head}
-use Rattle.ocfl_audit.specs.Zone.{skipped, hierarchy, inside, zone, table_at, object_declared, is_declared, max_listed_depth}
-use Rattle.ocfl_audit.specs.Walk.{is_extensions, step_zone}
+use Rattle.ocfl_rules.specs.Trail.{is_head}
+use Rattle.ocfl_rules.specs.Zone.{skipped, hierarchy, inside, zone, table_at, object_declared, is_declared, max_listed_depth}
+use Rattle.ocfl_rules.specs.Walk.{is_extensions, step_zone}
 use Rattle.ocfl_item.specs.{declared.folder.Folder.{Folder}, Around.{IsMet, IsTableAround}}
 use Rattle.ocfl_item.specs.{Meeting.{IsFairFolder, IsTableAt}, declared.meeting.Around.{Around}}
 use Rattle.ocfl_walk.specs.Internal.Standing.{IsAroundIf, around_of}
 use Rattle.ocfl_item.proofs.LooksZones.{inside_on}
-use Rattle.ocfl_audit.proofs.StepLaws.{zone_step}
+use Rattle.ocfl_rules.proofs.StepLaws.{zone_step}
 
 -- below the hierarchy an object begins at its own place
 pub own_head : (root : StorageRoot) (d : Place) (n : Text) → zone root d ≡ hierarchy → (o s : Place) → zone root (d ++ n ∷ []) ≡ inside o s → (o ≡ d ++ n ∷ []) × (s ≡ [])

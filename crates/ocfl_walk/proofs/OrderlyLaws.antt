@@ -8,11 +8,11 @@ use Rattle.ocfl_tree.specs.Place.{Place, Text, text_cmp, place_cmp, begins}
 use Rattle.ocfl_tree.specs.{Ascending.{IsAscending, IsBeforeAll}, declared.store.Entry.{Entry}}
 use Rattle.ocfl_tree.specs.StorageRoot.{max_entries}
 use Rattle.ocfl_tree.proofs.Places.{begins-itself}
-use Rattle.ocfl_audit.specs.{Zone.{max_listed_depth}, Stack.{Frame}}
+use Rattle.ocfl_rules.specs.{Zone.{max_listed_depth}, Stack.{Frame}}
 use Rattle.ocfl_walk.specs.Standing.{Pile, back_onto, frames_of, size_of, weigh, entry_weight, paths_above, levels}
 use Rattle.ocfl_walk.specs.Internal.Standing.{IsAroundIf, IsChain, IsFairPile, IsFitIf, IsOrderly, IsOrderlyIf, IsTaken, left_of_folder, pushed, trimmed, trimmed_from}
 use Rattle.ocfl_item.specs.{declared.folder.Folder.{Folder}, declared.meeting.Around.{Around}}
-use Rattle.ocfl_audit.proofs.BelowLaws.{above_self, above_name, begins_front, begins_rest}
+use Rattle.ocfl_rules.proofs.BelowLaws.{above_self, above_name, begins_front, begins_rest}
 
 -- what is not longer than d and is above it is above all below d
 above_longer : (d y r : Place) → place_cmp d y ≡ Less → length y ≤ length d → place_cmp (d ++ r) y ≡ Less

@@ -7,8 +7,8 @@ use Rattle.ocfl_tree.specs.Place.{Place, text_cmp, place_cmp, begins}
 use Rattle.ocfl_tree.specs.{Ascending.{IsAscending, IsBeforeAll}, StorageRoot.{max_entries}}
 use Rattle.ocfl_tree.proofs.{Orders.{true_not_false}, Bools.{and_first, and_second, and_both}}
 use Rattle.ocfl_inventory.specs.{Table.{paths_of, triple_cmp}, ListedPath.{max_elements}}
-use Rattle.ocfl_audit.specs.{Lines.{is_empty}, Stack.{Frame}, Zone.{max_listed_depth}}
-use Rattle.ocfl_audit.proofs.BelowLaws.{less_from}
+use Rattle.ocfl_rules.specs.{Lines.{is_empty}, Stack.{Frame}, Zone.{max_listed_depth}}
+use Rattle.ocfl_rules.proofs.BelowLaws.{less_from}
 use Rattle.ocfl_walk.specs.Orderly.{is_around, is_ascending, is_before_all, is_chain, is_orderly, is_orderly_if}
 use Rattle.ocfl_walk.specs.Standing.{Pile, frames_of, piles_in, levels}
 use Rattle.ocfl_walk.specs.Internal.Standing.{IsAroundIf, IsChain, IsOrderlyIf, IsOrderlyStand}

@@ -11,7 +11,7 @@ use Rattle.ocfl_inventory.specs.NextPath as table
 use Rattle.ocfl_walk.specs.Standing.{Pile, frames_of, paths_above, size_of, levels}
 use Rattle.ocfl_walk.specs.Internal.Standing.{IsAroundIf, IsBelowNext, IsChain, IsOrderly, next_of, path_from, trimmed, trimmed_from}
 use Rattle.ocfl_item.specs.{Around.{IsNamedIn}, declared.meeting.Around.{Around}}
-use Rattle.ocfl_audit.proofs.BelowLaws.{begins_front, begins_rest, cmp_behind, equal_itself, less_from}
+use Rattle.ocfl_rules.proofs.BelowLaws.{begins_front, begins_rest, cmp_behind, equal_itself, less_from}
 use Rattle.ocfl_walk.proofs.{EndLaws.{begins_between}, OrderlyLaws.{before_below}}
 
 -- what was found passes the test, and is one of the list

@@ -7,8 +7,8 @@ use Rattle.std.proofs.lemmas.{Bool.{leb-true, leb-false, le-leb}, Option.{same_S
 use Rattle.std.proofs.lemmas.List.{length-append, length_push, length-take, length-take-le, nil_from_length, same_from_push, take-append-drop, take-append-le, take_min}
 use Rattle.std.proofs.Math.Seq.{take-append_seam, take-length}
 use Rattle.ocfl_tree.specs.{Place.{Place, Text, begins}, declared.store.Entry.{Entry}}
-use Rattle.ocfl_audit.specs.Stack.{Frame}
-use Rattle.ocfl_audit.proofs.BelowLaws.{begins_front, begins_rest}
+use Rattle.ocfl_rules.specs.Stack.{Frame}
+use Rattle.ocfl_rules.proofs.BelowLaws.{begins_front, begins_rest}
 use Rattle.ocfl_walk.specs.Standing.{back, Pile, folders_from, frames_of, pile_of, piles_at, piles_in, piles_of, spot_of, levels}
 use Rattle.ocfl_walk.specs.Internal.Standing.{IsChain, cut_top, from_name, IsFairPile, IsOrderly, IsOrderlyIf, IsTaken, left_of_folder, next_of, pushed, trimmed}
 use Rattle.ocfl_item.specs.{declared.meeting.Around.{Around}, declared.folder.Folder.{Folder}}

@@ -6,10 +6,10 @@ use Rattle.ocfl_tree.specs.{Place.{Text, Place}, Ascending.{IsAmong}}
 use Rattle.ocfl_tree.specs.{StorageRoot.{StorageRoot, is_dir}, Store.{Store, Did}}
 use Rattle.ocfl_tree.proofs.Orders.{among_left, among_right, true_not_false}
 use Rattle.ocfl_tree.proofs.{Stores.{among_either}, Bools.{and_first, and_second, and_both}}
-use Rattle.ocfl_audit.specs.Walk.{is_reached}
-use Rattle.ocfl_audit.specs.Zone.{Zone, skipped, hierarchy, inside, zone, beginnings, is_entered, is_listed_zone, max_listed_depth}
-use Rattle.ocfl_audit.specs.{Between.{is_looked_into, shows_entries}, Head.{on}}
-use Rattle.ocfl_audit.proofs.StepLaws.{reached_step}
+use Rattle.ocfl_rules.specs.Walk.{is_reached}
+use Rattle.ocfl_rules.specs.Zone.{Zone, skipped, hierarchy, inside, zone, beginnings, is_entered, is_listed_zone, max_listed_depth}
+use Rattle.ocfl_rules.specs.{Between.{is_looked_into, shows_entries}, Head.{on}}
+use Rattle.ocfl_rules.proofs.StepLaws.{reached_step}
 use Rattle.ocfl_item.specs.Ways.{way_below}
 use Rattle.ocfl_walk.specs.{WalkCalls.{AreAllListed}, Internal.Entering.{Comes, Descends}}
 use Rattle.ocfl_walk.proofs.DescentLaws.{descends_not, descends_on}

@@ -6,7 +6,7 @@ use Rattle.std.specs.{Prelude.{IfSome}, Ordering.{is_lt}}
 use Rattle.ocfl_tree.specs.{Place.{Place, place_cmp}, declared.store.Entry.{Entry}}
 use Rattle.ocfl_tree.specs.StorageRoot.{max_entries}
 use Rattle.ocfl_inventory.specs.Table.{Triple, paths_of}
-use Rattle.ocfl_audit.specs.{Zone.{max_listed_depth}, Between.{IsBeyond}}
+use Rattle.ocfl_rules.specs.{Zone.{max_listed_depth}, Between.{IsBeyond}}
 use Rattle.ocfl_walk.specs.Standing.{Pile, entry_weight, frames_of, paths_above, piles_in, size_of, stand_size, weigh, levels}
 use Rattle.ocfl_walk.specs.Internal.Standing.{IsAroundIf, IsFairPile, IsOrderly, IsTaken, left_of_folder, pushed}
 use Rattle.ocfl_walk.specs.Internal.Walking.{GoesOn, GoesTo, step_from}

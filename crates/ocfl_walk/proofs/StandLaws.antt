@@ -5,8 +5,8 @@ use Rattle.std.specs.Prelude.{IfOk, Result, Ok, Err, option_map}
 use Rattle.ocfl_tree.specs.{Place.{Place}, StorageRoot.{StorageRoot}, Store.{Store}}
 use Rattle.ocfl_tree.specs.declared.store.Entry.{Entry}
 use Rattle.ocfl_tree.proofs.Orders.{place_cmp_total}
-use Rattle.ocfl_audit.specs.{Zone.{inside, zone}, Walk.{seen_names}, Stack.{IsStack, IsListed}}
-use Rattle.ocfl_audit.specs.{Due.{due}, Between.{IsBeyond, IsWithin}}
+use Rattle.ocfl_rules.specs.{Zone.{inside, zone}, Walk.{seen_names}, Stack.{IsStack, IsListed}}
+use Rattle.ocfl_rules.specs.{Due.{due}, Between.{IsBeyond, IsWithin}}
 use Rattle.ocfl_walk.specs.Standing.{StandsAt, stand_size, AreEntries, HaveEntries, IsStanding, Pile, frames_of}
 use Rattle.ocfl_walk.specs.Internal.Standing.{IsTaken, IsTurn, left_names, left_of_folder, path_from, popped, pushed}
 use Rattle.ocfl_walk.specs.Ends.{before_end, is_past}
@@ -20,7 +20,7 @@ use Rattle.ocfl_walk.specs.declared.stand.Step.TheVariants as step
 use Rattle.ocfl_item.proofs.LooksZones.{inside_on}
 use Rattle.ocfl_walk.proofs.BeforeLaws.{not_below}
 use Rattle.ocfl_walk.proofs.WalkCallLaws.{fails_out, walks_fail_out, walks_on, walks_out, walks_over}
-use Rattle.ocfl_audit.proofs.WayLaws.{is_closed, zone_part}
+use Rattle.ocfl_rules.proofs.WayLaws.{is_closed, zone_part}
 
 -- ---- places, one after the other
 

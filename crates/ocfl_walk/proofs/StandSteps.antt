@@ -5,9 +5,9 @@ use Rattle.std.specs.declared.cmp.Ordering.TheVariants.{Less}
 use Rattle.arrayvec.specs.ArrayVec.{ArrayVec}
 use Rattle.ocfl_tree.specs.{Place.{Place, place_cmp}, StorageRoot.{StorageRoot}, Store.{Store}}
 use Rattle.ocfl_tree.specs.declared.store.Entry.{Entry}
-use Rattle.ocfl_audit.specs.{Between.{IsBeyond, looked_between, read_between}, Due.{due}}
-use Rattle.ocfl_audit.specs.{Stack.{Frame}, Walk.{seen_names}}
-use Rattle.ocfl_audit.proofs.BetweenLaws.{looked_end, read_end}
+use Rattle.ocfl_rules.specs.{Between.{IsBeyond, looked_between, read_between}, Due.{due}}
+use Rattle.ocfl_rules.specs.{Stack.{Frame}, Walk.{seen_names}}
+use Rattle.ocfl_rules.proofs.BetweenLaws.{looked_end, read_end}
 use Rattle.ocfl_tree.proofs.Orders.{true_not_false}
 use Rattle.ocfl_item.specs.{Around.{IsMet, IsNamedIn}, Meeting.{IsItemAt, Meets}}
 use Rattle.ocfl_item.specs.{declared.folder.Folder.{Folder}, declared.meeting.Around.{Around}}

@@ -4,7 +4,7 @@ use Rattle.std.proofs.Math.Nat.{pow-suc, one-le-pow, mul_comm}
 use Rattle.std.specs.{declared.alloc.Global.{Global}, Prelude.{IfSome, Vec}}
 use Rattle.ocfl_tree.specs.{declared.store.Entry.{Entry}, Place.{Place, Text}}
 use Rattle.ocfl_tree.specs.{StorageRoot.{StorageRoot, max_entries}, Store.{Store}}
-use Rattle.ocfl_audit.specs.{Due.{due}, Head.{on}}
+use Rattle.ocfl_rules.specs.{Due.{due}, Head.{on}}
 use Rattle.ocfl_walk.specs.Standing.{IsStanding, Pile, StandsAt, entry_weight, piles_at, size_of, weigh, levels}
 use Rattle.ocfl_walk.specs.Internal.Standing.{IsFairPile, IsOrderly, left_of_folder, pushed}
 use Rattle.ocfl_walk.specs.Internal.Walking.{IsPileAt, Steps, step_from}
@@ -15,9 +15,9 @@ use Rattle.ocfl_item.proofs.{BaseLaws.{root_some}, HeadCalls.{inside_not_root}}
 use Rattle.ocfl_walk.proofs.{DueTurns.{due_first}, OrderlyLaws.{orderly_top}}
 use Rattle.ocfl_walk.proofs.{PlacedLaws.{fits, piles_count}, StandLaws.{stands_top}}
 use Rattle.ocfl_walk.proofs.{SizeLaws.{mul_room}, WalkCallLaws.{IsNear, meets_walks}}
-use Rattle.ocfl_audit.proofs.StackLaws.{stack_starts}
-use Rattle.ocfl_audit.proofs.BetweenLaws.{looked_first, read_first, root_unread}
-use Rattle.ocfl_audit.proofs.WayLaws.{is_closed}
+use Rattle.ocfl_rules.proofs.StackLaws.{stack_starts}
+use Rattle.ocfl_rules.proofs.BetweenLaws.{looked_first, read_first, root_unread}
+use Rattle.ocfl_rules.proofs.WayLaws.{is_closed}
 
 pub first_room : (vs : List (Vec Entry Global)) (f : Option Folder) → piles_at [] vs ≡ [] → IfSome f (λ _. length vs < levels)
 first_room vs None e = tt

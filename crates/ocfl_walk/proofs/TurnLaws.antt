@@ -11,15 +11,15 @@ use Rattle.ocfl_tree.specs.{StorageRoot.{StorageRoot}, declared.store.Entry.{Ent
 use Rattle.ocfl_tree.proofs.Orders.{place_cmp_exact}
 use Rattle.ocfl_inventory.specs.Table.{Table, Triple, paths_of, triple_cmp}
 use Rattle.ocfl_inventory.specs.NextPath as table
-use Rattle.ocfl_audit.specs.Zone.{Zone, skipped, hierarchy, inside, zone, table_at}
-use Rattle.ocfl_audit.specs.Walk.{IsClosed, seen_names}
-use Rattle.ocfl_audit.specs.Stack.{IsListed, seen_places, seen_left, next_entry, next_path, next_path_in, next_path_of, next_place, lesser, least_path, first_of_list}
+use Rattle.ocfl_rules.specs.Zone.{Zone, skipped, hierarchy, inside, zone, table_at}
+use Rattle.ocfl_rules.specs.Walk.{IsClosed, seen_names}
+use Rattle.ocfl_rules.specs.Stack.{IsListed, seen_places, seen_left, next_entry, next_path, next_path_in, next_path_of, next_place, lesser, least_path, first_of_list}
 use Rattle.ocfl_walk.specs.Standing.{Pile, frames_of, IsStanding, AreEntries, HaveEntries}
 use Rattle.ocfl_walk.specs.Internal.Standing.{trimmed, trimmed_from, next_of, path_from, turn_of, place_by, IsFitIf}
 use Rattle.ocfl_item.specs.{Around.{IsTableAround}, declared.meeting.Around.{Around}}
 use Rattle.ocfl_walk.specs.declared.stand.Turn.TheVariants as turn
-use Rattle.ocfl_audit.proofs.{AuditExists.{zone_is}, BelowLaws.{above}}
-use Rattle.ocfl_audit.proofs.MachineLaws.{NextIs, next_place_is}
+use Rattle.ocfl_rules.proofs.{AuditExists.{zone_is}, BelowLaws.{above}}
+use Rattle.ocfl_rules.proofs.MachineLaws.{NextIs, next_place_is}
 
 -- ---- the next path of a table
 

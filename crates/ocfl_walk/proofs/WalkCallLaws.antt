@@ -3,9 +3,9 @@ use Rattle.std.proofs.Common.{◌≡◌, List, [], ◌++◌, refl, sym, ◌∙�
 use Rattle.std.specs.Prelude.{slice_get}
 use Rattle.ocfl_tree.specs.{Place.{Place}, StorageRoot.{StorageRoot}, Store.{Store, Did}}
 use Rattle.ocfl_tree.specs.declared.store.Opening.{Opening}
-use Rattle.ocfl_audit.specs.{Due.{due}, Head.{on}, Trail.{heads_of, reads_inventory}}
-use Rattle.ocfl_audit.specs.Between.{IsBeyond, IsWithin, is_looked_into, looked_between, read_between}
-use Rattle.ocfl_audit.proofs.BetweenLaws.{looked_on, read_on}
+use Rattle.ocfl_rules.specs.{Due.{due}, Head.{on}, Trail.{heads_of, reads_inventory}}
+use Rattle.ocfl_rules.specs.Between.{IsBeyond, IsWithin, is_looked_into, looked_between, read_between}
+use Rattle.ocfl_rules.proofs.BetweenLaws.{looked_on, read_on}
 use Rattle.ocfl_item.specs.{Looking.{IsFront, failed_place}, Auditing.{Audits, LieIn}}
 use Rattle.ocfl_item.specs.{Meeting.{Meets, MeetFails}, declared.fault.Fault.{Fault}}
 use Rattle.ocfl_item.proofs.AuditingLaws.{audits_nothing, audits_on, audits_fail, audits_meta, fails_meta, fails_nothing, front_behind, front_more, front_none}

@@ -11,7 +11,7 @@ use Rattle.ocfl_walk.specs.Internal.Walking.{GoesAt, NextGoesOn, NextTold, Steps
 use Rattle.ocfl_walk.specs.Walks.{Gives, GivesOut, GoesOn, HasEndedOut, OpensInventories, Stands, StandsFrom, first_size, walk_size}
 use Rattle.ocfl_walk.specs.{WalkCalls.{FailsOut, WalkFails, WalksOut}, declared.end.End.{End}}
 use Rattle.ocfl_walk.specs.{declared.stand.Stand.{Stand}, declared.walk.Walk.{Walk}}
-use Rattle.ocfl_audit.specs.{Between.{IsBeyond}, Due.{due}}
+use Rattle.ocfl_rules.specs.{Between.{IsBeyond}, Due.{due}}
 use Rattle.ocfl_item.specs.{declared.fault.Fault.{Fault}, declared.pending.Pending.{Pending}}
 use Rattle.ocfl_walk.specs.declared.stand.Step.TheVariants as step
 use Rattle.ocfl_walk.proofs.BeforeLaws.{before_root, directory_is, not_below, root_first, some_before}

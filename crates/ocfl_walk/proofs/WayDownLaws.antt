@@ -5,10 +5,10 @@ use Rattle.std.specs.Prelude.{IfSome, codes, cond, not}
 use Rattle.ocfl_tree.specs.{Place.{Place, Text}, Ascending.{IsAmong}, StorageRoot.{StorageRoot}}
 use Rattle.ocfl_tree.specs.{Store.{Store}, declared.store.Opening.{Opening}}
 use Rattle.ocfl_tree.proofs.Orders.{among_left, among_right}
-use Rattle.ocfl_audit.specs.Objects.{IsObjectRoot}
-use Rattle.ocfl_audit.specs.Trail.{content_trail, heads_of, inventory_of, is_meta, reads_inventory}
-use Rattle.ocfl_audit.specs.{Walk.{is_reached}, Zone.{beginnings, zone}}
-use Rattle.ocfl_audit.proofs.{MetaLaws.{head_shown}, Trails.{none_unread}}
+use Rattle.ocfl_rules.specs.Objects.{IsObjectRoot}
+use Rattle.ocfl_rules.specs.Trail.{content_trail, heads_of, inventory_of, is_meta, reads_inventory}
+use Rattle.ocfl_rules.specs.{Walk.{is_reached}, Zone.{beginnings, zone}}
+use Rattle.ocfl_rules.proofs.{MetaLaws.{head_shown}, Trails.{none_unread}}
 use Rattle.ocfl_item.specs.Looking.{way_to}
 use Rattle.ocfl_item.proofs.WantedLaws.{among_last}
 use Rattle.ocfl_walk.specs.WalkCalls.{GoesDown, IsRootFirst, holder, way_of}

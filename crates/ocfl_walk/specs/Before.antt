@@ -3,7 +3,7 @@ use Rattle.std.specs.Prelude.{List, [], ◌∷◌, Option, Some, None, not, filt
 use Rattle.std.specs.Ordering.{is_lt}
 use Rattle.ocfl_tree.specs.{Place.{Place, place_cmp}, Ascending.{ascending}}
 use Rattle.ocfl_tree.specs.StorageRoot.{StorageRoot}
-use Rattle.ocfl_audit.specs.Audit.{candidates}
+use Rattle.ocfl_rules.specs.Audit.{candidates}
 
 -- the last of some places
 abbrev pub last_place : List Place → Option Place

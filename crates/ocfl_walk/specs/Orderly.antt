@@ -3,7 +3,7 @@ use Rattle.std.specs.Prelude.{ℕ, ◌&&◌, nat_le, nat_lt, ◌^◌, List, [], 
 use Rattle.std.specs.{List.{list_all}, Ordering.{is_lt}, declared.cmp.Ordering.{Ordering}}
 use Rattle.ocfl_tree.specs.{Place.{Place, text_cmp, place_cmp, begins}, StorageRoot.{max_entries}}
 use Rattle.ocfl_inventory.specs.{Table.{Table, paths_of, triple_cmp}, ListedPath.{max_elements}}
-use Rattle.ocfl_audit.specs.{Lines.{is_empty}, Stack.{Frame}, Zone.{max_listed_depth}}
+use Rattle.ocfl_rules.specs.{Lines.{is_empty}, Stack.{Frame}, Zone.{max_listed_depth}}
 use Rattle.ocfl_walk.specs.Standing.{Pile, frames_of, piles_in, levels}
 use Rattle.ocfl_walk.specs.declared.stand.Stand.{Stand}
 use Rattle.ocfl_item.specs.declared.meeting.Around.{Around}

@@ -3,9 +3,9 @@
 use Rattle.std.specs.Prelude.{true, List, [], ◌∷◌, Option, Some, None, IfSome, AllPairs, ◌≡◌, ◌≢◌, filter, slice_get}
 use Rattle.ocfl_tree.specs.{Place.{Place}, Ascending.{IsAmong}, StorageRoot.{StorageRoot}}
 use Rattle.ocfl_tree.specs.{Store.{Store}, declared.store.Opening.{Opening}}
-use Rattle.ocfl_audit.specs.Zone.{Zone, skipped, hierarchy, inside, zone}
-use Rattle.ocfl_audit.specs.{Between.{looked_between, read_between}, Due.{due}, Trail.{reads_inventory}}
-use Rattle.ocfl_audit.specs.Walk.{is_reached}
+use Rattle.ocfl_rules.specs.Zone.{Zone, skipped, hierarchy, inside, zone}
+use Rattle.ocfl_rules.specs.{Between.{looked_between, read_between}, Due.{due}, Trail.{reads_inventory}}
+use Rattle.ocfl_rules.specs.Walk.{is_reached}
 use Rattle.ocfl_item.specs.{Auditing.{Audits, Fails}, Looking.{IsFront, failed_place, way_to}}
 use Rattle.ocfl_item.specs.declared.fault.Fault.{Fault}
 use Rattle.ocfl_walk.specs.{Ends.{before_end}, declared.end.End.{End}}

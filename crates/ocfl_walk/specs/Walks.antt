@@ -2,7 +2,7 @@
 use Rattle.std.specs.Prelude.{◌≡◌, ◌<◌, ◌≤◌, ◌+◌, ℕ, ◌∷◌, ◌++◌, List, [], Option, Some, None, length, ⊤}
 use Rattle.ocfl_tree.specs.{Place.{Place, Text}, StorageRoot.{StorageRoot}, Store.{Store}}
 use Rattle.ocfl_tree.specs.declared.store.Opening.{Opening}
-use Rattle.ocfl_audit.specs.{Due.{due}, Between.{IsBeyond}}
+use Rattle.ocfl_rules.specs.{Due.{due}, Between.{IsBeyond}}
 use Rattle.ocfl_walk.specs.{Before.{place_before}, Ends.{before_end}, WalkCalls.{Walks, WalksOut}}
 use Rattle.ocfl_walk.specs.{Standing.{StandsAt, stand_size}, declared.end.End.{End}}
 use Rattle.ocfl_walk.specs.{declared.stand.Stand.{Stand}, declared.walk.Walk.{Walk}}

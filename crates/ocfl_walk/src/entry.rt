@@ -4,7 +4,7 @@ ghost use Rattle.std.specs.Prelude.{MatchOption, MatchResult};
 ghost use Rattle.ocfl_tree.specs.{StorageRoot.{StorageRoot}, Store.{Store, IfTold}};
 ghost use Rattle.ocfl_tree.specs.{Place.{Place as Spot, Text}, Listing.{IsListing}};
 ghost use Rattle.ocfl_inventory.specs.Table.{IsFit};
-ghost use Rattle.ocfl_audit.specs.Zone.{zone};
+ghost use Rattle.ocfl_rules.specs.Zone.{zone};
 ghost use Rattle.ocfl_item.specs.{Around.{IsPart}, Meeting.{IsFairFolder}};
 ghost use Rattle.ocfl_item.specs.Ways.{Enters, IsAt, IsObject, Stops, way_below};
 ghost use Rattle.ocfl_walk.specs.Internal.Entering.{StaysOut, Comes, DescendFails, IsBrought};

@@ -1,7 +1,7 @@
 //! One place, looked up in the listings on the way down to it.
 ghost use Rattle.std.specs.Prelude.{◌≡◌, ◌∷◌, ◌++◌, [], None, Some, MatchOption};
 ghost use Rattle.ocfl_tree.specs.{Listing.{kind_in}, Store.{IfTold}};
-ghost use Rattle.ocfl_audit.specs.Zone.{zone};
+ghost use Rattle.ocfl_rules.specs.Zone.{zone};
 ghost use Rattle.ocfl_item.specs.{Around.{IsPart}, Ways.{IsAt, way_below}};
 ghost use Rattle.ocfl_walk.specs.{Internal.Entering.{may_open}, Internal.Finding.{FindsItem}};
 ghost use Rattle.ocfl_walk.specs.Internal.Standing.{IsAroundIf};

@@ -3,10 +3,10 @@
 ghost use Rattle.std.specs.Prelude.{◌≡◌, ◌++◌, ◌∷◌, [], List, Option, None, Some, codes, true};
 ghost use Rattle.ocfl_tree.specs.{Place.{Place}, Ascending.{IsAmong}, Store.{Store}};
 ghost use Rattle.ocfl_tree.specs.{declared.store.Opening.{Opening}, StorageRoot.{StorageRoot}};
-ghost use Rattle.ocfl_audit.specs.Between.{IsBeyond, IsWithin, looked_between, read_between};
-ghost use Rattle.ocfl_audit.specs.{Due.{due, item_places}, Objects.{IsObjectRoot}};
-ghost use Rattle.ocfl_audit.specs.{Trail.{is_meta, reads_inventory}, Walk.{is_reached}};
-ghost use Rattle.ocfl_audit.specs.Zone.{inside, zone, beginnings};
+ghost use Rattle.ocfl_rules.specs.Between.{IsBeyond, IsWithin, looked_between, read_between};
+ghost use Rattle.ocfl_rules.specs.{Due.{due, item_places}, Objects.{IsObjectRoot}};
+ghost use Rattle.ocfl_rules.specs.{Trail.{is_meta, reads_inventory}, Walk.{is_reached}};
+ghost use Rattle.ocfl_rules.specs.Zone.{inside, zone, beginnings};
 ghost use Rattle.ocfl_item.specs.declared.fault.Fault.{Fault};
 ghost use Rattle.ocfl_walk.specs.Before.{place_before, places_from};
 ghost use Rattle.ocfl_walk.specs.WalkCalls.{FailsBetween, GoesDown, Walks, holder, way_of};

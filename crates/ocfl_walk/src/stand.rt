@@ -6,7 +6,7 @@ ghost use Rattle.std.specs.{Ordering.{is_lt}, declared.cmp.Ordering.TheVariants.
 ghost use Rattle.arrayvec.specs.ArrayVec.{array_vec_len};
 ghost use Rattle.ocfl_tree.specs.{Place.{Place as Spot, place_cmp}, StorageRoot.{StorageRoot}};
 ghost use Rattle.ocfl_tree.specs.Store.{Store, IfTold};
-ghost use Rattle.ocfl_audit.specs.{Walk.{seen_names}, Zone.{seen}};
+ghost use Rattle.ocfl_rules.specs.{Walk.{seen_names}, Zone.{seen}};
 ghost use Rattle.ocfl_item.specs.Around.{IsMet, IsNamedIn, IsTableAround};
 ghost use Rattle.ocfl_item.specs.Meeting.{IsFairVisit, IsVisit, MeetFails, Meets};
 ghost use Rattle.ocfl_walk.specs.Standing.{StandsAt, frames_of, levels, pile_of, piles_at};

@@ -5,7 +5,7 @@ use Rattle.std.specs.declared.cmp.Ordering.TheVariants.{Less, Greater}
 use Rattle.ocfl_tree.specs.Place.{Text, Place, place_cmp}
 use Rattle.ocfl_report.specs.{Line.{Line, line_of}, Text.{lines_text, IsLineText}}
 use Rattle.ocfl_report.specs.declared.line.Line.{Line as MadeLine}
-use Rattle.ocfl_parts.specs.Splits.{AreLines, IsNotLess, IsBadReportLine}
+use Rattle.ocfl_separators.specs.Splits.{AreLines, IsNotLess, IsBadReportLine}
 use Rattle.ocfl_compare.specs.declared.reading.ReadStop.{ReadStop}
 use Rattle.ocfl_compare.specs.declared.reading.ReadStop.TheVariants.{Line as BadLine, Failed, Memory}
 

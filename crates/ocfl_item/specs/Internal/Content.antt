@@ -3,8 +3,8 @@ use Rattle.std.specs.Prelude.{ℕ, List, Option, Some, None, option_map, Bool, f
 use Rattle.ocfl_tree.specs.{Place.{Place}, StorageRoot.{StorageRoot, file, dir, other}}
 use Rattle.ocfl_inventory.specs.{Note.{plain, Note}, Table.{Table, Named}}
 use Rattle.ocfl_report.specs.declared.code.Code.TheVariants.{E024, S05, E023, S04}
-use Rattle.ocfl_audit.specs.Zone.{Zone, skipped, hierarchy, inside, zone, seen, table_at}
-use Rattle.ocfl_audit.specs.Lines.{listed_dir_notes, is_empty}
+use Rattle.ocfl_rules.specs.Zone.{Zone, skipped, hierarchy, inside, zone, seen, table_at}
+use Rattle.ocfl_rules.specs.Lines.{listed_dir_notes, is_empty}
 use Rattle.ocfl_item.specs.declared.sight.Sight.{Sight}
 use Rattle.ocfl_item.specs.declared.sight.Sight.TheVariants as sight
 

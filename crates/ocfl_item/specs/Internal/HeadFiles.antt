@@ -7,8 +7,8 @@ use Rattle.ocfl_digest.specs.declared.algorithm.Algorithm.TheVariants.{Sha256, S
 use Rattle.ocfl_inventory.specs.Declaration.{Declared, undeclared, known, unknown, several, declaration_name}
 use Rattle.ocfl_inventory.specs.declared.declaration.Level.TheVariants.{Object}
 use Rattle.ocfl_inventory.specs.{declared.declaration.Version.{Version}, Table.{Table, table_of}}
-use Rattle.ocfl_audit.specs.{Zone.{inventory_name, inventory_limit}, Head.{sidecar_name}}
-use Rattle.ocfl_audit.specs.Trail.{places_of}
+use Rattle.ocfl_rules.specs.{Zone.{inventory_name, inventory_limit}, Head.{sidecar_name}}
+use Rattle.ocfl_rules.specs.Trail.{places_of}
 use Rattle.ocfl_item.specs.{Looking.{IsFront}, Auditing.{IsMetadataRead}}
 use Rattle.ocfl_item.specs.declared.fault.Fault.{Fault}
 use Rattle.ocfl_item.specs.HeadFiles.{files_there, ReadsFiles, FilesStop}

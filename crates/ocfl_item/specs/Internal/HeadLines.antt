@@ -10,7 +10,7 @@ use Rattle.ocfl_digest.specs.declared.algorithm.Algorithm.TheVariants.{Sha256, S
 use Rattle.ocfl_digest.specs.declared.bounded.Bounded.{Bounded}
 use Rattle.ocfl_digest.specs.declared.digests.Digests.{Digests}
 use Rattle.ocfl_item.specs.{Internal.HeadFiles.{IsFileAt}, declared.head_lines.Sidecars.{Sidecars}}
-use Rattle.ocfl_audit.specs.Head.{root_notes_by, head_notes_by, sidecar_name, is_sidecar_missing, are_sidecars_missing, other_sidecar_notes}
+use Rattle.ocfl_rules.specs.Head.{root_notes_by, head_notes_by, sidecar_name, is_sidecar_missing, are_sidecars_missing, other_sidecar_notes}
 
 -- the lines of the storage root, or of an object at d, by what is declared there
 abbrev pub declared_notes : StorageRoot → Place → Level → Declared → List Note

@@ -5,7 +5,7 @@ use Rattle.ocfl_tree.specs.StorageRoot.{StorageRoot}
 use Rattle.ocfl_inventory.specs.{Note.{note, Note}, Remark.{remark_view}, Table.{Named}}
 use Rattle.ocfl_digest.specs.Algorithm.{algorithm_name}
 use Rattle.ocfl_item.specs.declared.lines.PlaceLines.{PlaceLines}
-use Rattle.ocfl_audit.specs.Lines.{notes, named_at, block_cmp, block_code}
+use Rattle.ocfl_rules.specs.Lines.{notes, named_at, block_cmp, block_code}
 
 -- these are the lines
 abbrev pub HasLines : PlaceLines → List Note → Type 0

@@ -11,10 +11,10 @@ use Rattle.ocfl_inventory.specs.Entries.{meaning, PointsAtOne}
 use Rattle.ocfl_inventory.specs.declared.declaration.Declared.{Declared as MadeDeclared}
 use Rattle.ocfl_inventory.specs.Table.{Table}
 use Rattle.ocfl_inventory.specs.declared.declaration.Level.TheVariants as level
-use Rattle.ocfl_audit.specs.Zone.{hierarchy, inside, zone, is_entered, is_listed_zone, object_declared, root_declared, beginnings, is_declared, max_listed_depth}
-use Rattle.ocfl_audit.specs.Lines.{listed_dir_notes, notes, named_at, is_hashed}
-use Rattle.ocfl_audit.specs.{Between.{is_looked_into}, Walk.{seen_names}, Head.{on}}
-use Rattle.ocfl_audit.specs.Trail.{content_trail, is_head, heads_of, reads_inventory}
+use Rattle.ocfl_rules.specs.Zone.{hierarchy, inside, zone, is_entered, is_listed_zone, object_declared, root_declared, beginnings, is_declared, max_listed_depth}
+use Rattle.ocfl_rules.specs.Lines.{listed_dir_notes, notes, named_at, is_hashed}
+use Rattle.ocfl_rules.specs.{Between.{is_looked_into}, Walk.{seen_names}, Head.{on}}
+use Rattle.ocfl_rules.specs.Trail.{content_trail, is_head, heads_of, reads_inventory}
 use Rattle.ocfl_item.specs.Auditing.{FailedAt, IsMetadataRead, LieIn}
 use Rattle.ocfl_item.specs.{Looking.{IsFront, failures_by}, Internal.Ways.{IsHeadOf}}
 use Rattle.ocfl_item.specs.{Meeting.{IsVisit}, declared.fault.Fault.{Fault}}

@@ -9,9 +9,9 @@ use Rattle.ocfl_tree.specs.declared.store.Trouble.{Trouble}
 use Rattle.ocfl_inventory.specs.Entries.{meaning, PointsAtOne}
 use Rattle.ocfl_inventory.specs.declared.declaration.Declared.{Declared as MadeDeclared}
 use Rattle.ocfl_inventory.specs.Table.{Table}
-use Rattle.ocfl_audit.specs.Zone.{inside, zone, is_entered, object_declared, table_at, beginnings}
-use Rattle.ocfl_audit.specs.{Lines.{notes}, Head.{on}}
-use Rattle.ocfl_audit.specs.Trail.{content_trail, heads_of, reads_inventory}
+use Rattle.ocfl_rules.specs.Zone.{inside, zone, is_entered, object_declared, table_at, beginnings}
+use Rattle.ocfl_rules.specs.{Lines.{notes}, Head.{on}}
+use Rattle.ocfl_rules.specs.Trail.{content_trail, heads_of, reads_inventory}
 use Rattle.ocfl_item.specs.{Looking.{IsFront}, Auditing.{IsMetadataRead}, Internal.Lines.{HasLines}}
 use Rattle.ocfl_item.specs.{declared.fault.Fault.{Fault}, declared.lines.PlaceLines.{PlaceLines}}
 use Rattle.ocfl_item.specs.declared.folder.Head.{Head}

@@ -2,7 +2,7 @@
 use Rattle.std.specs.Prelude.{◌≡◌, ℕ, ◌+◌, List, [], ◌∷◌, ◌++◌, length, All, flat_map, Option, Some, None}
 use Rattle.ocfl_tree.specs.Place.{Text, Place}
 use Rattle.ocfl_report.specs.{Line.{Line}, Text.{lines_text, IsLineText}}
-use Rattle.ocfl_parts.specs.Splits.{AreLines, IsNotLess}
+use Rattle.ocfl_separators.specs.Splits.{AreLines, IsNotLess}
 use Rattle.ocfl_state.specs.Pieces.{Carries}
 use Rattle.ocfl_joining.specs.{Missing.{numbers}, Reports.{Seen}, Joined.{IsFrom, IsBelow, IsRight}}
 use Rattle.ocfl_joining.specs.declared.copying.Copied.{Copied}

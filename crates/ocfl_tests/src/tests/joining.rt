@@ -4,7 +4,7 @@ use ocfl_joining::{
     ClosedPart, JoinStop, Joined, KeptMark, MemoryReport, MemoryReports, MissingPart, PartFault,
     PartReports, PartStop, ReportTrouble, find_missing, find_most_names, find_within, join,
 };
-use ocfl_parts::{Separators, read_parts};
+use ocfl_separators::{Separators, read_parts};
 use ocfl_state::ReportMark;
 use ocfl_tree::Place;
 use std::alloc::Global;

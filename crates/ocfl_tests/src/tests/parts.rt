@@ -2,7 +2,7 @@
 use crate::tests::common::expect_shown;
 use crate::tests::common::input::expect_failures;
 use crate::tests::common::store::place_of;
-use ocfl_parts::{PartsStop, PushStop, Separators, SplitStop, put_parts, read_parts};
+use ocfl_separators::{PartsStop, PushStop, Separators, SplitStop, put_parts, read_parts};
 use std::alloc::Global;
 use std::test::Fail;
 

@@ -8,7 +8,7 @@ use crate::tests::common::roots::three_files;
 use crate::tests::common::store::place_of;
 use ocfl_cursor::Budget;
 use ocfl_digest::Block;
-use ocfl_line::{Chosen, NightAsked, NightBounds, Until};
+use ocfl_arguments::{Chosen, NightAsked, NightBounds, Until};
 use ocfl_night::{
     Clock, Flushing, Halt, Made, NightEnd, Output, OutputFailed, Refusal, Site, night,
 };

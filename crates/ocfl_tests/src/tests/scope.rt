@@ -3,7 +3,7 @@ use crate::tests::common::cursors::ends_of;
 use crate::tests::common::expect_shown;
 use crate::tests::common::input::{Slow, Then, expect_failures};
 use crate::tests::common::store::place_of;
-use ocfl_parts::PartsStop;
+use ocfl_separators::PartsStop;
 use ocfl_scope::{Scope, ScopeStop, find_branch, find_part};
 use std::alloc::Global;
 use std::test::Fail;

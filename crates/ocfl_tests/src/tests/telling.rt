@@ -6,7 +6,7 @@ mod rows;
 
 use crate::tests::common::store::place_of;
 use ocfl_report::{Line, TextStop, read_line};
-use ocfl_telling::{
+use ocfl_messages::{
     Found, Gravest, Heads, Known, KnownEntry, KnownStop, Night, Quoted, Reach, RefusalMessage,
     StopMessage, find_shown, night_text, read_known, refusal_text, stop_text,
 };

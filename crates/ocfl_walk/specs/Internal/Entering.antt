@@ -4,10 +4,10 @@ use Rattle.std.specs.List.{AllByRecursion}
 use Rattle.ocfl_tree.specs.{Place.{Text, Place}, StorageRoot.{StorageRoot, max_entries}}
 use Rattle.ocfl_tree.specs.{Store.{Store, Did}, Listing.{IsOrdinary}, declared.store.Entry.{Entry}}
 use Rattle.ocfl_tree.specs.declared.store.Opening.{Opening}
-use Rattle.ocfl_audit.specs.Zone.{Zone, inside, root_declared, zone, table_at, is_known, max_listed_depth}
-use Rattle.ocfl_audit.specs.{Lines.{is_hashed}, Trail.{content_trail, heads_of, reads_inventory}}
-use Rattle.ocfl_audit.specs.Walk.{is_reached, step_listed}
-use Rattle.ocfl_audit.specs.Stack.{seen_places, seen_left, listed_at, IsListed}
+use Rattle.ocfl_rules.specs.Zone.{Zone, inside, root_declared, zone, table_at, is_known, max_listed_depth}
+use Rattle.ocfl_rules.specs.{Lines.{is_hashed}, Trail.{content_trail, heads_of, reads_inventory}}
+use Rattle.ocfl_rules.specs.Walk.{is_reached, step_listed}
+use Rattle.ocfl_rules.specs.Stack.{seen_places, seen_left, listed_at, IsListed}
 use Rattle.ocfl_item.specs.Looking.{way_to, IsFront, failures_by}
 use Rattle.ocfl_item.specs.Auditing.{FailedAt, IsMetadataRead, LieIn}
 use Rattle.ocfl_item.specs.Ways.{way_below, is_extensions_name, is_listable, AreInventories, Enters, InHierarchy, IsAt, Stops}

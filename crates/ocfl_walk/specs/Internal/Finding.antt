@@ -1,7 +1,7 @@
 -- One place, looked up by itself: the way down to it, and what is met there.
 use Rattle.std.specs.Prelude.{◌≡◌, ◌≢◌, ℕ, List, [], Option, Result, MatchResult, AllPairs}
 use Rattle.ocfl_tree.specs.{Place.{Place}, StorageRoot.{StorageRoot}, Store.{Store}}
-use Rattle.ocfl_audit.specs.Trail.{heads_of}
+use Rattle.ocfl_rules.specs.Trail.{heads_of}
 use Rattle.ocfl_item.specs.{Auditing.{LieIn}, Looking.{IsFront, failures_by}, Meeting.{IsItemAt}}
 use Rattle.ocfl_item.specs.{declared.fault.Fault.{Fault}, declared.pending.Pending.{Pending}}
 use Rattle.ocfl_walk.specs.{Internal.Entering.{Calls, NamesFailed}, WalkCalls.{AreAllListed}}

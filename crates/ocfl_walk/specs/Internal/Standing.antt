@@ -6,9 +6,9 @@ use Rattle.ocfl_tree.specs.Place.{Text, Place, text_cmp, place_cmp, begins}
 use Rattle.ocfl_tree.specs.Ascending.{IsAscending, IsBeforeAll}
 use Rattle.ocfl_tree.specs.{StorageRoot.{StorageRoot, max_entries}, declared.store.Entry.{Entry}}
 use Rattle.ocfl_inventory.specs.{Table.{IsFit, Table}, NextPath.{next_path}}
-use Rattle.ocfl_audit.specs.{Zone.{seen, max_listed_depth}, Lines.{notes}, Due.{due}}
-use Rattle.ocfl_audit.specs.Walk.{seen_names}
-use Rattle.ocfl_audit.specs.Stack.{NoneSeenBetween, NoneSeenAbove, Frame, IsStack, IsListed}
+use Rattle.ocfl_rules.specs.{Zone.{seen, max_listed_depth}, Lines.{notes}, Due.{due}}
+use Rattle.ocfl_rules.specs.Walk.{seen_names}
+use Rattle.ocfl_rules.specs.Stack.{NoneSeenBetween, NoneSeenAbove, Frame, IsStack, IsListed}
 use Rattle.ocfl_item.specs.{Around.{IsTableAround}, declared.folder.Folder.{Folder}}
 use Rattle.ocfl_item.specs.declared.meeting.Around.{Around}
 use Rattle.ocfl_walk.specs.{Ends.{is_past}, declared.end.End.{End}, declared.stand.Turn.{Turn}}

@@ -1,8 +1,8 @@
 -- What a walk does to a store that tells its tree.
 use Rattle.std.specs.Prelude.{◌≡◌, ◌⊎◌, ◌≤◌, [], ◌∷◌, false, Option, Some, None, Result, MatchOption, MatchResult, IfSome, length, ◌<◌, ⊤}
 use Rattle.ocfl_tree.specs.{Place.{Place}, StorageRoot.{StorageRoot}, Store.{Store}}
-use Rattle.ocfl_audit.specs.{Due.{due}, Between.{IsBeyond}}
-use Rattle.ocfl_audit.specs.Walk.{seen_names}
+use Rattle.ocfl_rules.specs.{Due.{due}, Between.{IsBeyond}}
+use Rattle.ocfl_rules.specs.Walk.{seen_names}
 use Rattle.ocfl_item.specs.Meeting.{IsItemAt}
 use Rattle.ocfl_item.specs.{Pending.{IsPending}, Around.{IsTableAround}}
 use Rattle.ocfl_item.specs.{declared.fault.Fault.{Fault}, declared.folder.Folder.{Folder}}

@@ -2,7 +2,7 @@ use Rattle.std.proofs.Common.{[], Bool, sym, ◌∙◌, ap}
 use Rattle.std.specs.Prelude.{not}
 use Rattle.ocfl_inventory.specs.Note.{plain}
 use Rattle.ocfl_report.specs.declared.code.Code.TheVariants.{E080}
-use Rattle.ocfl_audit.specs.Head.{on, or_clean}
+use Rattle.ocfl_rules.specs.Head.{on, or_clean}
 use Rattle.ocfl_item.proofs.base.known_code.Goals as goal
 
 pub returns-then-is_exact : goal.returns-then-is_exact

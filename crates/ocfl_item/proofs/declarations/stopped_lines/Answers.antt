@@ -1,5 +1,5 @@
 use Rattle.std.proofs.Common.{◌≡◌, [], false, ap, sym, subst}
-use Rattle.ocfl_audit.specs.Zone.{is_known}
+use Rattle.ocfl_rules.specs.Zone.{is_known}
 use Rattle.ocfl_inventory.specs.Entries.{meaning, PointsAtOne}
 use Rattle.ocfl_item.specs.{Internal.HeadLines.{declared_notes}, Internal.Lines.{HasLines}}
 use Rattle.ocfl_item.proofs.LinesLaws.{has_more}

@@ -2,7 +2,7 @@ use Rattle.std.proofs.Common.{◌≡◌, map, take}
 use Rattle.ocfl_tree.specs.Place.{Text}
 use Rattle.ocfl_inventory.specs.TripleView.{named_view}
 use Rattle.ocfl_item.specs.{Internal.FileLines.{HasDigests}, Internal.Lines.{Adds}}
-use Rattle.ocfl_audit.specs.Lines.{wrong_notes}
+use Rattle.ocfl_rules.specs.Lines.{wrong_notes}
 use Rattle.ocfl_item.proofs.file_lines.add_each_wrong.Given as goal
 
 abbrev pub invariant-loop-entry : goal.invariant-loop-entry

@@ -1,6 +1,6 @@
 use Rattle.std.proofs.Common.{[], ◌++◌, ◌∙◌, map}
 use Rattle.ocfl_inventory.specs.TripleView.{named_view}
-use Rattle.ocfl_audit.specs.Lines.{unnamed_notes, wrong_notes}
+use Rattle.ocfl_rules.specs.Lines.{unnamed_notes, wrong_notes}
 use Rattle.ocfl_item.proofs.LinesLaws.{has_more}
 use Rattle.ocfl_item.proofs.file_lines.hashed_lines.Goals as goal
 

@@ -1,6 +1,6 @@
 use Rattle.std.proofs.Common.{◌≡◌, drop, map}
 use Rattle.ocfl_inventory.specs.TripleView.{named_view}
-use Rattle.ocfl_audit.specs.Lines.{is_in_manifest}
+use Rattle.ocfl_rules.specs.Lines.{is_in_manifest}
 use Rattle.ocfl_item.proofs.file_lines.is_in_manifest.Given as goal
 
 abbrev pub invariant-loop-entry : goal.invariant-loop-entry

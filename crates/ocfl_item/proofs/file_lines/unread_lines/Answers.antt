@@ -1,7 +1,7 @@
 use Rattle.std.proofs.Common.{[], ◌∷◌, ◌∙◌, map}
 use Rattle.ocfl_inventory.specs.{Note.{plain}, TripleView.{named_view}}
 use Rattle.ocfl_report.specs.declared.code.Code.TheVariants.{S08}
-use Rattle.ocfl_audit.specs.Lines.{unnamed_notes}
+use Rattle.ocfl_rules.specs.Lines.{unnamed_notes}
 use Rattle.ocfl_item.proofs.LinesLaws.{has_more}
 use Rattle.ocfl_item.proofs.file_lines.unread_lines.Goals as goal
 

@@ -2,7 +2,7 @@ use Rattle.std.proofs.Common.{◌≡◌, true, OnOk, sym, ◌∙◌, ap, subst}
 use Rattle.std.specs.Prelude.{not}
 use Rattle.ocfl_inventory.specs.{Note.{plain}, declared.declaration.Level.TheVariants.{Object}}
 use Rattle.ocfl_report.specs.declared.code.Code.TheVariants.{E007}
-use Rattle.ocfl_audit.specs.Head.{on, is_exact_declaration}
+use Rattle.ocfl_rules.specs.Head.{on, is_exact_declaration}
 use Rattle.ocfl_item.specs.Internal.Lines.{Adds}
 use Rattle.ocfl_item.proofs.LinesLaws.{adds_not}
 use Rattle.ocfl_item.proofs.head_lines.add_declaration.Goals as goal

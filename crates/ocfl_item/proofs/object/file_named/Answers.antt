@@ -1,6 +1,6 @@
 use Rattle.std.proofs.{Common.{◌≡◌, ◌∙◌, ap, sym, refl}, lemmas.List.{at_drop_all}}
 use Rattle.ocfl_tree.specs.{Place.{text_eq}, Listing.{kind_in}}
-use Rattle.ocfl_audit.proofs.BelowLaws.{text_from_test}
+use Rattle.ocfl_rules.proofs.BelowLaws.{text_from_test}
 use Rattle.ocfl_item.specs.Internal.Ways.{is_file_kind}
 use Rattle.ocfl_item.proofs.LooksEntries.{kind_found, kind_goes_on, file_kind, other_kind}
 use Rattle.ocfl_item.proofs.object.file_named.Goals as goal

@@ -1,6 +1,6 @@
 use Rattle.std.proofs.Common.{◌∙◌, ap, map}
 use Rattle.ocfl_report.specs.Text.{text}
-use Rattle.ocfl_audit.specs.{Audit.{audit, Unread}, Parts.{within}}
+use Rattle.ocfl_rules.specs.{Audit.{audit, Unread}, Parts.{within}}
 use Rattle.ocfl_night.proofs.AnyNights.{one_cycle, joined_reports}
 use Rattle.ocfl_night.proofs.laws.a_whole_report_is_the_audit.Goals as goal
 

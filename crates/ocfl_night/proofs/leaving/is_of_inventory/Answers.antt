@@ -1,7 +1,7 @@
 use Rattle.std.proofs.Common.{◌≡◌, ◌∙◌, ◌++◌, ◌∷◌, [], ap, sym, Bool, false, nat_eq}
 use Rattle.std.specs.{Prelude.{◌||◌}, List.{starts_with}, Cmp.Lexicographic.{texts_ties}}
 use Rattle.ocfl_tree.specs.Place.{Text, text_eq}
-use Rattle.ocfl_audit.specs.Zone.{inventory_name}
+use Rattle.ocfl_rules.specs.Zone.{inventory_name}
 use Rattle.ocfl_night.proofs.leaving.is_of_inventory.Goals as goal
 
 pub returns-else-eq : goal.returns-else-eq

@@ -1,6 +1,6 @@
 use Rattle.std.proofs.Common.{◌∙◌, Option, ap, sym}
 use Rattle.ocfl_tree.specs.Place.{Place}
-use Rattle.ocfl_audit.specs.Parts.{Part}
+use Rattle.ocfl_rules.specs.Parts.{Part}
 use Rattle.ocfl_scrub.specs.Starting.{part_of}
 use Rattle.ocfl_night.specs.Chain.{from_after}
 use Rattle.ocfl_night.proofs.Chains.{after_is}

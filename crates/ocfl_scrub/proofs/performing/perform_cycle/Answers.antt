@@ -1,5 +1,5 @@
 use Rattle.std.proofs.Common.{◌≡◌, subst, inl, ◌∙◌, ap, map}
-use Rattle.ocfl_audit.specs.Parts.{whole}
+use Rattle.ocfl_rules.specs.Parts.{whole}
 use Rattle.ocfl_scrub.specs.{Call.{call_of}, Chaining.{CycleOfRunsWithin}, Running.{limits_of}}
 use Rattle.ocfl_scrub.specs.Performing.{equal_limits}
 use Rattle.ocfl_scrub.proofs.ChainHeadline.{headline_of_whole}

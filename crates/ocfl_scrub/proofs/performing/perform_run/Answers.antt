@@ -1,5 +1,5 @@
 use Rattle.std.proofs.Common.{inr, refl}
-use Rattle.ocfl_audit.specs.Parts.{whole}
+use Rattle.ocfl_rules.specs.Parts.{whole}
 use Rattle.ocfl_cursor.specs.Cursor.{cursor_text}
 use Rattle.ocfl_scrub.specs.{Call.{call_of}, Performing.{BeginsWith, bytes_of}, Running.{limits_of}}
 use Rattle.ocfl_scrub.proofs.PerformLaws.{Made, handed_back, made_by, run_answers, run_performed, worn_silent}

@@ -1,6 +1,6 @@
 use Rattle.std.proofs.Common.{◌++◌, ◌∷◌, [], Err, ap, sym, subst, ◌∙◌}
-use Rattle.ocfl_parts.specs.Separators.{AreSeparators}
-use Rattle.ocfl_parts.proofs.Orders.{AreSeparators-push}
+use Rattle.ocfl_separators.specs.Separators.{AreSeparators}
+use Rattle.ocfl_separators.proofs.Orders.{AreSeparators-push}
 use Rattle.ocfl_split.proofs.cutting.add.Goals as goal
 
 pub unreachable-requires : goal.unreachable-requires

@@ -1,7 +1,7 @@
 use Rattle.std.proofs.Common.{◌≤◌, ◌<◌, ◌*◌, ◌/◌, ◌+◌, ◌∙◌, ◌∷◌, [], length, refl, sym, subst, ap, arith}
 use Rattle.std.proofs.lemmas.List.{length-append}
-use Rattle.ocfl_parts.specs.Separators.{AreSeparators}
-use Rattle.ocfl_parts.proofs.Orders.{AreSeparators-nil}
+use Rattle.ocfl_separators.specs.Separators.{AreSeparators}
+use Rattle.ocfl_separators.proofs.Orders.{AreSeparators-nil}
 use Rattle.ocfl_split.proofs.Cuts.{index_within, index_grows, cut_above, cut_on, got, firsts_more, begins}
 use Rattle.ocfl_split.proofs.cutting.cut.Goals as goal
 

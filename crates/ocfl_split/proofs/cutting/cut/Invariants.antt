@@ -1,6 +1,6 @@
 use Rattle.std.proofs.Common.{◌≡◌, ◌≤◌, ◌*◌, ◌/◌, ◌-◌, ◌++◌, length, drop}
 use Rattle.ocfl_tree.specs.{Ascending.{IsAscending}, Place.{place_cmp}}
-use Rattle.ocfl_parts.specs.Separators.{AreSeparators}
+use Rattle.ocfl_separators.specs.Separators.{AreSeparators}
 use Rattle.ocfl_split.specs.Splitting.{firsts}
 use Rattle.ocfl_split.proofs.cutting.cut.Given as goal
 

@@ -2,7 +2,7 @@ use Rattle.std.proofs.{Common.{rules}, lemmas.Fn.{always_returns_same}}
 use Rattle.std.proofs.lemmas.List.MinMax.{ranks_by}
 use Rattle.std.specs.Ordering.{is_lt}
 use Rattle.ocfl_tree.specs.{Place.{text_cmp}, declared.store.Entry.{Entry}}
-use Rattle.ocfl_audit.proofs.BelowLaws.{text_cmp_total}
+use Rattle.ocfl_rules.proofs.BelowLaws.{text_cmp_total}
 use Rattle.ocfl_split.proofs.directories.sort.Goals as goal
 
 pub returns-clause-sorted : goal.returns-clause-sorted

@@ -6,7 +6,7 @@ use super::{
 use crate::tests::common::Runtime;
 use clap::error::ErrorKind;
 use ocfl_deed::Deed;
-use ocfl_line::{Asked, Chosen, Split};
+use ocfl_arguments::{Asked, Chosen, Split};
 use std::alloc::{AllocError, Global};
 use std::test::Fail;
 

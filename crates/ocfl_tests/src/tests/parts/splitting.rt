@@ -2,7 +2,7 @@
 use crate::tests::common::input::{Slow, Then, expect_failures};
 use crate::tests::common::store::place_of;
 use crate::tests::parts::text_of;
-use ocfl_parts::{SplitStop, split_by};
+use ocfl_separators::{SplitStop, split_by};
 use std::alloc::Global;
 use std::io::{BufReader, ErrorKind};
 use std::test::Fail;

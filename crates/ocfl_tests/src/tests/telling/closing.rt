@@ -2,7 +2,7 @@
 use crate::tests::common::store::place_of;
 use crate::tests::telling::line_of;
 use ocfl_report::Line;
-use ocfl_telling::{
+use ocfl_messages::{
     Closing, Counts, Finding, Gone, GoneKind, Gravest, Joined, SHOWN, Tally, closing_text,
     joined_text,
 };

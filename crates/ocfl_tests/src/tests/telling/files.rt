@@ -1,7 +1,7 @@
 //! How many files of an object are right, as a night says it.
 use crate::tests::common::store::place_of;
 use ocfl_report::read_line;
-use ocfl_telling::{
+use ocfl_messages::{
     FileCounts, Found, Gathering, Gravest, Heads, Known, KnownEntry, Night, Reach, night_text,
 };
 use std::alloc::Global;

@@ -1,6 +1,6 @@
 //! Files that are there under another spelling of their names.
 use crate::tests::telling::{NIGHT, found_in};
-use ocfl_telling::{Known, Night, night_text};
+use ocfl_messages::{Known, Night, night_text};
 use std::alloc::Global;
 use std::test::Fail;
 

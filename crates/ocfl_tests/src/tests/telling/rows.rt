@@ -1,6 +1,6 @@
 //! What a night logs.
 use crate::tests::common::store::place_of;
-use ocfl_telling::{
+use ocfl_messages::{
     BeganRow, ClosingRow, LeftRow, LogRow, NightRow, RefusalRow, SliceRow, Stands, log_line,
 };
 use ocfl_tree::Place;

@@ -5,7 +5,7 @@ use Rattle.ocfl_walk.specs.{Standing.{piles_in}, Internal.Entering.{IsComing}}
 use Rattle.ocfl_walk.proofs.ReachLaws.{comes_end}
 use Rattle.ocfl_walk.proofs.BroughtLaws.{came_fails, came_on, came_stop, coming_next, end_orderly, brought_end, orderly_at, stop_orderly}
 use Rattle.ocfl_walk.proofs.PlacedLaws.{deeper, on_top}
-use Rattle.ocfl_audit.proofs.AuditExists.{append_one}
+use Rattle.ocfl_rules.proofs.AuditExists.{append_one}
 use Rattle.ocfl_tree.proofs.Stores.{did_nothing}
 use Rattle.ocfl_walk.proofs.entry.+go_down.Goals as goal
 

@@ -1,6 +1,6 @@
 use Rattle.std.proofs.{Common.{◌≡◌, ◌∙◌, sym, refl}, lemmas.List.{at_drop_all}}
 use Rattle.ocfl_tree.specs.{Place.{text_eq}, Listing.{kind_in}}
-use Rattle.ocfl_audit.proofs.BelowLaws.{text_from_test}
+use Rattle.ocfl_rules.proofs.BelowLaws.{text_from_test}
 use Rattle.ocfl_item.proofs.LooksEntries.{kind_found, kind_goes_on}
 use Rattle.ocfl_walk.proofs.find.entry_named.Goals as goal
 

@@ -1,5 +1,0 @@
-use Rattle.ocfl_audit.proofs.MetaLaws.{object_files, object_directories, version_files}
-use Rattle.ocfl_audit.proofs.laws.allowed_names_are_exact.Goals as goal
-
-pub returns : goal.returns
-returns c = assumption (object_files, object_directories, version_files)

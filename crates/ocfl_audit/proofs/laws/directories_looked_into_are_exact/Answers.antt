@@ -1,5 +1,0 @@
-use Rattle.ocfl_audit.proofs.LookLaws.{looked_is}
-use Rattle.ocfl_audit.proofs.laws.directories_looked_into_are_exact.Goals as goal
-
-pub returns : goal.returns
-returns c root d = looked_is root d

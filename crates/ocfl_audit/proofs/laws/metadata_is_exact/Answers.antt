@@ -1,5 +1,0 @@
-use Rattle.ocfl_audit.proofs.MetaLaws.{meta_is}
-use Rattle.ocfl_audit.proofs.laws.metadata_is_exact.Goals as goal
-
-pub returns : goal.returns
-returns c root p = meta_is root p

@@ -1,5 +1,0 @@
-use Rattle.ocfl_audit.proofs.PartLaws.{costs_add_up, files_add_up}
-use Rattle.ocfl_audit.proofs.laws.parts_add_up.Goals as goal
-
-pub returns : goal.returns
-returns c = record { costs = costs_add_up; files = files_add_up }

@@ -1,5 +1,0 @@
-use Rattle.ocfl_line.proofs.Commands.{IsBuiltUpTo}
-use Rattle.ocfl_line.proofs.command.line_command.Given as goal
-
-abbrev pub invariant-loop-subcommand : goal.invariant-loop-subcommand
-invariant-loop-subcommand l = IsBuiltUpTo l.subcommands l.subcommand-index l.command

@@ -1,0 +1,5 @@
+use Rattle.std.proofs.{Common.{◌∙◌, append_assoc}, lemmas.Result.{IfOk-weaker}}
+use Rattle.ocfl_messages.proofs.closing.new_head_of.Goals as goal
+
+pub returns : goal.returns
+returns c = IfOk-weaker c.format.result _ _ (λ s h. h ∙ simp (append_assoc, c.in_ok-above.ensures, c.in_ok-findings.ensures, c.are-are.ensures)) c.format.ensures.ok

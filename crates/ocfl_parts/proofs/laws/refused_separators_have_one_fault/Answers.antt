@@ -1,5 +1,0 @@
-use Rattle.ocfl_parts.proofs.PartsTexts.{not_bad_and_long}
-use Rattle.ocfl_parts.proofs.laws.refused_separators_have_one_fault.Goals as goal
-
-pub returns : goal.returns
-returns c = not_bad_and_long

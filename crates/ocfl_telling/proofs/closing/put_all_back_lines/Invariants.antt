@@ -1,6 +1,0 @@
-use Rattle.std.proofs.Common.{◌≡◌, ◌++◌, take}
-use Rattle.ocfl_telling.specs.Closing.{back_lines}
-use Rattle.ocfl_telling.proofs.closing.put_all_back_lines.Given as goal
-
-abbrev pub invariant-loop-place : goal.invariant-loop-place
-invariant-loop-place l = l.text.items ≡ l.fn.text.items ++ back_lines (take l.place-index l.back)

@@ -1,6 +1,0 @@
-use Rattle.std.proofs.Common.{◌≡◌, ◌++◌, take}
-use Rattle.ocfl_telling.specs.Closing.{gone_lines}
-use Rattle.ocfl_telling.proofs.closing.put_all_lines.Given as goal
-
-abbrev pub invariant-loop-one : goal.invariant-loop-one
-invariant-loop-one l = l.text.items ≡ l.fn.text.items ++ gone_lines (take l.one-index l.gone)

@@ -1,5 +1,0 @@
-use Rattle.std.proofs.{Common.{◌∙◌, append_assoc}, lemmas.Result.{IfOk-weaker}}
-use Rattle.ocfl_telling.proofs.closing.since.Goals as goal
-
-pub returns : goal.returns
-returns c = IfOk-weaker c.format.result _ _ (λ s h. h ∙ simp (append_assoc, c.in_ok-appeared.ensures, c.in_ok-gone.ensures)) c.format.ensures.ok

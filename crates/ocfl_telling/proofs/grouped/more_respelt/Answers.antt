@@ -1,5 +1,0 @@
-use Rattle.std.proofs.{Common.{◌∙◌, append_assoc}, lemmas.Result.{IfOk-weaker}}
-use Rattle.ocfl_telling.proofs.grouped.more_respelt.Goals as goal
-
-pub returns : goal.returns
-returns c = IfOk-weaker c.format.result _ _ (λ s h. h ∙ simp (append_assoc, c.respelt-respelt.ensures)) c.format.ensures.ok

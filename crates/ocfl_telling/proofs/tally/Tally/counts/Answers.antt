@@ -1,5 +1,0 @@
-use Rattle.ocfl_telling.specs.Tally.{right_in, wrong_in}
-use Rattle.ocfl_telling.proofs.tally.Tally.counts.Goals as goal
-
-pub returns-clause-files : goal.returns-clause-files
-returns-clause-files c = λ ls h. c.add_count.ensures (right_in ls) (wrong_in ls) h.right h.wrong.count

@@ -1,10 +1,10 @@
-pub mod Causes
-pub mod Chains
-pub mod Outputs
-pub mod Passing
-pub mod Memories
-pub mod Rounds
-pub mod Search
-pub mod Speaking
-pub mod UnsaidCycles
-pub mod Outcomes
+mod Causes
+mod Chains
+mod Outputs
+mod Passing
+mod Memories
+mod Rounds
+mod Search
+mod Speaking
+mod UnsaidCycles
+mod Outcomes

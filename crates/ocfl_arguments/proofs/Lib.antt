@@ -1,6 +1,6 @@
-pub mod Commands
-pub mod Digits
-pub mod Ends
-pub mod Numbers
-pub mod Units
-pub mod Stops
+mod Commands
+mod Digits
+mod Ends
+mod Numbers
+mod Units
+mod Stops

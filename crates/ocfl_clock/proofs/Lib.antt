@@ -1,1 +1,1 @@
-pub mod Days
+mod Days

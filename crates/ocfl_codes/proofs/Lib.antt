@@ -1,3 +1,3 @@
 pub mod Weights
-pub mod Rows
+mod Rows
 mod Tables

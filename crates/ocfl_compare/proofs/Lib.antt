@@ -1,8 +1,8 @@
-pub mod Reports
-pub mod Tellings
-pub mod Around
-pub mod Groups
-pub mod SoFar
-pub mod Listings
-pub mod ChangeLaws
-pub mod Lists
+mod Reports
+mod Tellings
+mod Around
+mod Groups
+mod SoFar
+mod Listings
+mod ChangeLaws
+mod Lists

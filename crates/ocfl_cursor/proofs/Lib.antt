@@ -1,16 +1,16 @@
 pub mod Options
 pub mod Texts
 pub mod Seals
-pub mod Numbers
-pub mod Rules
-pub mod Paths
+mod Numbers
+mod Rules
+mod Paths
 pub mod CursorTexts
 pub mod Refusals
 pub mod PartTexts
 pub mod PartRefusals
-pub mod Limited
+mod Limited
 pub mod PartLimited
-pub mod ShownTexts
+mod ShownTexts
 pub mod StoredLines
 pub mod OnLiterals
-pub mod CursorCases
+mod CursorCases

@@ -1,4 +1,4 @@
 pub mod Names
-pub mod HashersLemmas
-pub mod HashingLemmas
-pub mod BoundedLemmas
+mod HashersLemmas
+mod HashingLemmas
+mod BoundedLemmas

@@ -1,8 +1,8 @@
-pub mod Passing
-pub mod ContentSteps
-pub mod Quiets
-pub mod Fronts
-pub mod Reporting
-pub mod Syncing
-pub mod Folders
+mod Passing
+mod ContentSteps
+mod Quiets
+mod Fronts
+mod Reporting
+mod Syncing
+mod Folders
 pub mod Losing

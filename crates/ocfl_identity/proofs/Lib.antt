@@ -1,3 +1,3 @@
 pub mod Askings
-pub mod Ordered
-pub mod Sums
+mod Ordered
+mod Sums

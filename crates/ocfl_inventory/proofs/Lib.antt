@@ -1,23 +1,23 @@
 pub mod SidecarLaws
-pub mod Sidecars
-pub mod Declarations
-pub mod Blocks
-pub mod BlockChains
-pub mod Stops
-pub mod Stopped
+mod Sidecars
+mod Declarations
+mod Blocks
+mod BlockChains
+mod Stops
+mod Stopped
 pub mod Runs
 pub mod Once
-pub mod Beginnings
-pub mod TextOrder
-pub mod PathTexts
-pub mod SeenRuns
-pub mod FoldedTexts
-pub mod Kept
-pub mod TableSearch
-pub mod Gatherings
-pub mod Loops
-pub mod Members
+mod Beginnings
+mod TextOrder
+mod PathTexts
+mod SeenRuns
+mod FoldedTexts
+mod Kept
+mod TableSearch
+mod Gatherings
+mod Loops
+mod Members
 pub mod TripleOrders
-pub mod Inventories
-pub mod SharedFronts
-pub mod Fits
+mod Inventories
+mod SharedFronts
+mod Fits

@@ -2,30 +2,30 @@ pub mod LooksEntries
 pub mod NameLaws
 pub mod LooksZones
 pub mod LooksCalls
-pub mod FileLaws
-pub mod HeadTrails
-pub mod NamedLaws
-pub mod MissingLaws
+mod FileLaws
+mod HeadTrails
+mod NamedLaws
+mod MissingLaws
 pub mod WantedLaws
-pub mod ContentLaws
-pub mod PendingLaws
-pub mod LinesLaws
-pub mod PieceLaws
-pub mod DigitLaws
-pub mod WrongLaws
-pub mod JudgeLaws
-pub mod InventoryLaws
-pub mod HeadLaws
+mod ContentLaws
+mod PendingLaws
+mod LinesLaws
+mod PieceLaws
+mod DigitLaws
+mod WrongLaws
+mod JudgeLaws
+mod InventoryLaws
+mod HeadLaws
 pub mod HeadCalls
 pub mod ItemLaws
-pub mod PathItems
+mod PathItems
 pub mod BaseLaws
 pub mod VisitLaws
-pub mod VisitPlaces
-pub mod VisitInside
-pub mod HeadReads
-pub mod HeadOpens
+mod VisitPlaces
+mod VisitInside
+mod HeadReads
+mod HeadOpens
 pub mod AuditingLaws
 pub mod ShutLaws
-pub mod ShortLaws
-pub mod StopLaws
+mod ShortLaws
+mod StopLaws

@@ -1,5 +1,5 @@
-pub mod Numbers
-pub mod Parts
-pub mod Copies
-pub mod Decoded
-pub mod ClosedLaws
+mod Numbers
+mod Parts
+mod Copies
+mod Decoded
+mod ClosedLaws

@@ -1,21 +1,21 @@
-pub mod Taking
-pub mod Weights
-pub mod Heaps
-pub mod Pieces
-pub mod Gathered
-pub mod Filling
-pub mod Made
-pub mod ShownLines
-pub mod Closings
-pub mod Lists
-pub mod Knowns
-pub mod LogRows
-pub mod Placing
-pub mod Spaces
-pub mod Groups
-pub mod Tallies
-pub mod Sizes
-pub mod Quotes
-pub mod Controls
-pub mod LineCounts
-pub mod ClosingLines
+mod Taking
+mod Weights
+mod Heaps
+mod Pieces
+mod Gathered
+mod Filling
+mod Made
+mod ShownLines
+mod Closings
+mod Lists
+mod Knowns
+mod LogRows
+mod Placing
+mod Spaces
+mod Groups
+mod Tallies
+mod Sizes
+mod Quotes
+mod Controls
+mod LineCounts
+mod ClosingLines

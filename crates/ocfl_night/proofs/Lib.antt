@@ -1,31 +1,31 @@
-pub mod Moments
-pub mod Looks
-pub mod Chains
-pub mod Sound
-pub mod Heard
-pub mod KeptWalks
-pub mod AnyNights
-pub mod TakingUp
-pub mod Foreigners
-pub mod Pieces
-pub mod Extending
-pub mod Clocks
-pub mod Runs
-pub mod Compared
-pub mod Lost
-pub mod Around
-pub mod Branches
-pub mod Stopped
-pub mod Missing
-pub mod Newest
-pub mod Whole
-pub mod Beginnings
-pub mod Flushed
-pub mod Refusals
-pub mod Reasons
-pub mod Lasting
-pub mod RunsRead
-pub mod Reading
-pub mod Halting
-pub mod Asking
-pub mod Again
+mod Moments
+mod Looks
+mod Chains
+mod Sound
+mod Heard
+mod KeptWalks
+mod AnyNights
+mod TakingUp
+mod Foreigners
+mod Pieces
+mod Extending
+mod Clocks
+mod Runs
+mod Compared
+mod Lost
+mod Around
+mod Branches
+mod Stopped
+mod Missing
+mod Newest
+mod Whole
+mod Beginnings
+mod Flushed
+mod Refusals
+mod Reasons
+mod Lasting
+mod RunsRead
+mod Reading
+mod Halting
+mod Asking
+mod Again

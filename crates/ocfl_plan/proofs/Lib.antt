@@ -1,1 +1,1 @@
-pub mod Budgets
+mod Budgets

@@ -6,10 +6,10 @@ pub mod Encoded
 pub mod CodeTexts
 pub mod PlaceTexts
 pub mod ReadPaths
-pub mod Parts
+mod Parts
 pub mod Inputs
-pub mod PathTexts
+mod PathTexts
 pub mod LineTexts
-pub mod Fields
-pub mod Growing
-pub mod FindingLaws
+mod Fields
+mod Growing
+mod FindingLaws

@@ -1,6 +1,6 @@
 pub mod AfterLaws
 pub mod AuditExists
-pub mod AuditLaws
+mod AuditLaws
 pub mod BelowLaws
 pub mod BoundLaws
 pub mod DueLaws
@@ -8,17 +8,17 @@ pub mod Lists
 pub mod MachineLaws
 pub mod NextLaws
 pub mod PathLaws
-pub mod PublicLaws
+mod PublicLaws
 pub mod StackLaws
 pub mod StepLaws
 pub mod Trails
 pub mod UnreadLaws
-pub mod WalkLaws
+mod WalkLaws
 pub mod WayLaws
 pub mod BetweenLaws
 pub mod ObjectLaws
 pub mod MetaLaws
-pub mod LookLaws
+mod LookLaws
 pub mod RunLaws
 pub mod PartLaws
 pub mod ApartLaws

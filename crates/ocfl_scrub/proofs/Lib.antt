@@ -1,41 +1,41 @@
 pub mod Lists
 pub mod AuditsJoined
-pub mod TakeLaws
-pub mod CheckLaws
-pub mod BetweenLaws
+mod TakeLaws
+mod CheckLaws
+mod BetweenLaws
 pub mod PartStarts
-pub mod Passing
+mod Passing
 pub mod PassLaws
-pub mod LoopLaws
-pub mod LookLaws
+mod LoopLaws
+mod LookLaws
 pub mod AuditLaws
-pub mod AuditTurns
+mod AuditTurns
 pub mod OrderLaws
 pub mod CutLaws
 pub mod PartLaws
-pub mod NextLaws
+mod NextLaws
 pub mod RunPlaces
 pub mod RunsJoined
 pub mod CycleEndLaws
-pub mod DirectoryLaws
-pub mod ChainRuns
+mod DirectoryLaws
+mod ChainRuns
 pub mod ChainLaws
 pub mod ChainHeadline
 pub mod ChainParts
-pub mod CycleLoop
-pub mod MeterLaws
+mod CycleLoop
+mod MeterLaws
 pub mod WayOrder
-pub mod AheadLaws
-pub mod WayListed
-pub mod Paying
-pub mod PayLaws
-pub mod AlikeLaws
-pub mod LookedLaws
-pub mod RunTurns
-pub mod KeptLaws
-pub mod KeptTurns
+mod AheadLaws
+mod WayListed
+mod Paying
+mod PayLaws
+mod AlikeLaws
+mod LookedLaws
+mod RunTurns
+mod KeptLaws
+mod KeptTurns
 pub mod RunLaws
-pub mod PerformLaws
-pub mod ScopeLaws
+mod PerformLaws
+mod ScopeLaws
 pub mod CycleRuns
 pub mod KeptRuns

@@ -1,7 +1,7 @@
 pub mod Orders
 pub mod PartsTexts
-pub mod Limited
-pub mod Numbers
-pub mod Cuts
+mod Limited
+mod Numbers
+mod Cuts
 pub mod Reports
 pub mod ItemCuts

@@ -1,13 +1,13 @@
-pub mod Entries
-pub mod Leads
-pub mod Below
-pub mod Ranks
-pub mod Deeper
-pub mod Cuts
-pub mod Descents
-pub mod LevelLaws
-pub mod LevelZones
-pub mod Listed
-pub mod ReportedParts
-pub mod ReportedRuns
+mod Entries
+mod Leads
+mod Below
+mod Ranks
+mod Deeper
+mod Cuts
+mod Descents
+mod LevelLaws
+mod LevelZones
+mod Listed
+mod ReportedParts
+mod ReportedRuns
 mod Cases

@@ -1,14 +1,14 @@
 pub mod Images
-pub mod Histories
-pub mod CheckpointFields
+mod Histories
+mod CheckpointFields
 pub mod CheckpointTexts
-pub mod CheckpointRefusals
-pub mod CheckpointWriting
-pub mod CheckpointShowing
-pub mod PieceLaws
-pub mod Readings
-pub mod SummaryLaws
-pub mod Resuming
-pub mod FoundReports
-pub mod Marks
-pub mod CheckpointCases
+mod CheckpointRefusals
+mod CheckpointWriting
+mod CheckpointShowing
+mod PieceLaws
+mod Readings
+mod SummaryLaws
+mod Resuming
+mod FoundReports
+mod Marks
+mod CheckpointCases

@@ -1,7 +1,7 @@
 pub mod Bools
 pub mod Listings
 pub mod Lists
-pub mod Names
+mod Names
 pub mod Orders
 pub mod PathOrders
 pub mod Paths
@@ -10,4 +10,4 @@ pub mod Places
 pub mod Reading
 pub mod Stores
 pub mod Trees
-pub mod CallLaws
+mod CallLaws

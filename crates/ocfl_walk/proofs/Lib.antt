@@ -1,35 +1,35 @@
 pub mod EndLaws
 pub mod BeforeLaws
 pub mod NextLaws
-pub mod TurnLaws
-pub mod DueTurns
-pub mod StandLaws
-pub mod Backs
-pub mod PlacedLaws
-pub mod OrderlyLaws
-pub mod Chosen
-pub mod EntrySteps
-pub mod SizeLaws
-pub mod PathSteps
-pub mod MeetLaws
-pub mod ListingLaws
-pub mod StartLaws
-pub mod FilterLaws
-pub mod KeepLaws
-pub mod DescentLaws
-pub mod DownLaws
-pub mod HierarchyDown
-pub mod LeadsLaws
+mod TurnLaws
+mod DueTurns
+mod StandLaws
+mod Backs
+mod PlacedLaws
+mod OrderlyLaws
+mod Chosen
+mod EntrySteps
+mod SizeLaws
+mod PathSteps
+mod MeetLaws
+mod ListingLaws
+mod StartLaws
+mod FilterLaws
+mod KeepLaws
+mod DescentLaws
+mod DownLaws
+mod HierarchyDown
+mod LeadsLaws
 pub mod ReachLaws
-pub mod BroughtLaws
-pub mod EnterLaws
+mod BroughtLaws
+mod EnterLaws
 pub mod WalkCallLaws
-pub mod OrderlyTests
-pub mod WalkWords
-pub mod FindLaws
+mod OrderlyTests
+mod WalkWords
+mod FindLaws
 pub mod FoundLaws
-pub mod StandSteps
+mod StandSteps
 pub mod HolderLaws
 pub mod WayDownLaws
-pub mod CutLaws
-pub mod FirstSteps
+mod CutLaws
+mod FirstSteps

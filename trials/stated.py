@@ -17,6 +17,9 @@ Tried, and what comes of it. Each row was seen to fail on scripts that lacked it
   `status`.
 - An object that is gone, and back: the statement has how many files are no longer looked at, and
   that it is back, as the message has it.
+- A damaged file that is repaired, and named with a reason in the file of known findings: the
+  statement has it with the reason. One that cannot be read now is not repaired. `verify` refuses
+  each line on it that is changed, and names the reason as one that the reports do not have.
 - A report that lost the line of a finding: how many objects are without findings is not known.
 - A cycle that lost an object, or lacks an expected one: its PREMIS event is `fail`, and says so.
 - Ends of parts with `%`: they stand as in the file of separators.
@@ -29,6 +32,7 @@ Tried, and what comes of it. Each row was seen to fail on scripts that lacked it
 - Copies of a statement beside it: they are no seals.
 - The statement before, changed: the one after it does not hold.
 """
+import json
 import os
 import re
 import shutil
@@ -177,6 +181,40 @@ def counted(folder):
     check("it is back", (nights.night()[:2], counts(3)), (
         (0, "1 object is back in cycle 3:\nobject\tp\n"), ["0", "1", "0", "1"]))
     check("all hold", [verified(file_of(nights, cycle))[0] for cycle in (1, 2, 3)], [0, 0, 0])
+
+
+def repaired(folder):
+    """What is repaired stands in the statement with its reason, as many as the night said."""
+    nights = Nights(folder + "/state", make_root(folder + "/root"))
+    for name in "abc":
+        write(nights.root + "/o/v1/content/" + name, "x")
+    nights.night()
+    write(nights.root + "/o/v1/content/a", "abc")
+    os.remove(nights.root + "/o/v1/content/b")
+    os.symlink("a", nights.root + "/o/v1/content/b")
+    write(folder + "/known", "# The disk; from tape 7\nE092\to/\n")
+    nights.night("--known", folder + "/known")
+    names = ["Repaired findings", "Repaired finding 1", "Repaired finding 2", "Reason given 1",
+             "Repaired findings not listed"]
+    lines = nights.lines(2)
+    check("what is repaired", [lines.get(name) for name in names],
+          ["1", "E092 o/v1/content/a", None, "The disk; from tape 7", "0"])
+    check("as the night said", nights.rows("closing")[-1]["repaired"], 1)
+    made = json.loads(nights.has("reports/statement-000002.json"))
+    check("as JSON", made.get("repaired_findings_listed"), [
+        {"code": "E092", "place": "o/v1/content/a", "reason": "The disk; from tape 7"}])
+    file = file_of(nights, 2)
+    status, out, _ = verified(file)
+    check("it holds", (status, "Reason given 1" in out.splitlines()[-1]), (0, True))
+    text = read(file)
+    for name, old, new in [("a place", "1: E092 o/v1/content/a", "1: E092 o/v1/content/c"),
+                           ("a number", "Repaired findings: 1", "Repaired findings: 2"),
+                           ("one more", "\nReason", "\nRepaired finding 2: E092 z\nReason")]:
+        write(file, text.replace(old, new))
+        os.rename(file + ".json", folder + "/json")
+        status, out, _ = verified(file)
+        check("forged: " + name, (status, out.startswith("Repaired finding")), (1, True))
+        os.rename(folder + "/json", file + ".json")
 
 
 def lost_lines(folder):
@@ -373,7 +411,7 @@ def copies_are_no_seals(folder):
           (0, False))
 
 
-PARTS = [programs, oldest, cut, left_out, counted, lost_lines, ends_of_parts, declaration,
+PARTS = [programs, oldest, cut, left_out, counted, repaired, lost_lines, ends_of_parts, declaration,
          two_folders, checking, losses, chained, no_list, copies_are_no_seals]
 
 

@@ -103,7 +103,7 @@ def table_of_codes():
 
 # Statements
 
-TEXT = """ocfl-scrub statement 3
+TEXT = """ocfl-scrub statement 4
 
 Storage root: /srv/ocfl%09"\\%C3%BC%25|
 Declaration sums SHA-256: {declaration}
@@ -145,6 +145,8 @@ New findings: 4
 New findings that are known: 0
 Changed findings: 0
 Former findings: 0
+Repaired findings: 0
+Repaired findings not listed: 0
 Findings no longer looked at: 0
 Objects gone: 1
 Objects no longer declared: 0
@@ -222,12 +224,13 @@ def as_json(text):
                "Files found right",
                "Files not found right", "Bytes found right", "Findings", "Compared with cycle",
                "New findings", "New findings that are known", "Changed findings", "Former findings",
+               "Repaired findings", "Repaired findings not listed",
                "Findings no longer looked at", "Objects gone", "Objects no longer declared",
                "Files gone", "Files no longer looked at", "Objects back",
                "Expected objects listed", "Expected objects missing",
                "Objects gone and not back", "Objects no longer declared, and not back",
                "Files gone and not back"}
-    made = {"form": "ocfl-scrub statement 3",
+    made = {"form": "ocfl-scrub statement 4",
             "findings_by_code": {name[9:]: int(value) for name, value in rows
                                  if re.fullmatch("Findings [A-Z0-9]+", name)}}
     for name, value in rows:
@@ -413,7 +416,7 @@ def verifying(folder):
     counted = ["Report lines", "Broken lines", "Report SHA-256", "Objects", "Findings S08",
                "Content files",
                "Objects without findings", "Files found right", "Bytes found right", "Findings",
-               "New findings", "Changed findings", "Former findings",
+               "New findings", "Changed findings", "Former findings", "Repaired findings",
                "Findings no longer looked at", "Objects gone", "Files gone",
                "List of what is gone, SHA-256", "Whole",
                "Expected objects missing", "Findings E007"]
@@ -448,7 +451,8 @@ def repeated_in(text):
              "Files not found right", "Bytes found right", "Findings", "Findings E007",
              "Findings E023", "Findings E072", "Findings S08", "Algorithms of wrong digests",
              "Algorithms not computed", "Report compared with, SHA-256", "New findings",
-             "Changed findings", "Former findings", "Findings no longer looked at", "Objects gone",
+             "Changed findings", "Former findings", "Repaired findings",
+             "Repaired findings not listed", "Findings no longer looked at", "Objects gone",
              "Objects no longer declared", "Files gone", "List of what is gone, SHA-256",
              "Expected objects missing"}
     empty = {"Programs of its runs, SHA-256", "Statement before, SHA-256"}

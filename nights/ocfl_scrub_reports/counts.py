@@ -10,7 +10,7 @@ from typing import IO, Dict, Iterable, Iterator, List, NamedTuple, Sequence, Tup
 from . import files, questions, standing
 from .report import APART, RIGHT, Comparing, Mark, Reading, is_within
 from .state import NOT_KNOWN
-from .weights import Weights
+from .weights import HIDING, Known, Weights
 
 # Codes of lines that are said of content files, besides `ok`.
 OF_FILES = Weights().of_files
@@ -21,9 +21,12 @@ ALGORITHM = re.compile(rb"[A-Za-z0-9/_-]{1,40}")
 MOST_ALGORITHMS = 20
 # The lines of a statement on two reports.
 CHANGES = ("New findings", "Changed findings", "Former findings", "Findings no longer looked at")
+REPAIRED = ("Repaired findings", "Repaired findings not listed")
 COMPARED = "Report compared with, SHA-256"
 ALSO_COMPARED, NEW_AND_KNOWN = "Report also compared with, SHA-256", "New findings that are known"
 CHANGED = "changed since it was closed"
+# So many repaired findings are listed, and so many characters of a reason.
+MOST_REPAIRED, MOST_OF_REASON = 100, 300
 # A code and a place, and the details of their findings.
 Found = Tuple[bytes, List[bytes]]
 
@@ -151,12 +154,13 @@ class Before(NamedTuple):
     left: Sequence[bytes] = ()
 
 
-def of_changes(found: IO[bytes], report: str, earlier: Before | None,
-               whole: Before | None = None) -> dict[str, str]:
+def of_changes(found: IO[bytes], report: str, earlier: Before | None, whole: Before | None = None,
+               left: Sequence[bytes] | None = None, known: Known | None = None) -> dict[str, str]:
     """How the findings of a report differ from those of an earlier one, by code and place. Nothing
     is known if there is none, or if it has not the marks with which it was closed. What that one
-    left out is compared with the last whole report, and is not new if there is none."""
-    unknown = dict.fromkeys([*CHANGES, NEW_AND_KNOWN], NOT_KNOWN)
+    left out is compared with the last whole report, and is not new if there is none. `left` has
+    the places that this report left out; without it nobody knows what is repaired."""
+    unknown = dict.fromkeys([*CHANGES, *REPAIRED, NEW_AND_KNOWN], NOT_KNOWN)
     if earlier is None:
         return {COMPARED: "no report", **unknown}
     digests, new, again = Digests(earlier.marks), 0, files.spool()
@@ -169,10 +173,10 @@ def of_changes(found: IO[bytes], report: str, earlier: Before | None,
         else:
             new += not is_known
     also = of_whole(again, whole)
-    count = also.pop("New findings", None)
+    more = also.pop("New findings", None)
     return {COMPARED: digests.text(), **also, NEW_AND_KNOWN: NOT_KNOWN,
-            "New findings": NOT_KNOWN if count == NOT_KNOWN else str(new + int(count or 0)),
-            **of_former(found, report, before)}
+            "New findings": NOT_KNOWN if more == NOT_KNOWN else str(new + int(more or 0)),
+            **of_former(found, report, before, left, known or Known(None))}
 
 
 def of_whole(again: IO[bytes], whole: Before | None) -> dict[str, str]:
@@ -188,12 +192,58 @@ def of_whole(again: IO[bytes], whole: Before | None) -> dict[str, str]:
             "New findings": str(sum(not is_known for _, is_known, _ in beside(again, before)))}
 
 
-def of_former(found: IO[bytes], report: str, before: IO[bytes]) -> dict[str, str]:
+def of_former(found: IO[bytes], report: str, before: IO[bytes], left: Sequence[bytes] | None,
+              known: Known) -> dict[str, str]:
     """What became of the findings of before."""
     lacking, count, changed = lacking_in(before, found)
-    away = sum(1 for _ in standing.left_over(questions.lines_of(lacking), [[report]]))
+    away, repaired = 0, files.spool()
+    for there, gone in beside_places(lacking, report):
+        away += gone
+        questions.write_lines(repaired, looked_at(there, found, left or ()))
     return {"Changed findings": str(changed), "Former findings": str(count - away),
-            "Findings no longer looked at": str(away)}
+            "Findings no longer looked at": str(away),
+            **(dict.fromkeys(REPAIRED, NOT_KNOWN) if left is None
+               else of_repaired(repaired, before, known))}
+
+
+def beside_places(lacking: IO[bytes], report: str) -> Iterator[tuple[list[bytes], int]]:
+    """Those of these codes and places whose place has a line in the report, many at a time, and
+    how many others there are."""
+    rest = questions.lines_of(lacking)
+    while held := list(islice(rest, questions.HELD)):
+        away = set(standing.left_over(held, [[report]]))
+        yield [it for it in held if it not in away], len(away)
+
+
+def looked_at(there: list[bytes], found: IO[bytes], left: Sequence[bytes]) -> list[bytes]:
+    """Those of these codes and places whose place was looked at: it was not left out, and no line
+    there may hide a finding."""
+    places = {it.split(b"\t")[1] for it in there}
+    hidden = {path for code, path, _ in (line.split(b"\t") for line in (
+        questions.lines_of(found) if places else ())) if code in HIDING and path in places}
+    return [it for it in there if it.split(b"\t")[1] not in hidden
+            and not is_within_any(it.split(b"\t")[1], left)]
+
+
+def of_repaired(repaired: IO[bytes], before: IO[bytes], known: Known) -> dict[str, str]:
+    """How many codes and places these are, and the most serious of them, each with the reason that
+    the file of known findings has for it."""
+    count = sum(1 for _ in questions.lines_of(repaired))
+    # Without a name the spool is closed before it is read.
+    weighed = questions.by_weight(repaired, Weights())
+    keys = dict.fromkeys(islice(questions.lines_of(weighed), MOST_REPAIRED))
+    facts = dict(zip(REPAIRED, (str(count), str(count - len(keys)))))
+    details = {key: found for key, found in found_in(before) if key in keys} if keys else {}
+    for at, key in enumerate(keys, 1):
+        facts["Repaired finding %d" % at] = files.text_of(key.replace(b"\t", b" "))
+        reason = files.text_of(known.reason(key + b"\t" + it for it in details[key]))
+        if reason:
+            facts["Reason given %d" % at] = shortened(reason)
+    return facts
+
+
+def shortened(reason: str) -> str:
+    return reason if len(reason) <= MOST_OF_REASON else reason[:MOST_OF_REASON] + ".."
 
 
 def lacking_in(before: IO[bytes], found: IO[bytes]) -> tuple[IO[bytes], int, int]:
@@ -212,10 +262,8 @@ def former(found: IO[bytes], report: str, before: IO[bytes]) -> Iterator[bytes]:
     """The codes and places of before that are not found there now, though the place has a line."""
     # Without a name the spool is closed before it is read.
     lacking, _, _ = lacking_in(before, found)
-    rest = questions.lines_of(lacking)
-    while held := list(islice(rest, questions.HELD)):
-        away = set(standing.left_over(held, [[report]]))
-        yield from (it for it in held if it not in away)
+    for there, _ in beside_places(lacking, report):
+        yield from there
 
 
 def is_within_any(path: bytes, places: Iterable[bytes]) -> bool:

@@ -14,7 +14,7 @@ from .objects import id_of, in_one_form, is_root
 from .report import Line, Reading, is_within, lines_at
 from .shared import Failed, many, many_are, many_were, refuse_links
 from .state import NOT_KNOWN, State, cycle_name
-from .statement import FORM, Statement, cycle_of, plain
+from .statement import Statement, cycle_of, kind_of, plain
 from .verify import GUESSED, LIST_OF_GONE, Check
 from .units import size
 from .weights import Weights
@@ -101,7 +101,7 @@ class Page:
         self.root = state.bound_to("root")
         self.check = Check(state.find("statement", cycle) or "", self.report)
         # What statements of earlier forms say of losses was guessed.
-        self.is_guessed = self.check.form != FORM
+        self.is_guessed = self.check.guesses
         self.gone = self.gone_now()
         undeclared = {it.partition(b"\t")[2] for it in self.gone or ()
                       if it.startswith(b"undeclared\t")}
@@ -350,7 +350,9 @@ class Page:
     def about_repaired(self) -> str:
         """What is back and what is repaired."""
         back, objects = self.back(), self.number("Objects back")
-        count = cycle_of(self.state, self.cycle).closing.repaired if self.earlier else None
+        count = self.number("Repaired findings")
+        if count is None and self.earlier:
+            count = cycle_of(self.state, self.cycle).closing.repaired
         return section(
             "What is back or repaired",
             paragraph(many_are(objects, "object") + " back.") if objects else "",
@@ -373,11 +375,23 @@ class Page:
             now.setdefault(line.path, []).append(
                 "right" if not line.is_finding() else self.words.meaning(line.code, line.detail))
         left = (self.number("Former findings") or 0) - len(rows)
-        return (table("Findings of the report before that are not there any more", (
-            "place", "what it was", "code", "now"), [
-                (place(path), self.words.meaning(code, None), code.decode(),
-                 ", ".join(dict.fromkeys(now.get(path, [])))) for code, path in rows])
+        reasons = self.reasons_given()
+        head = ("place", "what it was", "code", "now", *("reason given" for _ in reasons and [1]))
+        return (table("Findings of the report before that are not there any more", head, [
+            (place(path), self.words.meaning(code, None), code.decode(),
+             ", ".join(dict.fromkeys(now.get(path, []))), *(
+                 [reasons.get((code, path), "")] if reasons else [])) for code, path in rows])
                 if rows else "") + (paragraph("and {:,} more".format(left)) if left > 0 else "")
+
+    def reasons_given(self) -> dict[tuple[bytes, bytes], Markup]:
+        """The reasons that the statement has, by the codes and places of its repaired findings."""
+        reasons: dict[tuple[bytes, bytes], Markup] = {}
+        for name in self.said:
+            reason = name.replace("Repaired finding ", "Reason given ")
+            if kind_of(name) == "Repaired finding *" and reason in self.said:
+                code, _, path = files.bytes_of(self.said[name]).partition(b" ")
+                reasons[code, path] = of_statement(self.said, reason)
+        return reasons
 
     # What was not looked at
 

@@ -17,16 +17,22 @@ from .shared import Failed, find_program, put, refuse_links
 from .state import NOT_KNOWN, State, cycle_name, find
 from .weights import Known
 
-FORM = "ocfl-scrub statement 3"
+FORM = "ocfl-scrub statement 4"
+# What statements of these forms say of losses was said without knowing whether anything was
+# compared.
+GUESSING = ("ocfl-scrub statement 1", "ocfl-scrub statement 2")
 # The lines that each form added to the one before it.
 ADDED = {"ocfl-scrub statement 1": set(),
          "ocfl-scrub statement 2": {"Nights cut", "Places left out", "Place left out *"},
-         FORM: {"Why left out *", "Not compared", "Changed findings",
-                "Findings no longer looked at", "Objects no longer declared",
-                "Files no longer looked at", "Objects back", "Expected objects listed",
-                "List of expected objects, SHA-256", "Objects no longer declared, and not back",
-                "Files read", "Bytes read", "Also compared with cycle",
-                "Report also compared with, SHA-256", "New findings that are known"}}
+         "ocfl-scrub statement 3": {
+             "Why left out *", "Not compared", "Changed findings", "Findings no longer looked at",
+             "Objects no longer declared", "Files no longer looked at", "Objects back",
+             "Expected objects listed", "List of expected objects, SHA-256",
+             "Objects no longer declared, and not back", "Files read", "Bytes read",
+             "Also compared with cycle", "Report also compared with, SHA-256",
+             "New findings that are known"},
+         FORM: {"Repaired findings", "Repaired finding *", "Reason given *",
+                "Repaired findings not listed"}}
 # The lines in their order. `*` stands for each code, and for the number of a place.
 NAMES = [
     "Storage root", "Declaration sums SHA-256", "State folder", "Part from", "Part below", "Host",
@@ -38,7 +44,8 @@ NAMES = [
     "Algorithms not computed", "Compared with cycle", "Not compared",
     "Report compared with, SHA-256", "Also compared with cycle",
     "Report also compared with, SHA-256", "New findings", "New findings that are known",
-    "Changed findings", "Former findings",
+    "Changed findings", "Former findings", "Repaired findings", "Repaired finding *",
+    "Reason given *", "Repaired findings not listed",
     "Findings no longer looked at", "Objects gone", "Objects no longer declared", "Files gone",
     "Files no longer looked at", "Objects back", "List of what is gone, SHA-256",
     "Expected objects listed", "Expected objects missing", "List of expected objects, SHA-256",
@@ -51,22 +58,24 @@ NAMES = [
 OPTIONAL = {"Part from", "Part below", "Not compared", "Also compared with cycle",
             "Report also compared with, SHA-256", "Files no longer looked at", "Objects back",
             "Known losses", "List of known losses, SHA-256"}
-NUMBERS = {"Cycle", "Nights", "Nights cut", "Runs", "Files read", "Bytes read", "Places left out", "Report lines",
-           "Broken lines", "Objects", "Objects without findings", "Content files",
+NUMBERS = {"Cycle", "Nights", "Nights cut", "Runs", "Files read", "Bytes read", "Places left out",
+           "Report lines", "Broken lines", "Objects", "Objects without findings", "Content files",
            "Files found right", "Files not found right", "Bytes found right", "Findings",
            "Compared with cycle", "Also compared with cycle", "New findings",
            "New findings that are known", "Changed findings", "Former findings",
-           "Findings no longer looked at", "Objects gone", "Objects no longer declared",
-           "Files gone", "Files no longer looked at", "Objects back", "Expected objects listed",
-           "Expected objects missing", "Objects gone and not back",
-           "Objects no longer declared, and not back", "Files gone and not back", "Known losses"}
+           "Repaired findings", "Repaired findings not listed", "Findings no longer looked at",
+           "Objects gone", "Objects no longer declared", "Files gone", "Files no longer looked at",
+           "Objects back", "Expected objects listed", "Expected objects missing",
+           "Objects gone and not back", "Objects no longer declared, and not back",
+           "Files gone and not back", "Known losses"}
 # Lines whose values are places, which are written as in reports.
-PLACES = re.compile("Part (from|below)|(Place|Why) left out .*")
+PLACES = re.compile("Part (from|below)|(Place|Why) left out .*|Repaired finding .*")
 NOT_LOOKED_AT = ("versions, states and ids of inventories; inventories of versions; logs and "
                  "extensions; files of objects whose inventory cannot be used")
 NOT_SAID = ("whether bytes came from the medium or from a cache; whether the clock was right; what "
             "became of a file after it was read")
-MANY = re.compile("(Findings|Place left out|Why left out) [A-Za-z0-9]+")
+MANY = re.compile("(Findings|Place left out|Why left out|Repaired finding|Reason given) "
+                  "[A-Za-z0-9]+")
 # What a list of what is gone has, and the lines that count it.
 KINDS = {"Objects gone": b"object", "Objects no longer declared": b"undeclared",
          "Files gone": b"file"}
@@ -132,12 +141,14 @@ class Statement(dict[str, str]):
 
 def as_json(text: str) -> str:
     """A statement's text as JSON: counts as numbers, `Whole` as true or false, the findings by
-    their codes as an object of its own, the places as a list, and all else as texts."""
+    their codes as an object of its own, places and repaired findings as lists, and all else as
+    texts."""
     form, *rows = text.split("\n")
     made: dict[str, object] = {"form": form}
     codes: dict[str, int] = {}
     places: list[str] = []
     reasons: list[str] = []
+    repaired: dict[str, dict[str, str]] = {}
     for row in filter(None, rows):
         name, _, value = row.partition(": ")
         is_number = value.isdecimal() and (value == "0" or value[0] != "0")
@@ -150,12 +161,20 @@ def as_json(text: str) -> str:
         elif kind == "Why left out *":
             made["reasons_of_places_left_out"] = reasons
             reasons.append(value)
+        elif kind == "Repaired finding *":
+            made["repaired_findings_listed"] = []
+            code, _, place = value.partition(" ")
+            repaired.setdefault(name.rpartition(" ")[2], {}).update(code=code, place=place)
+        elif kind == "Reason given *":
+            repaired.setdefault(name.rpartition(" ")[2], {})["reason"] = value
         elif name == "Whole":
             made[key] = value == "yes"
         else:
             made[key] = int(value) if name in NUMBERS and is_number else value
         if name == "Findings":
             made["findings_by_code"] = codes
+    if repaired:
+        made["repaired_findings_listed"] = list(repaired.values())
     return json.dumps(made, indent=2) + "\n"
 
 
@@ -340,7 +359,7 @@ def of_known(lines: bytes) -> dict[str, str]:
             "List of known losses, SHA-256": hashlib.sha256(lines).hexdigest()} if lines else {}
 
 
-def facts_of(state: State, cycle: Cycle) -> Statement:
+def facts_of(state: State, cycle: Cycle, known: Known) -> Statement:
     """What the statement of a cycle says, but for losses that are not back."""
     number = cycle.number
     made = Statement(of_log(cycle), Cycle=str(number))
@@ -354,7 +373,7 @@ def facts_of(state: State, cycle: Cycle) -> Statement:
                          % (report, number))
         made["Lost lines"] = NOT_KNOWN
     made.update(count.facts())
-    made.update(changes_of(state, cycle, count, report))
+    made.update(changes_of(state, cycle, count, report, known))
     made.update(of_gone(cycle, gone))
     made["List of what is gone, SHA-256"] = files.digest_of(gone) if gone else "no list"
     made.update(of_program())
@@ -364,12 +383,14 @@ def facts_of(state: State, cycle: Cycle) -> Statement:
     return made
 
 
-def changes_of(state: State, cycle: Cycle, count: Count, report: str) -> dict[str, str]:
+def changes_of(state: State, cycle: Cycle, count: Count, report: str,
+               known: Known) -> dict[str, str]:
     """How the findings differ from those of the report that it was compared with. How many are new,
     and how many of these are known, the log says."""
     closing, compared = cycle.closing, cycle.closing.compared or ()
     made = of_changes(count.found, report, before_of(state, compared[0])
-                      if len(compared) == 1 else None, before_of(state, closing.compared_whole))
+                      if len(compared) == 1 else None, before_of(state, closing.compared_whole),
+                      count.left if count.is_complete else None, known)
     if closing.compared_whole:
         made["Also compared with cycle"] = str(closing.compared_whole)
     if compared and closing.new is not None:
@@ -411,8 +432,9 @@ def write(state: State, number: int, seal: str | None, known: str | None) -> Non
         if state.is_compared_later(number):
             raise Failed("what is gone since the cycle before is not known yet%s; the next night "
                          "compares them" % (cycle.closing.why and ": " + cycle.closing.why))
-        losses, known_ones = losses_of(state, cycle, Known(known))
-        text = Statement(facts_of(state, cycle), **losses).text()
+        named = Known(known)
+        losses, known_ones = losses_of(state, cycle, named)
+        text = Statement(facts_of(state, cycle, named), **losses).text()
         put_list(known_ones, listed)
         put(as_json(text).encode(), path + ".json")
         put(text.encode(), path)

@@ -4,14 +4,14 @@ from __future__ import annotations
 import os
 
 from . import files
-from .counts import (ALSO_COMPARED, CHANGED, CHANGES, COMPARED, NEW_AND_KNOWN, Before, Count,
-                     of_changes, of_lines)
+from .counts import (ALSO_COMPARED, CHANGED, CHANGES, COMPARED, NEW_AND_KNOWN, REPAIRED, Before,
+                     Count, of_changes, of_lines)
 from .log import kinds_in
 from .shared import Failed, refuse_links
 from .standing import kinds_gone
 from .state import NOT_KNOWN, cycle_name, find
-from .statement import (ADDED, FORM, KINDS, NAMES, NOT_BACK, OPTIONAL, Statement, as_json, kind_of,
-                        at_least, of_known, plain)
+from .statement import (ADDED, GUESSING, KINDS, NAMES, NOT_BACK, OPTIONAL, Statement, as_json,
+                        kind_of, at_least, of_known, plain)
 
 GONE = {**KINDS, "Expected objects missing": b"expected"}
 # What statements of the forms before said of losses without knowing whether anything was compared.
@@ -33,6 +33,7 @@ class Check:
         self.form, *self.rows = [files.text_of(row) for row in files.lines(path)]
         if self.form not in ADDED:
             raise Failed(path + " is not a statement")
+        self.guesses = self.form in GUESSING
         forms = list(ADDED)
         later = set().union(*(ADDED[it] for it in forms[forms.index(self.form) + 1:]))
         self.names = [it for it in NAMES if it not in later]
@@ -75,15 +76,16 @@ class Check:
             return
         cycle = int(compared)
         kind = "incomplete" if find(self.folder, "incomplete", cycle) else "cycle"
-        earlier = self.beside(kind, cycle, COMPARED, *CHANGES)
+        earlier = self.beside(kind, cycle, COMPARED, *CHANGES, *REPAIRED,
+                              "Repaired finding *")
         if earlier is None:
             return
-        if self.form != FORM:
+        if self.guesses:
             self.facts.update(of_lines(count.found, earlier))
             return
         left = self.left_before(cycle) if kind == "incomplete" else []
         found = of_changes(count.found, self.report, Before(earlier, None, left or ()),
-                           self.whole_before())
+                           self.whole_before(), count.left)
         if left is None:
             self.lacking["New findings"] = cycle_name("statement", cycle)
         if "New findings" in self.lacking or found["New findings"] == NOT_KNOWN:
@@ -91,7 +93,8 @@ class Check:
         else:
             found["New findings"] = self.without_known(int(found["New findings"]))
         del found[NEW_AND_KNOWN]
-        self.facts.update(found)
+        self.facts.update((name, value) for name, value in found.items()
+                          if kind_of(name) in self.names)
 
     def without_known(self, new: int) -> str:
         """How many findings are new, without those that the statement calls known."""
@@ -130,10 +133,10 @@ class Check:
         if LIST_OF_GONE in self.lacking:
             return
         self.facts[LIST_OF_GONE] = files.digest_of(path) if path else "no list"
-        count = kinds_gone(path) if self.form == FORM else kinds_in(path)
+        count = kinds_in(path) if self.guesses else kinds_gone(path)
         for name, kind in GONE.items():
             said = self.said.get(name, "")
-            if name not in self.names or self.form != FORM and said == NOT_KNOWN:
+            if name not in self.names or self.guesses and said == NOT_KNOWN:
                 continue
             if count[kind] or said[:1].isdecimal() and (path or said.strip("0")):
                 self.facts[name] = at_least(count[kind], not said.startswith("at least"))
@@ -165,17 +168,28 @@ class Check:
         if kind_of(name) == "Findings *":
             # What is counted has a fact: no line of the report has this code.
             self.facts.setdefault(name, "0")
+        if kind_of(name) == "Repaired finding *" and "Repaired findings" in self.facts:
+            self.facts.setdefault(name, "none")
+        if kind_of(name) == "Reason given *":
+            self.compare_reason(name)
         if self.facts.get(name, value) != value:
             self.differences.append("%s: the statement says %s, and it is %s"
                                     % (name, plain("", value), self.facts[name]))
-        if name in self.lacking:
-            self.unchecked.setdefault(self.lacking[name], []).append(name)
-        elif self.form != FORM and name in GUESSED and value[:1].isdecimal():
+        lacking = self.lacking.get(name) or self.lacking.get(kind_of(name))
+        if lacking:
+            self.unchecked.setdefault(lacking, []).append(name)
+        elif self.guesses and name in GUESSED and value[:1].isdecimal():
             self.guessed.append(name)
         elif name not in self.facts and not self.has_json:
             self.unchecked.setdefault(os.path.basename(self.json), []).append(name)
         elif name not in self.facts and value not in EMPTY:
             self.repeated.append(name)
+
+    def compare_reason(self, name: str) -> None:
+        """A reason is one of a listed finding. The report has none: it is of the file of known
+        findings that was given."""
+        if name.replace("Reason given", "Repaired finding") not in self.said:
+            self.differences.append(name + ": no repaired finding has this number")
 
 
 def show(path: str, report: str | None) -> int:

@@ -2,11 +2,17 @@
 from __future__ import annotations
 
 import os
+from typing import Iterable
 
 from . import files
 
 # The codes of files that have another digest or are missing, which their detail says.
 CAN_BE_MISSING = (b"E092", b"E093")
+# Behind a line of these codes other findings of its place may be there and not be looked for, as
+# `is_hiding` of crates/ocfl_codes/specs/Kinds.antt says.
+HIDING = frozenset(
+    b"E001 E003 E015 E017 E018 E023 E024 E025 E033 E036 E041 E063 E069 E072 E073 E076 S01 S02 S03 "
+    b"S04 S05 S08".split())
 TABLE = os.path.join(os.path.dirname(os.path.abspath(__file__)), "codes")
 
 
@@ -53,23 +59,45 @@ class Weights:
 class Known:
     """What a file of known findings names. Each of its lines is a line of a report; or a code and a
     path, for every detail; or a code and a path with `/` after it, for all at and below that place,
-    where `./` is the whole storage root."""
+    where `./` is the whole storage root. The remarks right above lines are the reason of these."""
 
     def __init__(self, path: str | None) -> None:
-        self.names = set(files.lines(path)) if path else set()
+        # What is named, with its reason, which is empty if there is none.
+        self.reasons: dict[bytes, bytes] = {}
+        remarks: list[bytes] = []
+        is_above = False
+        for line in files.lines(path) if path else ():
+            if line.startswith(b"#"):
+                remarks = [*(remarks if is_above else ()), line.lstrip(b"#").strip()]
+            elif line:
+                self.reasons[line] = b" ".join(filter(None, remarks))
+            else:
+                remarks = []
+            is_above = line.startswith(b"#")
+
+    def entry_of(self, line: bytes) -> bytes | None:
+        """What names this line: of several that do the one that names the fewest."""
+        code, path, *_ = line.split(b"\t")
+        for name in (line, code + b"\t" + path):
+            if name in self.reasons:
+                return name
+        end = len(path)
+        while end >= 0:
+            name = code + b"\t" + path[:end] + b"/"
+            if name in self.reasons:
+                return name
+            end = path.rfind(b"/", 0, end)
+        name = code + b"\t./"
+        return name if name in self.reasons else None
 
     def has(self, line: bytes) -> bool:
-        if not self.names:
-            return False
-        code, path, *_ = line.split(b"\t")
-        if {line, code + b"\t" + path, code + b"\t./"} & self.names:
-            return True
-        while b"/" in path:
-            path = path[:path.rindex(b"/")]
-            if code + b"\t" + path + b"/" in self.names:
-                return True
-        return False
+        return bool(self.reasons) and self.entry_of(line) is not None
+
+    def reason(self, lines: Iterable[bytes]) -> bytes:
+        """The reason of the first of these lines that has one; empty if none has."""
+        names = filter(None, map(self.entry_of, lines if self.reasons else ()))
+        return next(filter(None, map(self.reasons.__getitem__, names)), b"")
 
     def without(self, lines: list[bytes]) -> list[bytes]:
         """Those of these lines that are not known."""
-        return [line for line in lines if not self.has(line)] if self.names else lines
+        return [line for line in lines if not self.has(line)] if self.reasons else lines

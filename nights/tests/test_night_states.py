@@ -683,7 +683,8 @@ class Moved(Asked):
         self.assertEqual(self.ask("verify", file)[0], 0)
         for name, lines in [
                 ("cycle-000001", "Report compared with, SHA-256; New findings; Changed findings; "
-                                 "Former findings; Findings no longer looked at"),
+                                 "Former findings; Repaired findings; Repaired finding 1; "
+                                 "Repaired findings not listed; Findings no longer looked at"),
                 ("statement-000001", "Statement before, SHA-256")]:
             os.rename(os.path.join(made.path, "reports", name), away)
             given, out, _ = self.ask("verify", file)
@@ -822,26 +823,32 @@ class Joined(Asked):
             self.assertIn("\n%s\n" % row, text)
 
     def test_statements_of_the_forms_before(self):
-        """They lack lines of this form. What they say of losses was not known, and the rest of them
-        holds by its own meaning: findings are compared by whole lines."""
+        """They lack lines of this form. What the first two say of losses was not known, and the rest
+        of them holds by its own meaning: findings are compared by whole lines."""
         for day in (1, 2):
             self.nights(day, day)
             self.closed(day, day, GONE if day == 2 else b"")
         text = self.check_statement(2)
         name = "(%s)( [0-9]+)?: .*\n"
         forms = list(statement.ADDED)
-        for at_, lacking in ((1, [2]), (0, [1, 2])):
+        for at_, lacking in ((2, [3]), (1, [2, 3]), (0, [1, 2, 3])):
             added = "|".join(re.escape(it).replace("\\ \\*", "") for form in lacking
                              for it in sorted(statement.ADDED[forms[form]]))
-            old = re.sub("(?m)^" + name % added, "", text).replace(forms[2], forms[at_])
+            old = re.sub("(?m)^" + name % added, "", text).replace(forms[3], forms[at_])
             given, out = self.verify_text(old)
+            if at_ == 2:
+                self.assertEqual((given, "not known when" in out), (0, False), out)
+                self.assertEqual(self.verify_text(old.replace("Former findings: 1", "Former "
+                                                              "findings: 2"))[0], 1)
+                continue
             self.assertEqual((given, out.splitlines()[-1]), (
                 4, "not known when statements of this form were made: Compared with cycle; Objects "
                 "gone; Files gone; Objects gone and not back; Files gone and not back"), out)
             self.assertEqual(self.verify_text(old.replace("New findings: 1", "New findings: 2"))[0],
                              1)
-        given, out = self.verify_text(text.replace(forms[2], forms[1]))
-        self.assertEqual((given, "no statement has the line: Changed findings" in out), (1, True))
+        for at_, line in ((2, "Repaired findings"), (1, "Changed findings")):
+            given, out = self.verify_text(text.replace(forms[3], forms[at_]))
+            self.assertEqual((given, "no statement has the line: " + line in out), (1, True))
         # What parts that were compared with different cycles found gone was not counted.
         old = re.sub("gone: 1", "gone: not known", old)
         self.assertEqual(self.verify_text(old)[0], 4)

@@ -147,7 +147,7 @@ class Questions(Folder):
                  b"E072\tcd\t-", b"object\td", b"object\td/e", b"E001\te\t-",
                  b"E024\tf/g\t-"]
         self.assertEqual([known.has(line) for line in lines],
-                         [True, False, True, False, True, False, True, False, False, True])
+                         [True, False, True, True, True, False, True, False, False, True])
 
     def test_a_note_is_no_finding(self):
         path = self.put(b"S07\to\tx\nS08\to/a\t-\n")

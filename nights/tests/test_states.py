@@ -83,10 +83,10 @@ class Text(unittest.TestCase):
         made = statement.Statement({"Cycle": "2", "Whole": "no", "Findings": "3", "Host": "7",
                                     "Findings S08": "1", "Findings E092": "2", "Part from": "a%01",
                                     "Storage root": "/a%\t"})
-        self.assertEqual(made.text(), "ocfl-scrub statement 3\n\nStorage root: /a%25%09\n"
+        self.assertEqual(made.text(), "ocfl-scrub statement 4\n\nStorage root: /a%25%09\n"
                          "Part from: a%01\nHost: 7\nCycle: 2\nWhole: no\nFindings: 3\n"
                          "Findings E092: 2\nFindings S08: 1\n")
         self.assertEqual(json.loads(statement.as_json(made.text())), {
-            "form": "ocfl-scrub statement 3", "storage_root": "/a%25%09", "part_from": "a%01",
+            "form": "ocfl-scrub statement 4", "storage_root": "/a%25%09", "part_from": "a%01",
             "host": "7", "cycle": 2, "whole": False, "findings": 3,
             "findings_by_code": {"E092": 2, "S08": 1}})

@@ -504,7 +504,7 @@ class Counted(Told):
         self.cycle(2, TWO, GONE, unlooked=3, back=1)
         self.said(2)
         with open(self.path_of(2)) as file:
-            text = file.read().replace("statement 3", "statement 2", 1)
+            text = file.read().replace("statement 4", "statement 2", 1)
         self.made.put("reports/statement-000002", text.encode())
         given, out, _ = self.ask("verify", self.path_of(2))
         self.assertEqual((given, "no statement has the line: Objects back: 1" in out), (1, True))

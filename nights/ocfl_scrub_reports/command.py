@@ -207,6 +207,8 @@ def do_repair(given: Given) -> int:
 def do_expected(given: Given) -> int:
     from . import expected
     named(given.ids)
+    if given.ids is None:
+        return expected.show_reported(state_of(given))
     return expected.show(state_of(given), given.ids)
 
 
@@ -340,11 +342,11 @@ COMMANDS: list[tuple[str, Does, str, str, Iterable[Callable[[Parser], object]], 
      "found."),
     ("expected", do_expected, "writes the list that `ocfl-scrub night --expected` takes",
      "--ids ids ~/audit > expected",
-     [argument("--ids", metavar="FILE", required=True, help="the OCFL ids, one on each line"),
-      STATE],
-     "It has the paths of the objects in whose inventories these ids are. Each inventory of the "
-     "storage root is read. An id that no object has, or several have, and an object whose id "
-     "cannot be read, are named on standard error, with status 1."),
+     [argument("--ids", metavar="FILE", help="the OCFL ids, one on each line"), STATE],
+     "It has the paths of the objects of the last whole report, or with --ids of those in whose "
+     "inventories these ids are. Then each inventory of the storage root is read. An id that no "
+     "object has, or several have, and an object whose id cannot be read, are named on standard "
+     "error, with status 1. So is a report if none is whole."),
     ("missing", do_missing, "shows which objects of a list have no line in a report",
      "expected ~/audit-parts/reports/cycle-000001",
      [argument("list", metavar="LIST", help="as `ocfl-scrub night --expected` takes it"),

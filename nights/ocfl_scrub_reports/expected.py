@@ -1,5 +1,5 @@
-"""The list that `--expected` takes: made of OCFL ids by the inventories of a storage root, and
-compared with a report."""
+"""The list that `--expected` takes: made of OCFL ids by the inventories of a storage root or of a
+report, and compared with a report."""
 from __future__ import annotations
 
 import os
@@ -8,7 +8,7 @@ import sys
 from typing import Iterator
 from urllib.parse import unquote_to_bytes
 
-from . import files, standing
+from . import files, report, standing
 from .objects import id_of, is_root, open_folder
 from .shared import Failed, many
 from .state import State
@@ -90,16 +90,38 @@ def show(state: State, path: str) -> int:
             files.print_error("no id can be read: " + place.decode())
         elif found in wanted:
             wanted[found].append(place)
-            if place.startswith(REMARK):
-                odd_ones += 1
-                files.print_error("a line that begins with # lists nothing: " + place.decode())
-            sys.stdout.write(place.decode() + "\n")
+            odd_ones += write_place(place)
     odd = [it for it, places in wanted.items() if len(places) != 1]
     for name in odd:
         files.print_error("%s this id: %s" % (
             many(len(wanted[name]), "object") + " have" if wanted[name] else "no object has",
             shown(name)))
     return int(bool(odd or odd_ones))
+
+
+def write_place(place: bytes) -> int:
+    """Writes a place as a line of a list. Gives 1 if that lists nothing."""
+    sys.stdout.write(place.decode() + "\n")
+    if not place.startswith(REMARK):
+        return 0
+    files.print_error("a line that begins with # lists nothing: " + place.decode())
+    return 1
+
+
+def show_reported(state: State) -> int:
+    """Writes the places of the objects that the last whole report has, one a line; if none is
+    whole, those of the last one, which says so. Gives 1 if the list lacks objects, and else 0."""
+    closed = state.closed()
+    if not closed:
+        raise Failed("no cycle of %s is closed" % state.path)
+    last = ([it for it in closed if it.is_whole] or closed)[-1]
+    odd_ones, before = int(not last.is_whole), b""
+    for place in (it for places in report.objects(last.path) for it in places):
+        odd_ones += write_place(place) if place != before else 0
+        before = place
+    if not last.is_whole:
+        files.print_error("%s is not whole: the list lacks objects that were left out" % last.path)
+    return int(odd_ones > 0)
 
 
 def listed_in(path: str) -> Iterator[bytes]:
@@ -110,15 +132,15 @@ def listed_in(path: str) -> Iterator[bytes]:
             yield place
 
 
-def show_missing(path: str, report: str) -> int:
+def show_missing(path: str, closed: str) -> int:
     """Writes the objects of a list that have no line of an object in a report, as a list of what is
     gone has them. Gives 1 if there is one."""
-    if os.path.basename(report).startswith("incomplete-"):
-        raise Failed(report + " is not whole: what it lacks may have been left out")
+    if os.path.basename(closed).startswith("incomplete-"):
+        raise Failed(closed + " is not whole: what it lacks may have been left out")
     if next(listed_in(path), None) is None:
         raise Failed(path + " lists no object", 2)
     count = 0
-    for line in standing.left_over((EXPECTED + it for it in listed_in(path)), [[report]]):
+    for line in standing.left_over((EXPECTED + it for it in listed_in(path)), [[closed]]):
         count += 1
         sys.stdout.write(line.decode() + "\n")
     return int(count > 0)

@@ -57,6 +57,24 @@ class Expected(Asked):
         self.assertEqual(self.list("a\n"), (
             1, "#a\n", "a line that begins with # lists nothing: #a\n"))
 
+    def test_objects_of_a_report(self):
+        """Those of the last whole one, each once, also where no storage root is there now."""
+        shutil.rmtree(self.root)
+        self.assertEqual(self.ask("expected", self.made.path), (
+            3, "", "no cycle of %s is closed\n" % self.made.path))
+        self.made.close(1, 1, b"ok\t.\t-\nok\to\t-\n", whole=False)
+        said = self.ask("expected", self.made.path)
+        self.assertEqual((*said[:2], "incomplete-000001 is not whole: the list lacks" in said[2]),
+                         (1, "o\n", True))
+        self.made.close(2, 2, b"ok\t.\t-\nok\ta%25b/o\t-\nok\ta%25b/o/v1/content/x\t3\n"
+                        b"E061\tp\tsha512\nS07\tp\tmd9\nE072\tq/inventory.json\t-\n"
+                        b"E033\tr\t-\n")
+        self.made.close(3, 3, b"ok\t.\t-\n", whole=False)
+        self.assertEqual(self.ask("expected", self.made.path), (0, "a%25b/o\np\nr\n", ""))
+        self.made.close(4, 4, b"ok\t.\t-\nok\t#a\t-\n")
+        self.assertEqual(self.ask("expected", self.made.path), (
+            1, "#a\n", "a line that begins with # lists nothing: #a\n"))
+
     def test_what_is_missing(self):
         report = self.put(b"ok\t.\t-\nok\ta\t-\nE073\tb\t-\nok\tc/d\t3\nE003\td\t-\n")
         listed = self.put(b"# all\n\nd\na/\nb\nc\nc/d\nno%25", "list")
@@ -76,4 +94,3 @@ class Expected(Asked):
         shutil.rmtree(self.root)
         given, out, err = self.list("z\n")
         self.assertEqual((given, out, "is it mounted?" in err), (3, "", True))
-        self.assertEqual(self.ask("expected", self.made.path)[0], 2)

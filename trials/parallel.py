@@ -511,7 +511,7 @@ def signals(folder):
             time.sleep(0.02)
         os.kill(night.pid, getattr(signal, "SIG" + name))
         said = night.communicate(timeout=60)[0].decode()
-        check("SIG" + name, (night.returncode, "No night has come to its end" in said
+        check("SIG" + name, (night.returncode, "No night has ended since" in said
                              and " in part 4: " in said, nights.level()), (3, True, 2))
         write(nights.root + "/o08/v1/content/a", "abc")
         check("the next night", nights.night()[0], 0)

@@ -382,7 +382,7 @@ class Repairs:
             put(copying(source, path_of(self.root, place)))
             return
         self.lacking += 1
-        note("what lies there, or on the way there, is no file or folder: remove it first"
+        note("what lies there, or on the way there, is neither a file nor a folder: remove it first"
              if source else wanted.why or "no right file was found")
 
     def say_spelling(self, wanted: Wanted) -> bool:
@@ -411,7 +411,7 @@ class Repairs:
         found = []
         for place in wanted.others:
             is_right = has_digest(self.root, place, wanted)
-            note("in this root: %s%s" % (place.decode(), "" if is_right else ", which has it not"))
+            note("in this root: %s%s" % (place.decode(), "" if is_right else ", which does not have it"))
             found += [(path_of(self.root, place), wanted.place)] if is_right else []
         return found
 

@@ -7,9 +7,10 @@ import subprocess
 
 from folder import part
 from given import count_parts
-from ocfl_scrub_reports.shared import Failed, find_program, put, refuse_links, sync_folder
+from ocfl_scrub_reports.shared import (Failed, find_program, many, put, refuse_links,
+                                       sync_folder)
 
-OTHERS = "%s is divided into %d part(s), which stay: leave --parts out, or take a new folder"
+OTHERS = "%s is divided into %s, which stay: leave --parts out, or take a new folder"
 
 
 def asked(state: str) -> str:
@@ -33,7 +34,7 @@ def refuse_others(state: str, parts: str) -> None:
         with open(state + "/parts", "rb") as now, open(parts, "rb") as others:
             is_same = now.read() == others.read()
     if not is_same:
-        raise Failed(OTHERS % (state, count), 2)
+        raise Failed(OTHERS % (state, many(count, "part")), 2)
 
 
 def divide(state: str, parts: str, words: list[str]) -> None:

@@ -16,7 +16,7 @@ from ocfl_scrub_reports.files import time_text
 from ocfl_scrub_reports.shared import put
 from ocfl_scrub_reports.state import numbered_in
 
-# The row of a night that has come to its end.
+# The row of a night that has ended.
 NIGHT = re.compile(rb'\{.*"row":"night".*"status":([0-9]+).*\}\n')
 CLOSING = re.compile(rb"\nphase closing\n(?:.*\n)*cycle ([0-9]+)\n")
 
@@ -153,5 +153,5 @@ class Given:
     def not_run(self) -> str:
         """Names the parts that have ended no night since. Empty if there are none."""
         found = [int(number) for number in self.logs if not self.statuses(number)]
-        return ("No night has come to its end since %s in %s: it was not begun, refused or killed."
+        return ("No night has ended since %s in %s: it was not begun, was refused, or was killed."
                 % (time_text(self.night), ranges(found))) if found else ""

@@ -91,7 +91,7 @@ class CutParts(Told):
             time = at(night_of(1)) + night
             rows += [{"row": "given", "time": time, "night": time, "parts": 2},
                      {"row": "night", "time": time + 9, "night": time, "status": 3, "runs": 0,
-                      "said": "No night has come to its end"}]
+                      "said": "No night has ended since"}]
             for part in parts:
                 part.log(row="began", time=time + 1, night=time, cycle=1, stands="start", lines=0,
                          bytes=0, root="/srv/ocfl", part=1, program="")

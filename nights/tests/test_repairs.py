@@ -152,7 +152,7 @@ class Repairs(Asked):
         self.finds("E092\to/v1/content/a\tsha512 %s %s" % (sum_of(b"abc"), sum_of(b"abd")))
         status, lines = self.repair()
         self.assertEqual((status, lines[2:]), (1, [
-            "# in this root: p/v1/content/c, which has it not", "# no right file was found", "",
+            "# in this root: p/v1/content/c, which does not have it", "# no right file was found", "",
             self.last("1 file is")]))
 
     def test_no_copy(self):
@@ -403,7 +403,7 @@ class Repairs(Asked):
         os.symlink("/etc/passwd", self.root + "/o/v1/content/a")
         self.finds("S04\to/v1/content/a\t-", "E092\to/v1/content/a\tsha512 missing")
         status, lines = self.repair()
-        said = "# what lies there, or on the way there, is no file or folder: remove it first"
+        said = "# what lies there, or on the way there, is neither a file nor a folder: remove it first"
         self.assertEqual((status, lines[4]), (1, said))
         shutil.rmtree(self.root + "/o/v1")
         os.symlink("/etc", self.root + "/o/v1")

@@ -366,8 +366,8 @@ def repaired(folder):
     check("one is", ran(call), (1, "repaired\t%sopen\t%s" % tuple(found), ""))
     write(files[1], "y")
     given, out, _ = ran(call)
-    check("damaged otherwise", (given, [row.split("\t")[:2] for row in out.splitlines()]), (
-        1, [["repaired", "E092"], ["repaired", "E092"], ["new", "E092"]]))
+    check("damaged otherwise", (given, [row.split("\t")[:2] for row in out.splitlines()], found[
+        1] in out), (1, [["repaired", "E092"], ["open", "E092"]], False))
     known = write(folder + "/known", "E092\tb/\n")
     check("known", ran([*call, "--known", known]), (0, "repaired\t" + found[0], ""))
     write(files[1], "b")

@@ -8,13 +8,14 @@ from itertools import groupby
 from . import files, standing
 from .shared import Failed, find_program
 from .state import State
-from .weights import Known, Weights
+from .weights import HIDING, Known, Weights
 
 
 def show(state: State, known: str | None) -> int:
-    """Writes each open finding after `repaired` or `open`, and what was not found there before after
-    `new`; what is gone comes after `back` or `gone`. Gives 1 if something is open, new or gone, 3
-    if a place was not looked at, and else 0. Fails if the storage root is not there."""
+    """Writes each open finding after `repaired` or `open`, by its code as closings have it, and what
+    was not found there before after `new`; what is gone comes after `back` or `gone`. Gives 1 if
+    something is open, new or gone, 3 if a place was not looked at, and else 0. Fails if the storage
+    root is not there."""
     state.refuse_links()
     root, leave_out = state.bound_to("root"), Known(known)
     if not root:
@@ -58,18 +59,20 @@ class Looking:
 
     def at_findings(self, place: bytes, before: list[bytes], leave_out: Known) -> int:
         """Says what became of the findings at a place. Only what has a line of that very place was
-        looked at."""
+        looked at, and none that may hide a finding."""
         lines = self.lines_at(place)
         if lines is None:
             return 3
-        if not any(line.split(b"\t", 2)[1:2] == [place] for line in lines):
-            print_after("no longer looked at", before)
-            return 3
         now = [line for line in lines if not line.startswith((b"ok\t", b"S07\t"))]
-        print_after("repaired", [it for it in before if it not in now])
-        bad = print_after("open", [it for it in before if it in now])
-        bad += print_after("new", [it for it in leave_out.without(now) if it not in before])
-        return int(bad > 0)
+        codes = {code_of(it) for it in before}
+        away = [it for it in before if code_of(it) not in set(map(code_of, now))]
+        is_looked_at = any(it.split(b"\t", 2)[1:2] == [place] for it in lines) and not any(
+            code_of(it) in HIDING for it in now)
+        print_after("repaired" if is_looked_at else "no longer looked at", away)
+        shown = leave_out.without(now)
+        bad = print_after("open", [it for it in shown if code_of(it) in codes])
+        bad += print_after("new", [it for it in shown if code_of(it) not in codes])
+        return 3 if away and not is_looked_at else int(bad > 0)
 
     def at_loss(self, loss: bytes) -> int:
         """Says whether something that was gone is back: an object as one, a file as it should be
@@ -83,6 +86,10 @@ class Looking:
                       for it in there if len(it) == 3)
         print_after("back" if is_back else "gone", [loss])
         return int(not is_back)
+
+
+def code_of(line: bytes) -> bytes:
+    return line.partition(b"\t")[0]
 
 
 def print_after(word: str, lines: list[bytes]) -> int:

@@ -686,6 +686,17 @@ class Rechecked(Told):
         self.assertEqual(self.recheck(b"ok\to/a\t3\nE072\tq\t-\nE073\tq\t-\n"), (
             1, "repaired\tE092\to/a\tsha512 x y\nopen\tE072\tq\t-\nnew\tE073\tq\t-\n", ""))
 
+    def test_by_code(self):
+        """What is damaged otherwise, or cannot be read, is not repaired."""
+        self.assertEqual(self.recheck(b"E092\to/a\tsha512 x z\nok\tq\t-\n"), (
+            1, "open\tE092\to/a\tsha512 x z\nrepaired\tE072\tq\t-\n", ""))
+        self.assertEqual(self.recheck(b"S08\to/a\t-\nok\tq\t-\n"), (
+            3, "no longer looked at\tE092\to/a\tsha512 x y\nnew\tS08\to/a\t-\n"
+            "repaired\tE072\tq\t-\n", ""))
+        known = self.put(b"S08\to/a\n", "known")
+        self.assertEqual(self.ask("recheck", "--known", known, self.made.path)[1].splitlines()[0],
+                         "no longer looked at\tE092\to/a\tsha512 x y")
+
     def test_without_the_root(self):
         self.put(b"E069\t.\t-\nok\to/a\t3\nok\tq\t-\n", "now")
         given, out, err = self.ask("recheck", self.made.path)

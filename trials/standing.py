@@ -8,7 +8,8 @@ Tried, and what comes of it. Each row was seen to fail on scripts that lacked it
 
 - An object that is gone for three cycles, known, and back: `status` and each statement count it
   until it is back, and `status` not while it is known.
-- Damaged files, one repaired, one damaged otherwise: `recheck` says which.
+- Damaged files, one repaired, one damaged otherwise: `recheck` says which. Files of an object that
+  has its declaration again are repaired.
 - Names that are markup, in the page of `ocfl-scrub-reports page`: they are shown as they are, in
   Chromium too if it is there.
 - A place that reports did not come to which are not whole: its findings stay open, in the line,
@@ -388,6 +389,20 @@ def repaired(folder):
         3, "repaired\t%sno longer looked at\t%s" % tuple(found)))
 
 
+def declared_again(folder):
+    """An object whose declaration is back has no file that is outside of any object."""
+    objects = {name: {"v1/content/f": name.encode()} for name in "ab"}
+    nights = Nights(folder + "/state", common.make_root(folder + "/root", objects))
+    os.rename(nights.root + "/a/0=ocfl_object_1.1", folder + "/declaration")
+    nights.night()
+    lost = listed(nights)
+    check("its files", ["E072" in text for text in lost], [True] * 3)
+    call = [REPORTS, "recheck", nights.state]
+    check("not repaired", ran(call), (1, "".join("open\t" + text for text in lost), ""))
+    os.rename(folder + "/declaration", nights.root + "/a/0=ocfl_object_1.1")
+    check("repaired", ran(call), (0, "".join("repaired\t" + text for text in lost), ""))
+
+
 def losses(folder):
     """What is gone stays open until it has a line again, or is known."""
     objects = {name: {"v1/content/f": name.encode()} for name in "abc"}
@@ -465,7 +480,8 @@ def strange_paths(folder):
 def check_all(folder):
     tools({"gzip": "gzip"})
     for part in [statuses, troubled, open_findings, metrics, not_whole, is_known, once,
-                 refused, missing, losses, repaired, page, strange_paths]:
+                 refused, missing, losses, repaired, declared_again,
+                 page, strange_paths]:
         os.mkdir(os.path.join(folder, part.__name__))
         tried(part, os.path.join(folder, part.__name__))
 

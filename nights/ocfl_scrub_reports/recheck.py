@@ -32,11 +32,17 @@ def show(state: State, known: str | None) -> int:
     return status
 
 
+# The code of a file outside of any object.
+OUTSIDE = b"E072"
+
+
 class Looking:
     """Looks at places of a storage root by the program."""
 
     def __init__(self, program: str, root: str) -> None:
         self.program, self.root, self.weights = program, root, Weights()
+        # Whether the folders above files are objects that are looked into.
+        self.objects: dict[bytes, bool] = {}
 
     def lines_at(self, place: bytes) -> list[bytes] | None:
         """The lines of a place; None, with a word on standard error, if the program could not
@@ -59,20 +65,35 @@ class Looking:
 
     def at_findings(self, place: bytes, before: list[bytes], leave_out: Known) -> int:
         """Says what became of the findings at a place. Only what has a line of that very place was
-        looked at, and none that may hide a finding."""
+        looked at, and none that may hide a finding. A file outside of any object has none once it
+        is in one and need not be hashed."""
         lines = self.lines_at(place)
         if lines is None:
             return 3
         now = [line for line in lines if not line.startswith((b"ok\t", b"S07\t"))]
         codes = {code_of(it) for it in before}
         away = [it for it in before if code_of(it) not in set(map(code_of, now))]
-        is_looked_at = any(it.split(b"\t", 2)[1:2] == [place] for it in lines) and not any(
-            code_of(it) in HIDING for it in now)
+        is_there = any(it.split(b"\t", 2)[1:2] == [place] for it in lines)
+        is_looked_at = not any(code_of(it) in HIDING for it in now) if is_there else (
+            codes == {OUTSIDE} and self.is_in_object(place))
         print_after("repaired" if is_looked_at else "no longer looked at", away)
         shown = leave_out.without(now)
         bad = print_after("open", [it for it in shown if code_of(it) in codes])
         bad += print_after("new", [it for it in shown if code_of(it) not in codes])
         return 3 if away and not is_looked_at else int(bad > 0)
+
+    def is_in_object(self, place: bytes) -> bool:
+        """Whether a folder above a place is an object that is looked into."""
+        while b"/" in place:
+            place = place[:place.rindex(b"/")]
+            if place not in self.objects:
+                lines = [it.split(b"\t", 2) for it in self.lines_at(place) or ()]
+                self.objects[place] = not any(it[0] in HIDING for it in lines) and any(
+                    it[1] == place and self.weights.is_of_object(*it) for it in lines
+                    if len(it) == 3)
+            if self.objects[place]:
+                return True
+        return False
 
     def at_loss(self, loss: bytes) -> int:
         """Says whether something that was gone is back: an object as one, a file as it should be

@@ -697,6 +697,14 @@ class Rechecked(Told):
         self.assertEqual(self.ask("recheck", "--known", known, self.made.path)[1].splitlines()[0],
                          "no longer looked at\tE092\to/a\tsha512 x y")
 
+    def test_a_declaration_that_is_back(self):
+        """A file that is in an object now is not outside of any."""
+        self.cycle(3, b"E072\tp/o/v1/inventory.json\t-\nE072\tp/o/x\t-\nE072\tr/x\t-\n")
+        given, out, _ = self.recheck(b"ok\tp/o\t-\nE001\tp/o/x\t-\nE063\tr\t-\n")
+        self.assertEqual((given, out.splitlines()), (3, [
+            "repaired\tE072\tp/o/v1/inventory.json\t-", "no longer looked at\tE072\tp/o/x\t-",
+            "new\tE001\tp/o/x\t-", "no longer looked at\tE072\tr/x\t-"]))
+
     def test_without_the_root(self):
         self.put(b"E069\t.\t-\nok\to/a\t3\nok\tq\t-\n", "now")
         given, out, err = self.ask("recheck", self.made.path)

@@ -7,12 +7,13 @@ use Rattle.std.specs.declared.cmp.Ordering.TheVariants.{Less, Equal, Greater}
 use Rattle.ocfl_tree.specs.Place.{Place, Text, place_cmp, place_eq}
 use Rattle.ocfl_tree.specs.Ascending.{ascending, IsAscending, IsAmong}
 use Rattle.ocfl_tree.specs.StorageRoot.{StorageRoot, Leaf, file, dir, other, lookup, at_below, at, is_dir_leaf}
+use Rattle.ocfl_report.specs.Line.{Item}
 use Rattle.ocfl_inventory.specs.{Note.{Note, lines_at}, Declaration.{undeclared, declared}}
 use Rattle.ocfl_inventory.specs.Table.{Table, Triple, Named, named, paths_of}
 use Rattle.ocfl_inventory.specs.declared.declaration.Level.TheVariants.{Object}
 use Rattle.ocfl_rules.specs.Zone.{Zone, skipped, hierarchy, inside, object_zone, object_declared, zone, table_at, seen, max_listed_depth, files_in, is_declared}
-use Rattle.ocfl_rules.specs.Audit.{Unread, item_of, has_lines, candidates, named_places, audit, given_by, IsAudit}
-use Rattle.ocfl_rules.specs.Lines.{is_empty, notes, notes_in, hierarchy_notes, missing_notes, within_notes, object_notes}
+use Rattle.ocfl_rules.specs.Audit.{Unread, has_lines, candidates, named_places, audit, given_by, IsAudit}
+use Rattle.ocfl_rules.specs.Lines.{is_empty, notes, cost, notes_in, hierarchy_notes, missing_notes, within_notes, object_notes}
 use Rattle.ocfl_tree.proofs.Orders.{place_cmp_total, place_cmp_exact, true_not_false, among_map, among_left, among_right, among_ascending, among_filter, among_from_filter, ascends_filter, ascends_ascending}
 
 -- ---- places of the tree
@@ -53,7 +54,7 @@ pub at_lookup : (root : StorageRoot) (n : Text) (p : Place) (leaf : Leaf) → at
 at_lookup root n p leaf h = at_below_lookup root [] n p leaf h
 
 -- a place at which there is something is a candidate
-at_candidate : (root : StorageRoot) (p : Place) (leaf : Leaf) → at root p ≡ Some leaf → IsAmong (candidates root) p
+pub at_candidate : (root : StorageRoot) (p : Place) (leaf : Leaf) → at root p ≡ Some leaf → IsAmong (candidates root) p
 at_candidate root [] leaf h = among_left ([] ∷ map (λ e. e.0) root) _ [] (inl refl)
 at_candidate root (n ∷ p) leaf h = among_left ([] ∷ map (λ e. e.0) root) _ (n ∷ p) (inr (among_keys root (n ∷ p) leaf (at_lookup root n p leaf h)))
 
@@ -187,38 +188,50 @@ notes_candidate root u (n ∷ p) some = zone_candidate root (n ∷ p) u (zone ro
 
 -- ---- the audit
 
-module _ (root : StorageRoot) (unread : Unread) where
-  places_kept : (ps : List Place) → map (λ i. i.place) (filter has_lines (map (item_of root unread) ps)) ≡ filter (λ p. has_lines (item_of root unread p)) ps
+pub lines_from_notes : (p : Place) (ns : List Note) → (not (is_empty (lines_at p ns)) ≡ true) ↔ (ns ≢ [])
+lines_from_notes p [] = (λ e. absurd (true_not_false (sym e)), λ h. absurd (h refl))
+lines_from_notes p (n ∷ ns) = (λ e f. cc, λ h. refl)
+
+-- the items that some places have, by their lines and costs
+module _ (lines : Place → List Note) (costs : Place → ℕ) where
+  abbrev made : Place → Item
+  made p = record { place = p; lines = lines_at p (lines p); cost = costs p }
+
+  places_kept : (ps : List Place) → map (λ i. i.place) (filter has_lines (map made ps)) ≡ filter (λ p. has_lines (made p)) ps
   places_kept [] = refl
-  places_kept (p ∷ ps) = by (has_lines (item_of root unread p)) (places_kept ps)
+  places_kept (p ∷ ps) = by (has_lines (made p)) (places_kept ps)
     where
-      by : (b : Bool) → map (λ i. i.place) (filter has_lines (map (item_of root unread) ps)) ≡ filter (λ q. has_lines (item_of root unread q)) ps
-          → map (λ i. i.place) (cond b (item_of root unread p ∷ filter has_lines (map (item_of root unread) ps))
-          (filter has_lines (map (item_of root unread) ps))) ≡ cond b (p ∷ filter (λ q. has_lines (item_of root unread q)) ps) (filter (λ q. has_lines (item_of root unread q)) ps)
+      by : (b : Bool) → map (λ i. i.place) (filter has_lines (map made ps)) ≡ filter (λ q. has_lines (made q)) ps
+          → map (λ i. i.place) (cond b (made p ∷ filter has_lines (map made ps)) (filter has_lines (map made ps)))
+          ≡ cond b (p ∷ filter (λ q. has_lines (made q)) ps) (filter (λ q. has_lines (made q)) ps)
       by true e = ap (λ x. p ∷ x) e
       by false e = e
 
-  each_kept : (ps : List Place) → AllByRecursion (λ i. i ≡ item_of root unread i.place) (filter has_lines (map (item_of root unread) ps))
+  each_kept : (ps : List Place) → AllByRecursion (λ i. i ≡ made i.place) (filter has_lines (map made ps))
   each_kept [] = tt
-  each_kept (p ∷ ps) = by (has_lines (item_of root unread p)) (each_kept ps)
+  each_kept (p ∷ ps) = by (has_lines (made p)) (each_kept ps)
     where
-      by : (b : Bool) → AllByRecursion (λ i. i ≡ item_of root unread i.place) (filter has_lines (map (item_of root unread) ps))
-          → AllByRecursion (λ i. i ≡ item_of root unread i.place) (cond b (item_of root unread p ∷ filter has_lines (map (item_of root unread) ps)) (filter has_lines (map (item_of root unread) ps)))
+      by : (b : Bool) → AllByRecursion (λ i. i ≡ made i.place) (filter has_lines (map made ps))
+          → AllByRecursion (λ i. i ≡ made i.place) (cond b (made p ∷ filter has_lines (map made ps)) (filter has_lines (map made ps)))
       by true k = (refl, k)
       by false k = k
 
-  pub lines_from_notes : (p : Place) (ns : List Note) → (not (is_empty (lines_at p ns)) ≡ true) ↔ (ns ≢ [])
-  lines_from_notes p [] = (λ e. absurd (true_not_false (sym e)), λ h. absurd (h refl))
-  lines_from_notes p (n ∷ ns) = (λ e f. cc, λ h. refl)
-
-  pub audit_is : IsAudit root unread (audit root unread)
-  audit_is = record {
-    ascends = subst (IsAscending place_cmp) (sym (places_kept _)) (ascends_filter place_cmp (λ p. has_lines (item_of root unread p)) _ (ascends_ascending place_cmp_total (candidates root)));
-    each = each_kept _;
-    exactly = λ p. (
-      (λ i. (lines_from_notes p _).0 (among_from_filter (λ x. has_lines (item_of root unread x)) (ascending place_cmp (candidates root)) p (subst (λ xs. IsAmong xs p) (places_kept _) i)).1),
+  -- those of places among which are all that have lines
+  pub made_items : (cs : List Place) → ((p : Place) → lines p ≢ [] → IsAmong cs p)
+      → IsAscending place_cmp (map (λ i. i.place) (filter has_lines (map made (ascending place_cmp cs))))
+      × AllByRecursion (λ i. i ≡ made i.place) (filter has_lines (map made (ascending place_cmp cs)))
+      × ((p : Place) → IsAmong (map (λ i. i.place) (filter has_lines (map made (ascending place_cmp cs)))) p ↔ (lines p ≢ []))
+  made_items cs all = (
+    subst (IsAscending place_cmp) (sym (places_kept _)) (ascends_filter place_cmp (λ p. has_lines (made p)) _ (ascends_ascending place_cmp_total cs)),
+    each_kept _,
+    λ p. (
+      (λ i. (lines_from_notes p _).0 (among_from_filter (λ x. has_lines (made x)) (ascending place_cmp cs) p (subst (λ xs. IsAmong xs p) (places_kept _) i)).1),
       (λ h. subst (λ xs. IsAmong xs p) (sym (places_kept _))
-          (among_filter (λ x. has_lines (item_of root unread x)) (ascending place_cmp (candidates root)) p
-          ((among_ascending place_cmp_exact (candidates root) p).0 (notes_candidate root (given_by unread p) p h)) ((lines_from_notes p _).1 h))),
-    );
-  }
+          (among_filter (λ x. has_lines (made x)) (ascending place_cmp cs) p ((among_ascending place_cmp_exact cs p).0 (all p h)) ((lines_from_notes p _).1 h))),
+    ),
+  )
+
+pub audit_is : (root : StorageRoot) (unread : Unread) → IsAudit root unread (audit root unread)
+audit_is root unread =
+    let is = made_items (λ p. notes root (given_by unread p) p) (λ p. cost root (given_by unread p) p) (candidates root) (λ p. notes_candidate root (given_by unread p) p) in
+    record { ascends = is.0; each = is.1; exactly = is.2 }

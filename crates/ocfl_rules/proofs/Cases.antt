@@ -13,4 +13,5 @@ pub mod Run
 pub mod Part
 pub mod Object
 pub mod Meta
+pub mod Inventories
 pub mod Walk

@@ -15,7 +15,7 @@ use Rattle.ocfl_tree.proofs.Orders.{true_not_false}
 
 -- ---- the audit by its places
 
-empty_lines : (p : Place) (ns : List Note) → is_empty (lines_at p ns) ≡ is_empty ns
+pub empty_lines : (p : Place) (ns : List Note) → is_empty (lines_at p ns) ≡ is_empty ns
 empty_lines p [] = refl
 empty_lines p (n ∷ ns) = refl
 
@@ -38,7 +38,7 @@ after_is_due root trail (Some p) =
 
 -- ---- what could be read has no part in which places have lines
 
-no_notes : (xs ys : List Note) → is_empty xs ≡ is_empty ys → xs ≡ [] → ys ≡ []
+pub no_notes : (xs ys : List Note) → is_empty xs ≡ is_empty ys → xs ≡ [] → ys ≡ []
 no_notes xs [] e h = refl
 no_notes xs (y ∷ ys) e h = absurd (true_not_false (sym (ap is_empty h) ∙ e))
 

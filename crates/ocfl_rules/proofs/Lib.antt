@@ -23,4 +23,5 @@ pub mod RunLaws
 pub mod PartLaws
 pub mod ApartLaws
 pub mod BranchLaws
+mod InventoryLaws
 pub mod Cases

@@ -117,7 +117,7 @@ module _ (root : StorageRoot) where
   -- ---- what is metadata
 
   -- the object that a place is in
-  object_around : (p o q : Place) → zone root p ≡ inside o q → IsObjectRoot root o
+  pub object_around : (p o q : Place) → zone root p ≡ inside o q → IsObjectRoot root o
   object_around p o q z = (object_by_zone root o).1 (ap (zone root) (sym (append_nothing o)) ∙ zone_part root (is_closed root) p o [] q z)
 
   -- and an entry of its root

@@ -6,7 +6,7 @@ use Rattle.ocfl_rules.specs.Zone.{Zone, skipped, hierarchy, inside, zone, seen, 
 use Rattle.ocfl_rules.specs.Lines.{is_empty, or_bytes, file_notes, content_notes, within_notes, object_notes, notes_in, notes}
 use Rattle.ocfl_rules.specs.Head.{on}
 
-or_bytes_some : (bytes : Text) (ns : List Note) → is_empty (or_bytes bytes ns) ≡ false
+pub or_bytes_some : (bytes : Text) (ns : List Note) → is_empty (or_bytes bytes ns) ≡ false
 or_bytes_some bytes [] = refl
 or_bytes_some bytes (n ∷ ns) = refl
 

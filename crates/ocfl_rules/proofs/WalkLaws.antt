@@ -81,11 +81,11 @@ module _ (root : StorageRoot) (unread : Unread) where
       (λ n. under_places (d ++ n ∷ [])) ∙ sym (map_flat_map (item_of root unread) (λ n. under item_places (d ++ n ∷ [])) ns)
 
   pub place_has : (p : Place) → IsAmong item_places p → notes root (given_by unread p) p ≢ []
-  place_has p i = (lines_from_notes root unread p _).0 (among_from_filter (λ x. has_lines (item_of root unread x)) (ascending place_cmp (candidates root)) p i).1
+  place_has p i = (lines_from_notes p _).0 (among_from_filter (λ x. has_lines (item_of root unread x)) (ascending place_cmp (candidates root)) p i).1
 
   pub has_place : (p : Place) → has_lines (item_of root unread p) ≡ true → IsAmong item_places p
   has_place p h = among_filter (λ x. has_lines (item_of root unread x)) (ascending place_cmp (candidates root)) p
-      ((among_ascending place_cmp_exact (candidates root) p).0 (notes_candidate root (given_by unread p) p ((lines_from_notes root unread p _).0 h))) h
+      ((among_ascending place_cmp_exact (candidates root) p).0 (notes_candidate root (given_by unread p) p ((lines_from_notes p _).0 h))) h
 
   -- ---- the item at one place
 

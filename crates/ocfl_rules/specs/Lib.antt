@@ -8,5 +8,6 @@ pub mod Walk
 pub mod Stack
 pub mod Between
 pub mod Objects
+pub mod Inventories
 pub mod Runs
 pub mod Parts

@@ -3,4 +3,5 @@
 //! laws and worked cases, and no code.
 #![tactic(auto)]
 
+pub mod inventories;
 pub mod laws;

@@ -32,7 +32,7 @@ use Rattle.ocfl_scrub.proofs.{TakeLaws.{fault_of_nothing}, WayListed.{checked_li
 -- ---- the item of a place
 
 has_item : (root : StorageRoot) (u : Unread) (p : Place) → notes root None p ≢ [] → has_lines (item_of root u p) ≡ true
-has_item root u p some = (lines_from_notes root u p _).1 (λ e. some (lines_alike root (given_by u p) None p e))
+has_item root u p some = (lines_from_notes p _).1 (λ e. some (lines_alike root (given_by u p) None p e))
 
 no_item : (root : StorageRoot) (u : Unread) (p : Place) → notes root None p ≡ [] → has_lines (item_of root u p) ≡ false
 no_item root u p none = ap (λ ns. not (is_empty (lines_at p ns))) (lines_alike root None (given_by u p) p none)

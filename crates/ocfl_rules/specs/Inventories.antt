@@ -1,0 +1,266 @@
+-- An audit that checks more of an object than its root inventory: the inventories of its version
+-- directories, by their sidecars, and that of the version which the root inventory's head names by
+-- the root inventory (OCFL 1.1, 3.3 Version Directories, 3.5.1 Basic Structure and 3.6 Inventory
+-- Digest). It adds lines to those of an audit, and changes none.
+use Rattle.std.specs.Prelude.{◌≡◌, ◌≢◌, ◌↔◌, ◌⊎◌, ℕ, ◌+◌, ◌&&◌, ◌||◌, nat_lt, List, [], ◌∷◌, ◌++◌, Bool, true, false, not, length, if◌then◌else◌, Option, Some, None, is_some, option_and_then, option_map, Ok, Err, map, filter, flat_map, codes}
+use Rattle.std.specs.List.{AllByRecursion}
+use Rattle.hex.specs.Hex.{encode_lower}
+use Rattle.serde_json.specs.{Data.{Members}, Find.{as_str, get_member}}
+use Rattle.ocfl_tree.specs.Place.{Text, Place, place_cmp, text_eq}
+use Rattle.ocfl_tree.specs.Ascending.{ascending, IsAscending, IsAmong}
+use Rattle.ocfl_tree.specs.StorageRoot.{StorageRoot, Leaf, file, dir, other}
+use Rattle.ocfl_tree.specs.declared.store.Opening.{Opening}
+use Rattle.ocfl_report.specs.Line.{Item}
+use Rattle.ocfl_report.specs.declared.code.Code.{Code}
+use Rattle.ocfl_report.specs.declared.code.Code.TheVariants.{E058, E060, E061, S08}
+use Rattle.ocfl_inventory.specs.{Note.{note, Note, plain, lines_at}, Reading.{Reading, object_of}}
+use Rattle.ocfl_inventory.specs.{ListedPath.{is_version_name}, Sidecar.{sidecar_of}, Table.{Table}}
+use Rattle.ocfl_digest.specs.{Algorithm.{algorithm_name}, declared.algorithm.Algorithm.{Algorithm}}
+use Rattle.ocfl_digest.specs.declared.algorithm.Algorithm.TheVariants.{Sha256, Sha512}
+use Rattle.ocfl_rules.specs.Zone.{Zone, skipped, hierarchy, inside, zone, seen, table_at, inventory_at, inventory_name}
+use Rattle.ocfl_rules.specs.Head.{on, digest_of, mismatch, sidecar_name, sidecar_at, are_sidecars_missing}
+use Rattle.ocfl_rules.specs.Lines.{is_empty, notes, cost, or_bytes}
+use Rattle.ocfl_rules.specs.Audit.{Unread, given_by, candidates, has_lines}
+use Rattle.ocfl_rules.specs.{Trail.{is_meta, places_of}, Due.{places_after}, Objects.{IsObjectRoot}}
+
+-- the codes of the lines that only such an audit has: an inventory that is not the root inventory,
+-- though its version is the root inventory's head (E064 in the list of OCFL 1.1); and a note, which
+-- says what the root inventory is
+pub record NewCodes : Type 0 where
+  pub differs : Code
+  pub is_now : Code
+
+-- what an audit checks beside what each audit does: nothing, or the inventories of version
+-- directories
+abbrev pub Further : Type 0
+Further = Option NewCodes
+
+-- ---- the root inventory
+
+abbrev pub head_in : Reading Members → Option Text
+head_in (Ok ms) = option_and_then as_str (get_member (codes "head") ms)
+head_in (Err n) = None
+
+-- what an object's root inventory is, if the object's head does not stop at it: its digest by its
+-- own algorithm, and the version that it names as the newest, if that is a text
+pub record RootInventory : Type 0 where
+  pub algorithm : Algorithm
+  pub digest : Text
+  pub head : Option Text
+
+abbrev pub root_inventory_of : Text → Table → RootInventory
+root_inventory_of bytes t = record {
+  algorithm = t.algorithm;
+  digest = digest_of t.algorithm bytes;
+  head = head_in (object_of bytes);
+}
+
+abbrev pub root_inventory : StorageRoot → Place → Option RootInventory
+root_inventory root o = option_and_then (λ bytes. option_map (root_inventory_of bytes) (table_at root o)) (inventory_at root o)
+
+abbrev pub after_blank : Option Text → Text
+after_blank None = []
+after_blank (Some t) = 32 ∷ t
+
+abbrev pub is_now_note : NewCodes → RootInventory → Note
+is_now_note k r = note k.is_now (algorithm_name r.algorithm ++ 32 ∷ r.digest ++ after_blank r.head)
+
+abbrev pub root_inventory_notes : NewCodes → Option RootInventory → List Note
+root_inventory_notes k None = []
+root_inventory_notes k (Some r) = is_now_note k r ∷ []
+
+-- ---- the inventory of a version directory, by what is beside it and by the root inventory
+
+-- a digest that is expected of a file, and the code of the line if the file has another one
+pub record Expected : Type 0 where
+  pub code : Code
+  pub algorithm : Algorithm
+  pub digest : Text
+
+abbrev pub expected_digest : Algorithm → Option (List ℕ) → List Expected
+expected_digest a None = []
+expected_digest a (Some d) = record { code = E060; algorithm = a; digest = encode_lower d } ∷ []
+
+-- that of a sidecar of the form
+abbrev pub expected_beside : Algorithm → Option Text → List Expected
+expected_beside a None = []
+expected_beside a (Some s) = expected_digest a (sidecar_of a s)
+
+abbrev pub is_text : Text → Option Text → Bool
+is_text v None = false
+is_text v (Some t) = text_eq v t
+
+-- that of the root inventory, whose head names the version v
+abbrev pub expected_by_root : NewCodes → Text → Option RootInventory → List Expected
+expected_by_root k v None = []
+expected_by_root k v (Some r) = on (is_text v r.head) (record { code = k.differs; algorithm = r.algorithm; digest = r.digest })
+
+-- the digests that are expected of the inventory in the directory of a version of o
+abbrev pub expected_of : NewCodes → StorageRoot → Place → Text → List Expected
+expected_of k root o v =
+    expected_beside Sha256 (sidecar_at root (o ++ v ∷ []) Sha256)
+    ++ expected_beside Sha512 (sidecar_at root (o ++ v ∷ []) Sha512)
+    ++ expected_by_root k v (root_inventory root o)
+
+-- a sidecar that is not of the form
+abbrev pub form_notes : Algorithm → Option Text → List Note
+form_notes a None = []
+form_notes a (Some s) = on (not (is_some (sidecar_of a s))) (note E061 (algorithm_name a))
+
+-- the lines of the sidecars in d for themselves
+abbrev pub beside_notes : StorageRoot → Place → List Note
+beside_notes root d =
+    on (are_sidecars_missing root d) (plain E058)
+    ++ form_notes Sha256 (sidecar_at root d Sha256) ++ form_notes Sha512 (sidecar_at root d Sha512)
+
+-- a line for each expected digest that is not the file's
+abbrev pub unexpected_notes : Text → List Expected → List Note
+unexpected_notes bytes es = flat_map (λ e. let got = digest_of e.algorithm bytes in on (not (text_eq e.digest got)) (mismatch e.code e.algorithm e.digest got)) es
+
+-- an inventory with these lines of its sidecars; u is what it gave before it could not be read on.
+-- One of which no digest is expected is not opened
+abbrev pub inventory_notes : List Note → Text → List Expected → Option ℕ → List Note
+inventory_notes beside bytes [] u = beside
+inventory_notes beside bytes (e ∷ es) None = or_bytes bytes (beside ++ unexpected_notes bytes (e ∷ es))
+inventory_notes beside bytes (e ∷ es) (Some given) = beside ++ plain S08 ∷ []
+
+abbrev pub inventory_cost : Text → List Expected → Option ℕ → ℕ
+inventory_cost bytes [] u = 0
+inventory_cost bytes (e ∷ es) None = length bytes + 1
+inventory_cost bytes (e ∷ es) (Some given) = given + 1
+
+-- the bytes of an inventory, if the entry n of a version directory is one
+abbrev pub inventory_bytes : Text → Option Leaf → Option Text
+inventory_bytes n None = None
+inventory_bytes n (Some (file bytes)) = if text_eq n inventory_name then Some bytes else None
+inventory_bytes n (Some dir) = None
+inventory_bytes n (Some other) = None
+
+-- an inventory in a version directory: its version, and its bytes
+abbrev pub VersionInventory : Type 0
+VersionInventory = Place × Text × Text
+
+abbrev pub version_inventory_in : Zone → Option Leaf → Option VersionInventory
+version_inventory_in skipped leaf = None
+version_inventory_in hierarchy leaf = None
+version_inventory_in (inside o []) leaf = None
+version_inventory_in (inside o (n ∷ [])) leaf = None
+version_inventory_in (inside o (v ∷ n ∷ [])) leaf = option_map (λ bytes. (o, v, bytes)) (inventory_bytes n leaf)
+version_inventory_in (inside o (v ∷ c ∷ n ∷ q)) leaf = None
+
+-- the object and the version whose inventory is at a place that is seen, and the inventory's bytes
+abbrev pub version_inventory : StorageRoot → Place → Option VersionInventory
+version_inventory root p = version_inventory_in (zone root p) (seen root p)
+
+-- ---- what such an audit adds
+
+abbrev pub version_notes : NewCodes → StorageRoot → Option ℕ → Option VersionInventory → List Note
+version_notes k root u None = []
+version_notes k root u (Some x) = inventory_notes (beside_notes root (x.0 ++ x.1 ∷ [])) x.2 (expected_of k root x.0 x.1) u
+
+abbrev pub head_notes : NewCodes → StorageRoot → Zone → List Note
+head_notes k root skipped = []
+head_notes k root hierarchy = []
+head_notes k root (inside o []) = root_inventory_notes k (root_inventory root o)
+head_notes k root (inside o (n ∷ q)) = []
+
+-- the lines: at an object's head, and at the inventory of a version directory
+abbrev pub further_notes : NewCodes → StorageRoot → Option ℕ → Place → List Note
+further_notes k root u p = head_notes k root (zone root p) ++ version_notes k root u (version_inventory root p)
+
+abbrev pub version_cost : NewCodes → StorageRoot → Option ℕ → Option VersionInventory → ℕ
+version_cost k root u None = 0
+version_cost k root u (Some x) = inventory_cost x.2 (expected_of k root x.0 x.1) u
+
+-- what these cost
+abbrev pub further_cost : NewCodes → StorageRoot → Option ℕ → Place → ℕ
+further_cost k root u p = version_cost k root u (version_inventory root p)
+
+-- the sidecars in version directories, by name and zone
+abbrev pub is_version_sidecar : Zone → Bool
+is_version_sidecar skipped = false
+is_version_sidecar hierarchy = false
+is_version_sidecar (inside o []) = false
+is_version_sidecar (inside o (n ∷ [])) = false
+is_version_sidecar (inside o (v ∷ n ∷ [])) = is_version_name v && (text_eq n (sidecar_name Sha256) || text_eq n (sidecar_name Sha512))
+is_version_sidecar (inside o (v ∷ c ∷ n ∷ q)) = false
+
+-- ---- lines, cost and metadata of each place
+
+abbrev pub notes_with : Further → StorageRoot → Option ℕ → Place → List Note
+notes_with None root u p = notes root u p
+notes_with (Some k) root u p = notes root u p ++ further_notes k root u p
+
+abbrev pub cost_with : Further → StorageRoot → Option ℕ → Place → ℕ
+cost_with None root u p = cost root u p
+cost_with (Some k) root u p = cost root u p + further_cost k root u p
+
+-- some digest is named for the file there, or expected of it
+abbrev pub is_hashed_with : Further → StorageRoot → Place → Bool
+is_hashed_with further root p = nat_lt 0 (cost_with further root None p)
+
+-- what is read for its own sake
+abbrev pub is_meta_with : Further → StorageRoot → Place → Bool
+is_meta_with None root p = is_meta root p
+is_meta_with (Some k) root p = is_meta root p || is_version_sidecar (zone root p)
+
+-- ---- the audit
+
+abbrev pub item_with : Further → StorageRoot → Unread → Place → Item
+item_with further root unread p = record {
+  place = p;
+  lines = lines_at p (notes_with further root (given_by unread p) p);
+  cost = cost_with further root (given_by unread p) p;
+}
+
+abbrev pub audit_with : Further → StorageRoot → Unread → List Item
+audit_with further root unread = filter has_lines (map (item_with further root unread) (ascending place_cmp (candidates root)))
+
+-- the same said without a computation
+pub record IsAuditWith (further : Further) (root : StorageRoot) (unread : Unread) (items : List Item) : Type 0 where
+  pub ascends : IsAscending place_cmp (map (λ i. i.place) items)
+  pub each : AllByRecursion (λ i. i ≡ item_with further root unread i.place) items
+  pub exactly : (p : Place) → IsAmong (map (λ i. i.place) items) p ↔ (notes_with further root (given_by unread p) p ≢ [])
+
+-- ---- what openings show of it
+
+abbrev pub content_openings_with : Further → StorageRoot → List Opening → List Opening
+content_openings_with further root trail = filter (λ o. not (is_meta_with further root o.place)) trail
+
+abbrev pub content_trail_with : Further → StorageRoot → List Opening → List Place
+content_trail_with further root trail = places_of (content_openings_with further root trail)
+
+abbrev pub unread_with : Further → StorageRoot → List Opening → Unread
+unread_with further root trail = map (λ o. (o.place, o.given)) (filter (λ o. o.failed) (content_openings_with further root trail))
+
+-- ---- the audit by its places
+
+unfoldable pub item_places_with : Further → StorageRoot → List Place
+item_places_with further root = filter (λ p. not (is_empty (notes_with further root None p))) (ascending place_cmp (candidates root))
+
+unfoldable pub due_with : Further → StorageRoot → Option Place → List Place
+due_with further root last = places_after (item_places_with further root) last
+
+unfoldable pub items_with : Further → StorageRoot → List Opening → List Place → List Item
+items_with further root trail places = map (item_with further root (unread_with further root trail)) places
+
+unfoldable pub hashed_with : Further → StorageRoot → List Place → List Place
+hashed_with further root places = filter (is_hashed_with further root) places
+
+-- ---- the same in words of the field
+
+-- a sidecar in a version directory of an object
+pub record IsVersionSidecar (root : StorageRoot) (p : Place) : Type 0 where
+  pub object : Place
+  pub version : Text
+  pub name : Text
+  pub is_object : IsObjectRoot root object
+  pub is_version : is_version_name version ≡ true
+  pub named : (name ≡ codes "inventory.json.sha256") ⊎ (name ≡ codes "inventory.json.sha512")
+  pub whole : p ≡ object ++ version ∷ name ∷ []
+
+-- the inventory in a version directory of an object, if it is seen
+pub record IsVersionInventory (root : StorageRoot) (p object : Place) (version bytes : Text) : Type 0 where
+  pub is_object : IsObjectRoot root object
+  pub is_seen : seen root p ≡ Some (file bytes)
+  pub whole : p ≡ object ++ version ∷ codes "inventory.json" ∷ []

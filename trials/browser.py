@@ -20,7 +20,7 @@ import os
 import re
 
 import common
-from common import check, digest
+from common import PROGRAM, TOP, check, digest
 from shared.nights import tried_apart
 from shared.states import State, ask, escaped, line, program, ran, read, write
 
@@ -115,6 +115,15 @@ def pages_of(state, cycle, folder):
     return [page for _, page, _ in both]
 
 
+def picture(folder):
+    """The picture of README can be made anew."""
+    made = folder + "/page.png"
+    check("docs/picture", ran([TOP + "/docs/picture", made], OCFL_SCRUB=PROGRAM, TMPDIR=folder),
+          (0, "", ""))
+    with open(made, "rb") as file:
+        check("a picture", file.read(8), b"\x89PNG\r\n\x1a\n")
+
+
 def hostile(folder):
     """Names that would be markup, and those that would change how others are shown."""
     state = State(folder + "/state", "/srv/<b onclick=%s>\u202e\"&amp;" % RUNS)
@@ -190,7 +199,7 @@ def several(folder):
 
 def check_all(folder):
     os.environ.pop("DISPLAY", None)
-    tried_apart([hostile, history, nothing_yet, several], folder)
+    tried_apart([picture, hostile, history, nothing_yet, several], folder)
 
 
 # A browser is large, and most machines of a gate have none.

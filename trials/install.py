@@ -48,6 +48,7 @@ share/doc/ocfl-scrub/docs/RECIPES.md 644
 share/doc/ocfl-scrub/docs/RULES.md 644
 share/doc/ocfl-scrub/docs/TOOLCHAIN.md 644
 share/doc/ocfl-scrub/docs/TRIED.md 644
+share/doc/ocfl-scrub/docs/page.png 644
 share/doc/ocfl-scrub/nights/CLUSTERS.md 644
 share/doc/ocfl-scrub/nights/FAQ.md 644
 share/doc/ocfl-scrub/nights/LOG.md 644

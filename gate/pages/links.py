@@ -1,5 +1,5 @@
 """The links between pages: each leads to a file and to a title in it, in the repository and where
-`./install` puts the pages."""
+`./install` puts the pages. So do those to pictures, which have no titles."""
 from __future__ import annotations
 
 import glob
@@ -28,7 +28,7 @@ def looked_at() -> tuple[int, int]:
 
 def in_repository() -> dict[str, str]:
     """The path of each page, by the path at which it is read."""
-    pages = [os.path.relpath(page, TOP) for pattern in ["*.md", "*/*.md"]
+    pages = [os.path.relpath(page, TOP) for pattern in ["*.md", "*/*.md", "docs/*.png"]
              for page in glob.glob(os.path.join(TOP, pattern))]
     return {page: page for page in sorted(pages)}
 
@@ -66,5 +66,8 @@ def titles_of(text: str) -> set[str]:
 
 
 def text_of(page: str) -> str:
+    """The text of a page; a picture has none."""
+    if page.endswith(".png"):
+        return ""
     with open(os.path.join(TOP, page), encoding="utf-8") as file:
         return file.read()

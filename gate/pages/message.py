@@ -65,9 +65,9 @@ def ran(words: list[str], expected: set[int], **given: str) -> str:
     return text
 
 
-def made(folder: str) -> dict[str, str]:
+def sample(folder: str) -> tuple[str, str]:
     """The message of a night and the page after it, over a root in this folder that was damaged
-    since the night before."""
+    since the night before. It does not name the folder."""
     root, state = folder + ROOT, folder + STATE
     os.makedirs(root)
     os.makedirs(os.path.dirname(state))
@@ -83,8 +83,14 @@ def made(folder: str) -> dict[str, str]:
     ran(night, {1}, INVOCATION_ID="second")
     command = NIGHTS + "/ocfl-scrub-reports"
     mail = ran([command, "tell", "archive", state], {0}, EXIT_STATUS="1", INVOCATION_ID="second")
-    page = Shown(ran([command, "page", state], {0, 1, 2})).text()
-    return {"message": "Subject: " + mail.replace(folder, ""), "page": page.replace(folder, "")}
+    page = ran([command, "page", state], {0, 1, 2})
+    return mail.replace(folder, ""), page.replace(folder, "")
+
+
+def made(folder: str) -> dict[str, str]:
+    """The two blocks."""
+    mail, page = sample(folder)
+    return {"message": "Subject: " + mail, "page": Shown(page).text()}
 
 
 class Shown(HTMLParser):

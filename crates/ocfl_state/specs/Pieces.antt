@@ -5,6 +5,7 @@ use Rattle.sha2.specs.{Sha256.{sha256}, Hashers.{Holds256}}
 use Rattle.hex.specs.Hex.{encode_lower}
 use Rattle.ocfl_state.specs.{Content.{Bytes}, declared.pieces.ReportDigests.{ReportDigests}}
 use Rattle.ocfl_state.specs.declared.checkpoint_parts.ReportMark.{ReportMark}
+use Rattle.ocfl_state.specs.declared.checking.ReportCheck.{ReportCheck}
 
 -- 4 MiB
 abbrev pub piece_size : ℕ
@@ -79,6 +80,13 @@ pub record CarriedFrom (value : Bytes) (k before : ℕ) (digests : ReportDigests
 -- the digests of a whole report, with its tail
 abbrev pub Carries : ReportDigests → Bytes → Type 0
 Carries digests report = CarriedFrom no_pieces 0 0 digests report × IsTailed digests
+
+-- the digests of what was read of a report, to be compared with this mark: no tail is kept of bytes
+-- before the whole pieces that the mark's length has
+pub record Checks (mark : ReportMark) (check : ReportCheck) (report : Bytes) : Type 0 where
+  pub same : check.mark ≡ mark
+  pub carried : CarriedFrom no_pieces 0 0 check.digests report
+  pub tailed : check.digests.untailed ≤ mark.bytes
 
 -- a report that is as long as a summary says, with the tail of that
 pub record HasTail (summary : ReportMark) (report : Bytes) : Type 0 where

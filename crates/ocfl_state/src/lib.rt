@@ -3,6 +3,7 @@
 //! a power cut takes. The digests of a report by pieces.
 #![tactic(auto)]
 
+mod checking;
 mod checkpoint;
 mod checkpoint_account;
 mod checkpoint_decoding;
@@ -23,6 +24,7 @@ mod memory;
 mod observed;
 mod pieces;
 
+pub use checking::ReportCheck;
 pub use checkpoint::Checkpoint;
 pub use checkpoint_decoding::decode_checkpoint;
 pub use checkpoint_encoding::{checkpoint_lines, encode_checkpoint};

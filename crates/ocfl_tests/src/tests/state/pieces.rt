@@ -1,8 +1,8 @@
 //! The digests of reports by whole pieces. The expected values are those of Python's `hashlib`.
 use crate::tests::common::Runtime;
 use ocfl_state::{
-    MemState, PIECE_LEN, ReportDigests, ReportMark, StateFolder, digests_of_report, is_report_of,
-    resume_digests,
+    MemState, PIECE_LEN, ReportCheck, ReportDigests, ReportMark, StateFolder, digests_of_report,
+    is_report_of, resume_digests,
 };
 use std::alloc::Global;
 use std::test::Fail;
@@ -65,13 +65,19 @@ fn short_reports_have_no_pieces(rt: HostRuntime) -> Result<(), Fail> {
 }
 
 /// A report of one whole piece and the line `E092`.
-fn long(alloc: Global) -> Result<MemState, Fail> {
+fn long_text(alloc: Global) -> Result<Vec<u8>, Fail> {
     let line = b"0123456789abcde\n";
     let mut text = Vec::with_capacity(alloc, PIECE_LEN + 5)?;
     for _ in 0..PIECE_LEN / line.len() {
         text.extend_from_slice(line)?;
     }
     text.extend_from_slice(b"E092\n")?;
+    Ok(text)
+}
+
+/// A state folder with that report.
+fn long(alloc: Global) -> Result<MemState, Fail> {
+    let text = long_text(alloc)?;
     let mut folder = MemState::new(alloc);
     folder.append(text.as_slice())?;
     Ok(folder)
@@ -97,13 +103,9 @@ fn a_long_report_is_compared_and_carried_on(rt: HostRuntime) -> Result<(), Fail>
     Ok(())
 }
 
-#[test]
-fn a_report_has_one_summary(rt: HostRuntime) -> Result<(), Fail> {
-    let mut folder = MemState::new(rt.alloc());
-    folder.append(b"ok|a|1\n")?;
-    let summary = digests_of_report(&mut folder)?.summary();
-    assert!(rt; is_report_of(&mut folder, &summary)?);
-    let others = [
+/// Marks that differ from this one at one point each.
+fn others_than(summary: ReportMark) -> [ReportMark; 4] {
+    [
         ReportMark {
             bytes: summary.bytes + 1,
             ..summary
@@ -120,11 +122,67 @@ fn a_report_has_one_summary(rt: HostRuntime) -> Result<(), Fail> {
             tail: [1; 32],
             ..summary
         },
-    ];
+    ]
+}
+
+#[test]
+fn a_report_has_one_summary(rt: HostRuntime) -> Result<(), Fail> {
+    let mut folder = MemState::new(rt.alloc());
+    folder.append(b"ok|a|1\n")?;
+    let summary = digests_of_report(&mut folder)?.summary();
+    assert!(rt; is_report_of(&mut folder, &summary)?);
+    let others = others_than(summary);
     for (index, other) in others.iter().enumerate() {
         assert!(rt; !is_report_of(&mut folder, other)?, "{index}");
     }
     folder.append(b"x")?;
     assert!(rt; !is_report_of(&mut folder, &summary)?, "longer");
+    Ok(())
+}
+
+/// Whether a report has a mark, if its bytes come in two pieces.
+fn has_mark(mark: &ReportMark, first: &[u8], rest: &[u8]) -> bool {
+    let mut check = ReportCheck::new(mark);
+    check.push(first);
+    check.push(rest);
+    check.is_met()
+}
+
+#[test]
+fn a_report_is_compared_with_a_mark_while_it_comes(rt: HostRuntime) -> Result<(), Fail> {
+    for (text, lines, tail) in SHORT {
+        let mut mark = ReportDigests::new().summary();
+        (mark.bytes, mark.lines) = (text.len() as u64, lines);
+        hex::decode_to_slice(tail, &mut mark.tail)?;
+        for middle in 0..=text.len() {
+            let (first, rest) = text.as_bytes().split_at(middle);
+            assert!(rt; has_mark(&mark, first, rest), "{text}");
+            for other in others_than(mark) {
+                assert!(rt; !has_mark(&other, first, rest), "{text}");
+            }
+            assert!(rt; !has_mark(&mark, text.as_bytes(), b"x"), "{text}");
+        }
+    }
+    Ok(())
+}
+
+#[test]
+fn a_long_report_is_compared_with_a_mark(rt: HostRuntime) -> Result<(), Fail> {
+    let mut mark = ReportDigests::new().summary();
+    (mark.bytes, mark.lines) = (PIECE_LEN as u64 + 5, 262_145);
+    hex::decode_to_slice(ONE_PIECE, &mut mark.pieces)?;
+    hex::decode_to_slice(LAST_LINE, &mut mark.tail)?;
+    let text = long_text(rt.alloc())?;
+    for middle in [0, 1, PIECE_LEN - 1, PIECE_LEN, PIECE_LEN + 1, text.len()] {
+        let (first, rest) = text.split_at(middle);
+        assert!(rt; has_mark(&mark, first, rest), "{middle}");
+    }
+    assert!(rt;
+        !has_mark(&mark, &text[..PIECE_LEN], b"E093\n"),
+        "another tail"
+    );
+    assert!(rt; !has_mark(&mark, &text[1..], b"\n"), "another piece");
+    assert!(rt; !has_mark(&mark, &text[..PIECE_LEN], b""), "shorter");
+    assert!(rt; !has_mark(&mark, &text, b"\n"), "longer");
     Ok(())
 }

@@ -1,5 +1,5 @@
 //! The findings of a report by objects, as its lines come.
-ghost use Rattle.std.specs.Prelude.{◌≡◌, ◌++◌, ◌∷◌, [], Bool, List, OnOk, length, map};
+ghost use Rattle.std.specs.Prelude.{◌≡◌, ◌++◌, ◌∷◌, [], Bool, List, OnOk, false, length, map};
 ghost use Rattle.ocfl_report.specs.Line.{Line as ModelLine, line_of};
 ghost use Rattle.ocfl_messages.specs.Finding.{Finding as ModelFinding, Section, counted, counts_in, ended_with, first_section, found_in, lines_within, section_at, section_with};
 ghost use Rattle.ocfl_messages.specs.{Gathering.{told}, Gravest.{IsOf}, Tally.{IsCount, IsPlaces, is_wrong as is_wrong_line, places_of, right_in}};
@@ -67,6 +67,19 @@ impl Gathering {
         self.begin(&line)?;
         count(&mut self.right, &mut self.wrong, &self.heads, &line)?;
         keep_told(&mut self.found, &self.heads, line, is_told)
+    }
+
+    /// Takes the next line, which is not to be told: its file is counted. It is not used again if
+    /// memory runs out.
+    pub fn pass(&mut self, line: &Line) -> Result<(), AllocError>
+        ensures { OnOk result ((tells : ModelLine → Bool) (fs : List ModelFinding) (s : Section)
+            → tells (line_of line.now) ≡ false → IsGathered tells self.old fs s
+            → IsGathered tells self.new (fs ++ ended_with s (line_of line.now))
+            (section_with s (line_of line.now))) }
+    {
+        self.begin(line)?;
+        count(&mut self.right, &mut self.wrong, &self.heads, line)?;
+        Ok(())
     }
 
     /// Ends the object whose lines came, if this is a line of another one's head.

@@ -8,12 +8,7 @@ use std::alloc::Global;
 use std::test::Fail;
 
 /// What is found in these lines, which come one by one, behind the head of another object.
-fn found_in(
-    alloc: Global,
-    known: &Known,
-    report: &str,
-    is_over: bool,
-) -> Result<Gravest, Fail> {
+fn found_in(alloc: Global, known: &Known, report: &str, is_over: bool) -> Result<Gravest, Fail> {
     let before = Heads::within(alloc, b"ok\tz\t-\n")?;
     let mut found = Found::new(alloc, before);
     for text in report.split_inclusive('\n') {
@@ -24,12 +19,7 @@ fn found_in(
 }
 
 /// The lines that begin the groups of a message about these lines of a report.
-fn heads_of(
-    alloc: Global,
-    known: &Known,
-    report: &str,
-    is_over: bool,
-) -> Result<String, Fail> {
+fn heads_of(alloc: Global, known: &Known, report: &str, is_over: bool) -> Result<String, Fail> {
     let night = Night {
         root: "/srv",
         part: None,
@@ -163,24 +153,33 @@ fn files_are_counted_together(rt: HostRuntime) -> Result<(), Fail> {
 #[test]
 fn gatherings_count_what_is_not_told(rt: HostRuntime) -> Result<(), Fail> {
     let alloc = rt.alloc();
-    let mut gathering = Gathering::new(alloc, Heads::new());
-    for (text, is_told) in [
-        ("ok\to\t-\n", true),
-        ("E092\to/a\tmd5 missing\n", false),
-        ("E092\to/b\tmd5 missing\n", true),
-        ("ok\to/c\t1\n", false),
-    ] {
-        gathering.take(read_line(alloc, text.as_bytes())?, is_told)?;
+    for passes in [false, true] {
+        let mut gathering = Gathering::new(alloc, Heads::new());
+        for (text, is_told) in [
+            ("ok\to\t-\n", false),
+            ("E092\to/a\tmd5 missing\n", false),
+            ("E092\to/b\tmd5 missing\n", true),
+            ("ok\to/c\t1\n", false),
+            ("ok\tp\t-\n", false),
+            ("ok\tp/d\t1\n", false),
+        ] {
+            let line = read_line(alloc, text.as_bytes())?;
+            if passes && !is_told {
+                gathering.pass(&line)?;
+            } else {
+                gathering.take(line, is_told)?;
+            }
+        }
+        let (gravest, _) = gathering.end(true);
+        let kept = gravest.bytes.first.as_slice();
+        assert_eq!(rt; kept.len(), 1);
+        assert_eq!(rt; kept[0].line.place, place_of(alloc, "o/b")?);
+        let files = FileCounts {
+            right: 1,
+            files: 3,
+            is_whole: true,
+        };
+        assert_eq!(rt; kept[0].files, Some(files));
     }
-    let (gravest, _) = gathering.end(true);
-    let kept = gravest.bytes.first.as_slice();
-    assert_eq!(rt; kept.len(), 1);
-    assert_eq!(rt; kept[0].line.place, place_of(alloc, "o/b")?);
-    let files = FileCounts {
-        right: 1,
-        files: 3,
-        is_whole: true,
-    };
-    assert_eq!(rt; kept[0].files, Some(files));
     Ok(())
 }

@@ -1,6 +1,7 @@
 //! Which of some places are in a part.
 ghost use Rattle.std.specs.Prelude.{◌≡◌, ◌++◌, IfOk, OnOk};
-ghost use Rattle.ocfl_joining.specs.Within.{is_below as is_place_below, is_from as is_place_from, is_within as is_place_within, place_if, places_within};
+ghost use Rattle.ocfl_rules.specs.Parts.{is_below as is_place_below, is_from as is_place_from};
+ghost use Rattle.ocfl_joining.specs.Within.{is_within as is_place_within, place_if, places_within};
 
 use ocfl_tree::Place;
 use std::alloc::{AllocError, Global};

@@ -1,5 +1,5 @@
 use Rattle.std.proofs.Common.{◌≡◌, ◌∙◌, ◌++◌, ◌∷◌, [], append_assoc, inl, inr, rules, List, Option, None, arith, ap, false, refl, subst, sym}
-use Rattle.std.proofs.lemmas.{List.{append-nil}, Result.{err_from_is_err_and}}
+use Rattle.std.proofs.{Math.Nat.{le_trans}, lemmas.{List.{append-nil}, Result.{err_from_is_err_and}}}
 use Rattle.std.specs.Prelude.{IsTrue}
 use Rattle.ocfl_tree.specs.{Place.{Text}, StorageRoot.{StorageRoot}}
 use Rattle.ocfl_item.specs.Judging.{HasShortFiles}
@@ -29,6 +29,10 @@ use Rattle.ocfl_night.proofs.nights.runs.Given as given
 use Rattle.ocfl_night.proofs.nights.runs.Goals.{After-go_on_after}
 use Rattle.ocfl_night.proofs.Reasons.{counted_on, endless_before, none_counted, passed_within, put_on, put_passed, put_reason, put_run, slice_reason, stops_at, told_within, worn_after, worn_out}
 use Rattle.ocfl_night.proofs.nights.runs.Goals as goal
+
+-- a slice is made from an open checkpoint
+is_open : (g : given.Over) (c : After-go_on_after g) → c.loop-run.checkpoint.phase ≡ Open
+is_open g c = search rules
 
 -- what was looked at before a slice that was made, and in it
 module _ (g : given.Over) (c : After-go_on_after g) (tells : IsTrue g.T.Tree.told) (root : StorageRoot) (over : (g.T.Tree.state c.args.tree.now).tree ≡ root) (short : HasShortFiles root) where
@@ -81,7 +85,7 @@ module _ (g : given.Over) (c : After-go_on_after g) (told : IsTrue g.C.Clock.tol
   run = record { now = c.in-Ok.allowed.1; made = c.in_ok-made.made }
 
   may : MayBeginAt c.args.plan.now (done_of c.loop-run.tally) c.loop-run.checkpoint c.in-Ok.allowed.1
-  may = let is = c.in-Ok.ensures told in record { goes_on = search rules; in_time = is.1; files = is.2 }
+  may = let is = c.in-Ok.ensures told in record { goes_on = is_open g c; in_time = is.1; files = is.2 }
 
   is_run : IsRunOf c.args.plan.now (done_of c.loop-run.tally) c.loop-run.checkpoint run
   is_run = let is = c.in-Ok.ensures told in record { may = may; limits = c.in-Ok.allowed.0; budget = is.3; files = is.4; made = c.in_ok-made.ensures.slice }
@@ -112,7 +116,7 @@ module _ (g : given.Over) (c : After-go_on_after g) (tells : IsTrue g.T.Tree.tol
   slice_crash told t r =
       let inv = c.loop-run.invariant in
       let part = of_any (part_of c.args.part.now) in
-      let going : c.loop-run.checkpoint.phase ≡ Open = search rules in
+      let going = is_open g c in
       let next : GoesOn c.loop-run.checkpoint c.in_ok-made.made.checkpoint = inr (sym (made_in going c.in_ok-made.ensures.slice), (made_read g c tells root over short declares).stays) in
       joined_moments
       (c.slice.ensures.crash told declares tells root (inv.root tells root over short) short (inv.walk tells root over short) part t (inv.ready told tells root over short None tt t r))
@@ -217,7 +221,7 @@ returns-in-Some-clause-closed g c = λ told. c.in_ok-next.ensures.closed told �
 
 pub returns-in-Some-clause-cycle : goal.returns-in-Some-clause-cycle
 returns-in-Some-clause-cycle g c =
-    next_in c.args.plan.now.stop_at_faults (done_of c.count.new.self) (done_of c.go_on_after.new.tally) (c.in_ok-next.next, c.in_ok-next.pause) (search rules) c.in_ok-made.ensures.slice c.in_ok-next.ensures.turn ∙ c.loop-run.invariant.cycle
+    next_in c.args.plan.now.stop_at_faults (done_of c.count.new.self) (done_of c.go_on_after.new.tally) (c.in_ok-next.next, c.in_ok-next.pause) (is_open g (goal.at.returns-in-Some-clause-cycle g c).After-go_on_after) c.in_ok-made.ensures.slice c.in_ok-next.ensures.turn ∙ c.loop-run.invariant.cycle
 
 pub loop-run-preserved : goal.loop-run-preserved
 loop-run-preserved g c =
@@ -229,25 +233,25 @@ loop-run-preserved g c =
       counts = counts_then g at;
       read = λ tells root over short declares.
           read_more root (inv.counts tells root over short) (made_counts g at tells root over short) (inv.read tells root over short declares) (slice_beyond g at tells root over short declares)
-          (next_reached c.args.plan.now.stop_at_faults (done_of c.count.new.self) (done_of c.go_on_after.new.tally) (c.in_ok-next.next, c.in_ok-next.pause) (search rules) c.in_ok-made.ensures.slice c.in_ok-next.ensures.turn) (made_read g at tells root over short declares)
-          (goes_read c.args.plan.now.stop_at_faults (done_of c.count.new.self) (done_of c.go_on_after.new.tally) (c.in_ok-next.next, c.in_ok-next.pause) (search rules) c.in_ok-made.ensures.slice c.in_ok-next.ensures.turn c.in_default.is _ _);
+          (next_reached c.args.plan.now.stop_at_faults (done_of c.count.new.self) (done_of c.go_on_after.new.tally) (c.in_ok-next.next, c.in_ok-next.pause) (is_open g at) c.in_ok-made.ensures.slice c.in_ok-next.ensures.turn) (made_read g at tells root over short declares)
+          (goes_read c.args.plan.now.stop_at_faults (done_of c.count.new.self) (done_of c.go_on_after.new.tally) (c.in_ok-next.next, c.in_ok-next.pause) (is_open g at) c.in_ok-made.ensures.slice c.in_ok-next.ensures.turn c.in_default.is _ _);
       closed = λ told. c.in_ok-next.ensures.closed told ∙ c.in_ok-made.ensures.closed told ∙ inv.closed told;
-      faults = λ told. let a = inv.faults told in let b = c.in_ok-made.ensures.stop told in let d = c.in_ok-next.ensures.stop told in omega arith;
+      faults = λ told. le_trans (inv.faults told) (le_trans (c.in_ok-made.ensures.stop told) (c.in_ok-next.ensures.stop told));
       at = λ told there. c.in_ok-next.ensures.at told (c.in_ok-made.ensures.at told (inv.at told there));
-      counted = counted_on c.args.plan.now.stop_at_faults (done_of c.count.new.self) (done_of c.go_on_after.new.tally) c.args.start (c.in_ok-next.next, c.in_ok-next.pause) (search rules) c.in_ok-made.ensures.slice c.in_ok-next.ensures.turn inv.counted (one_run g at);
+      counted = counted_on c.args.plan.now.stop_at_faults (done_of c.count.new.self) (done_of c.go_on_after.new.tally) c.args.start (c.in_ok-next.next, c.in_ok-next.pause) (is_open g at) c.in_ok-made.ensures.slice c.in_ok-next.ensures.turn inv.counted (one_run g at);
       passed = let one = one_run g at in omega (arith, inv.passed, c.loop-run-test.true);
-      leads = grown_on inv.leads (turned g at (search rules) c.in_ok-next.ensures.turn);
-      cycle = next_in c.args.plan.now.stop_at_faults (done_of c.count.new.self) (done_of c.go_on_after.new.tally) (c.in_ok-next.next, c.in_ok-next.pause) (search rules) c.in_ok-made.ensures.slice c.in_ok-next.ensures.turn ∙ inv.cycle;
+      leads = grown_on inv.leads (turned g at (is_open g at) c.in_ok-next.ensures.turn);
+      cycle = next_in c.args.plan.now.stop_at_faults (done_of c.count.new.self) (done_of c.go_on_after.new.tally) (c.in_ok-next.next, c.in_ok-next.pause) (is_open g at) c.in_ok-made.ensures.slice c.in_ok-next.ensures.turn ∙ inv.cycle;
       told = λ told. run_more (run g at told) (inv.told told) (heard g at told) (is_run g at told) (led_by c.args.plan.now (done_of c.loop-run.tally) c.in-Ok.allowed.1 (may g at told).goes_on c.in_ok-made.ensures.slice c.begin.ensures.done c.count.ensures.done c.in_ok-next.ensures.turn ∙ ap (λ (o : Option Pause). turn_of (done_of c.go_on_after.new.tally) (c.in_ok-next.next, o)) c.in_default.is);
       failed = λ told tells root over short. failed_then g at told tells root over short;
       again = λ told folder_told declares tells root over short named t r.
           little_more (inv.again told folder_told declares tells root over short named t r) inv.cycle (g.T.Tree.state c.slice.new.tree) c.go_on_after.new.folder
           (slice_beyond g at tells root over short declares) (slice_once g at tells root over short declares) (slice_crash g at tells root over short declares folder_told t r) (inv.at folder_told r.at)
           (run g at told) (heard g at told) (slice_asked g at tells root over short named) (slice_took g at tells root over short declares) (made_read g at tells root over short declares).stays
-          (next_reached c.args.plan.now.stop_at_faults (done_of c.count.new.self) (done_of c.go_on_after.new.tally) (c.in_ok-next.next, c.in_ok-next.pause) (search rules) c.in_ok-made.ensures.slice c.in_ok-next.ensures.turn)
-          (goes_on_by c.args.plan.now.stop_at_faults (done_of c.count.new.self) (done_of c.go_on_after.new.tally) (c.in_ok-next.next, c.in_ok-next.pause) (search rules) c.in_ok-made.ensures.slice c.in_ok-next.ensures.turn c.in_default.is)
+          (next_reached c.args.plan.now.stop_at_faults (done_of c.count.new.self) (done_of c.go_on_after.new.tally) (c.in_ok-next.next, c.in_ok-next.pause) (is_open g at) c.in_ok-made.ensures.slice c.in_ok-next.ensures.turn)
+          (goes_on_by c.args.plan.now.stop_at_faults (done_of c.count.new.self) (done_of c.go_on_after.new.tally) (c.in_ok-next.next, c.in_ok-next.pause) (is_open g at) c.in_ok-made.ensures.slice c.in_ok-next.ensures.turn c.in_default.is)
           (c.in_ok-next.ensures.at folder_told (c.in_ok-made.ensures.at folder_told (inv.at folder_told r.at)))
-          (same_cursor c.args.plan.now.stop_at_faults (done_of c.count.new.self) (done_of c.go_on_after.new.tally) (c.in_ok-next.next, c.in_ok-next.pause) (search rules) c.in_ok-made.ensures.slice c.in_ok-next.ensures.turn)
+          (same_cursor c.args.plan.now.stop_at_faults (done_of c.count.new.self) (done_of c.go_on_after.new.tally) (c.in_ok-next.next, c.in_ok-next.pause) (is_open g at) c.in_ok-made.ensures.slice c.in_ok-next.ensures.turn)
           (c.go_on_after.ensures.met c.in_ok-made.ensures.met);
       left = λ may. c.go_on_after.ensures.left (subst (MayLeave c.args.plan.now.stop_at_faults) (sym (ap (λ (x : Done). x.left) c.count.ensures.done ∙ ap (λ (x : Done). x.left) c.begin.ensures.done)) (inv.left may));
       root = λ tells root over short. c.slice.ensures.root tells root (inv.root tells root over short) short (inv.walk tells root over short);
@@ -283,7 +287,9 @@ returns-in-Some-clause-told g c = λ told.
     and_then (events_of (run g at told)) (c.loop-run.invariant.told told) (heard g at told) (paused c.in-Some.pause (is_run g at told) halts)
 
 pub returns-in-Some-clause-leads : goal.returns-in-Some-clause-leads
-returns-in-Some-clause-leads g c = grown_on c.loop-run.invariant.leads (turned g (goal.at.returns-in-Some-clause-leads g c).After-go_on_after (search rules) c.in_ok-next.ensures.turn)
+returns-in-Some-clause-leads g c =
+    let at = (goal.at.returns-in-Some-clause-leads g c).After-go_on_after in
+    grown_on c.loop-run.invariant.leads (turned g at (is_open g at) c.in_ok-next.ensures.turn)
 
 pub returns-then-ne-clause-stop : goal.returns-then-ne-clause-stop
 returns-then-ne-clause-stop g c = λ may given. c.loop-run.invariant.faults given.folder
@@ -293,10 +299,7 @@ returns-in-Err-clause-stop g c = λ may given. c.loop-run.invariant.faults given
 
 pub returns-in-Some-clause-stop : goal.returns-in-Some-clause-stop
 returns-in-Some-clause-stop g c = λ may given.
-    let a = c.loop-run.invariant.faults given.folder in
-    let b = c.in_ok-made.ensures.stop given.folder in
-    let d = c.in_ok-next.ensures.stop given.folder in
-    omega arith
+    le_trans (c.loop-run.invariant.faults given.folder) (le_trans (c.in_ok-made.ensures.stop given.folder) (c.in_ok-next.ensures.stop given.folder))
 
 pub returns-in_err-made-clause-stop : goal.returns-in_err-made-clause-stop
 returns-in_err-made-clause-stop g c = λ may.
@@ -324,14 +327,14 @@ returns-in_err-next-clause-stop g c = λ may.
     let why = c.in_err-next.field-0.0 in
     let at = (goal.at.returns-in_err-next-clause-stop g c).After-go_on_after in
     let inv = c.loop-run.invariant in
-    let going : c.loop-run.checkpoint.phase ≡ Open = search rules in
+    let going = is_open g at in
     let there = (t : Text) × IsReady g.S.StateFolder (of_any (part_of c.args.part.now)) t c.args.start c.args.folder.now in
     let given = IsGiven g.S.StateFolder.told g.T.Tree.told (g.T.Tree.state c.args.tree.now) there in
     stops_at given (ForRuns ⊥ c.args.start c.go_on_after.new.tally.runs) _ _ r why (cc (p.1, p.2))
     (put_reason (IsTrue g.S.StateFolder.told) given ⊥ (IsPassedBy c.in_ok-made.made) c.args.start c.go_on_after.new.tally.runs _ (g.S.StateFolder.faults c.slice.new.folder) _ why
     (λ l passed. put_on inv.leads.alike inv.cycle (put_passed going c.in_ok-made.ensures.slice passed))
     (λ x. x.folder)
-    (λ x. let a = c.loop-run.invariant.faults x.folder in let b = c.in_ok-made.ensures.stop x.folder in omega arith)
+    (λ x. le_trans (c.loop-run.invariant.faults x.folder) (c.in_ok-made.ensures.stop x.folder))
     (λ x l passed. passed_within c.in_ok-made.made (told_within (made_ready g at x.store _ refl x.short None tt x.folder x.holds.0 x.holds.1).stands) passed)
     c.in_err-next.ensures.stop)
 
@@ -373,8 +376,8 @@ pub returns-in-Some-clause-read : goal.returns-in-Some-clause-read
 returns-in-Some-clause-read g c = λ declares tells root over short.
     let at = (goal.at.returns-in-Some-clause-read g c).After-go_on_after in
     read_last root (c.loop-run.invariant.counts tells root over short) (made_counts g at tells root over short) (c.loop-run.invariant.read tells root over short declares) (slice_beyond g at tells root over short declares)
-    (next_reached c.args.plan.now.stop_at_faults (done_of c.count.new.self) (done_of c.go_on_after.new.tally) (c.in_ok-next.next, c.in_ok-next.pause) (search rules) c.in_ok-made.ensures.slice c.in_ok-next.ensures.turn) (made_read g at tells root over short declares)
-    (halts_read c.args.plan.now.stop_at_faults (done_of c.count.new.self) (done_of c.go_on_after.new.tally) (c.in_ok-next.next, c.in_ok-next.pause) (search rules) c.in_ok-made.ensures.slice c.in_ok-next.ensures.turn c.in-Some.is _ _ c.in_ok-next.next.cursor.cycle)
+    (next_reached c.args.plan.now.stop_at_faults (done_of c.count.new.self) (done_of c.go_on_after.new.tally) (c.in_ok-next.next, c.in_ok-next.pause) (is_open g at) c.in_ok-made.ensures.slice c.in_ok-next.ensures.turn) (made_read g at tells root over short declares)
+    (halts_read c.args.plan.now.stop_at_faults (done_of c.count.new.self) (done_of c.go_on_after.new.tally) (c.in_ok-next.next, c.in_ok-next.pause) (is_open g at) c.in_ok-made.ensures.slice c.in_ok-next.ensures.turn c.in-Some.is _ _ c.in_ok-next.next.cursor.cycle)
 
 pub returns-then-ne-clause-read : goal.returns-then-ne-clause-read
 returns-then-ne-clause-read g c = λ declares tells root over short. read_all _ (c.loop-run.invariant.read tells root over short declares)

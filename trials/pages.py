@@ -40,6 +40,7 @@ NO_COMMANDS = {
     "ocfl-scrub-reports statement --seal ": "needs keys, which trials/statements.py makes",
     "Subject: ": "a message, which docs/message makes",
     "Fixity of ": "a page, which docs/message makes",
+    "# The controller wrote ": "a file of known findings",
 }
 # Statuses of commands that may end otherwise than with 0: the sample has a damaged file.
 ENDS = [(r"# still E092", {1}), (r"# ok$|# the rest of its object", {0}),
@@ -59,6 +60,8 @@ THEN = {
         "cp -R ~/audit /var/lib/ocfl-scrub/archive",
         "mkdir -p /mnt/copy/letters/v1/content",
         "echo 'Yours sincerely' > /mnt/copy/letters/v1/content/damaged.txt"],
+    "ocfl-scrub-reports expected ~/audit > ~/objects": [
+        "mkdir /mnt/new", "cp -R /srv/ocfl /mnt/new/ocfl"],
     "/usr/local/share/ocfl-scrub/nightly --create --state /var/lib/audit \\\n    --until 06:00 "
     "/srv/ocfl": [
         "/usr/local/share/ocfl-scrub/nightly --state /var/lib/audit --hours 1 /srv/ocfl"],

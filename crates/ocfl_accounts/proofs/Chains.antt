@@ -1,11 +1,11 @@
 -- What closings say over several calls.
 use Rattle.std.proofs.Common.{◌≡◌, ◌⊎◌, inl, inr, ⊎_elim, ℕ, zero, suc, ◌+◌, ◌≤◌, ◌<◌, List, [], ◌∷◌, ◌++◌, map, length, Bool, true, false, Option, Some, None, max, refl, sym, ap, subst, ◌∙◌, arith}
 use Rattle.std.proofs.{Math.Nat.{eq-or-lt_of_le}, lemmas.Bool.{eqb-true, false≢true}}
-use Rattle.std.specs.{Prelude.{◌==◌, ◌||◌, ◌&&◌, cond, not}, List.{list_any}}
+use Rattle.std.specs.Prelude.{◌==◌, ◌&&◌, cond, not}
 use Rattle.ocfl_tree.specs.{Ascending.{IsAmong}, Place.{Text}}
 use Rattle.ocfl_compare.specs.declared.change.ChangeAt.{ChangeAt}
-use Rattle.ocfl_accounts.specs.{Kept.{Kept, Account, with_account}, Crash.{Outcomes, Passes, After}, Said.{Said, Grows}}
-use Rattle.ocfl_accounts.specs.Telling.{Stand, Outcome, IsAccountSaid, IsSettled, MayAccount, account_of, IsOutcomeFor, AreOutcomes, AreSaid, greatest_from}
+use Rattle.ocfl_accounts.specs.{Kept.{Kept, Account, HasAccount, account_of, is_some, with_account, with_list, with_lists}, Crash.{Outcomes, Passes, After}, Said.{Said, Grows}}
+use Rattle.ocfl_accounts.specs.Telling.{Stand, Outcome, IsAccountSaid, IsSettled, MayAccount, IsOutcomeFor, AreOutcomes, AreSaid, greatest_from}
 use Rattle.ocfl_accounts.specs.{Rounds.{Told, AreTold, MayAccounts, account_told}, Calls.{Call, AreCalls, left_by, IsSaidIn, WasSaid, IsDoneIn}}
 use Rattle.ocfl_accounts.specs.{declared.{closings.ClosingStop.{ClosingStop}, pair.Pair.{Pair}}}
 use Rattle.ocfl_accounts.specs.{Cycle.{is_there}, Pairs.{waits}, Unsaid.{NoneUnsaid, is_unsaid, oldest}}
@@ -13,12 +13,23 @@ use Rattle.ocfl_accounts.proofs.{Outputs.{grows_none, grows_on}, Rounds.{said_be
 
 -- it was among the accounts of one of these outcomes
 abbrev WasKept : Outcomes → Account → Type 0
-WasKept outcomes a = (k : Kept) × (outcomes k × IsAmong k.accounts a)
+WasKept outcomes a = (k : Kept) × (outcomes k × HasAccount k a)
 
-in_either : {A : Type 0} (xs ys : List A) (a : A) → IsAmong (xs ++ ys) a → IsAmong xs a ⊎ IsAmong ys a
-in_either [] ys a is = inr is
-in_either (x ∷ xs) ys a (inl e) = inl (inl e)
-in_either (x ∷ xs) ys a (inr is) = ⊎_elim (λ l. inl (inr l)) (λ r. inr r) (in_either xs ys a is)
+some_same : (s t : Text) → Some s ≡ Some t → s ≡ t
+some_same s t e = cc
+
+-- an account that is there after others were put was there before, or is one of these
+had_or_put : (accounts : List Account) (lists : ℕ → Option Text) (a : Account) → with_lists accounts lists a.cycle ≡ Some a.list → (lists a.cycle ≡ Some a.list) ⊎ IsAmong accounts a
+had_or_put [] lists a is = inl is
+had_or_put (x ∷ accounts) lists a is = of (had_or_put accounts (with_list x lists) a is)
+  where
+    by : (b : Bool) → (x.cycle == a.cycle) ≡ b → cond b (Some x.list) (lists a.cycle) ≡ Some a.list → (lists a.cycle ≡ Some a.list) ⊎ IsAmong (x ∷ accounts) a
+    by true e f = inr (inl (λ i. record { cycle = sym (eqb-true x.cycle a.cycle e) i; list = sym (some_same x.list a.list f) i }))
+    by false e f = inl f
+
+    of : (with_list x lists a.cycle ≡ Some a.list) ⊎ IsAmong accounts a → (lists a.cycle ≡ Some a.list) ⊎ IsAmong (x ∷ accounts) a
+    of (inl f) = by (x.cycle == a.cycle) refl f
+    of (inr among) = inr (inr among)
 
 module _ (k : Kept) (text : Pair → List ChangeAt → Text) where
   told_grows : (low high : ℕ) (s t : Said) (told : List Told) → AreTold k text low high s t told → Grows s t
@@ -38,10 +49,10 @@ module _ {F : Type 0} (seen : F → Kept) (may_leave : F → Outcomes) (moment :
     (text : Pair → List ChangeAt → Text) where
   -- an account that a crash of one call leaves was there before, or was said in it
   one_call : (c : Call F) → Passes may_leave moment left_since (MayAccounts (seen c.began) text c.first c.end c.before c.after) c.began c.ended
-      → (k : Kept) → left_since c.ended (moment c.began) k → (a : Account) → IsAmong k.accounts a → WasKept (may_leave c.began) a ⊎ IsSaidIn seen text a c
+      → (k : Kept) → left_since c.ended (moment c.began) k → (a : Account) → HasAccount k a → WasKept (may_leave c.began) a ⊎ IsSaidIn seen text a c
   one_call c p k left a is = by (p.meanwhile (moment c.began) k (omega arith) left)
     where
-      from : (d : Kept) → may_leave c.began d → (told : List Told) → AreTold (seen c.began) text c.first c.end c.before c.after told → IsAmong d.accounts a ⊎ IsAmong (map account_told told) a → WasKept (may_leave c.began) a ⊎ IsSaidIn seen text a c
+      from : (d : Kept) → may_leave c.began d → (told : List Told) → AreTold (seen c.began) text c.first c.end c.before c.after told → HasAccount d a ⊎ IsAmong (map account_told told) a → WasKept (may_leave c.began) a ⊎ IsSaidIn seen text a c
       from d m told are (inl old) = inl (d, (m, old))
       from d m told are (inr new) =
           let r = told_among (seen c.began) text c.first c.end c.before c.after told a are new in
@@ -49,16 +60,16 @@ module _ {F : Type 0} (seen : F → Kept) (may_leave : F → Outcomes) (moment :
 
       by : left_since c.began (moment c.began) k ⊎ After (MayAccounts (seen c.began) text c.first c.end c.before c.after) (may_leave c.began) k → WasKept (may_leave c.began) a ⊎ IsSaidIn seen text a c
       by (inl old) = inl (k, (only_now c.began k old, is))
-      by (inr h) = from h.0 h.1 h.2.0 h.2.1.0 (in_either h.0.accounts (map account_told h.2.0) a (subst (λ d. IsAmong d.accounts a) h.2.1.1 is))
+      by (inr h) = from h.0 h.1 h.2.0 h.2.1.0 (had_or_put (map account_told h.2.0) h.0.lists a (subst (λ d. HasAccount d a) h.2.1.1 is))
 
   -- or over several
   pub each_said : (outcomes : Outcomes) (calls : List (Call F)) → AreCalls seen may_leave moment left_since text outcomes calls
-      → (k : Kept) → left_by moment left_since outcomes calls k → (a : Account) → IsAmong k.accounts a → WasKept outcomes a ⊎ WasSaid seen text a calls
+      → (k : Kept) → left_by moment left_since outcomes calls k → (a : Account) → HasAccount k a → WasKept outcomes a ⊎ WasSaid seen text a calls
   each_said outcomes [] h k left a is = inl (k, (left, is))
   each_said outcomes (c ∷ calls) h k left a is = rest (each_said (left_since c.ended (moment c.began)) calls h.2 k left a is)
     where
       here : WasKept (may_leave c.began) a ⊎ IsSaidIn seen text a c → WasKept outcomes a ⊎ WasSaid seen text a (c ∷ calls)
-      here (inl d) = let e = h.0 d.0 d.1.0 in inl (e.0, (e.1, subst (λ x. IsAmong x.accounts a) e.2 d.1.1))
+      here (inl d) = let e = h.0 d.0 d.1.0 in inl (e.0, (e.1, subst (λ x. HasAccount x a) e.2 d.1.1))
       here (inr said) = inr (inl said)
 
       rest : WasKept (left_since c.ended (moment c.began)) a ⊎ WasSaid seen text a calls → WasKept outcomes a ⊎ WasSaid seen text a (c ∷ calls)
@@ -66,11 +77,11 @@ module _ {F : Type 0} (seen : F → Kept) (may_leave : F → Outcomes) (moment :
       rest (inr said) = inr (inr said)
 
   pub each_said_from : (first : Kept) (calls : List (Call F)) → AreCalls seen may_leave moment left_since text (λ k. k ≡ first) calls
-      → (k : Kept) → left_by moment left_since (λ d. d ≡ first) calls k → (a : Account) → IsAmong k.accounts a → IsAmong first.accounts a ⊎ WasSaid seen text a calls
+      → (k : Kept) → left_by moment left_since (λ d. d ≡ first) calls k → (a : Account) → HasAccount k a → HasAccount first a ⊎ WasSaid seen text a calls
   each_said_from first calls h k left a is = by (each_said (λ d. d ≡ first) calls h k left a is)
     where
-      by : WasKept (λ d. d ≡ first) a ⊎ WasSaid seen text a calls → IsAmong first.accounts a ⊎ WasSaid seen text a calls
-      by (inl was) = inl (subst (λ d. IsAmong d.accounts a) was.1.0 was.1.1)
+      by : WasKept (λ d. d ≡ first) a ⊎ WasSaid seen text a calls → HasAccount first a ⊎ WasSaid seen text a calls
+      by (inl was) = inl (subst (λ d. HasAccount d a) was.1.0 was.1.1)
       by (inr said) = inr said
 
 upto_or_below : (n m : ℕ) → (n ≤ m) ⊎ (m < n)
@@ -86,11 +97,6 @@ greatest_least s (o ∷ os) = let more = greatest_least (max s o.status) os in o
 abbrev KeptAfter : Kept → ℕ → Kept → Type 0
 KeptAfter k cycle after = (after ≡ k) ⊎ ((changes : List ChangeAt) × (after ≡ with_account (account_of cycle changes) k))
 
--- one more of which a test does not hold
-any_same : {A : Type 0} (test : A → Bool) (xs : List A) (a : A) → test a ≡ false → list_any test (xs ++ a ∷ []) ≡ list_any test xs
-any_same test [] a none = ap (λ b. b || false) none
-any_same test (x ∷ xs) a none = ap (λ b. test x || b) (any_same test xs a none)
-
 differ : (n m : ℕ) → (n ≡ m → ⊥) → (n == m) ≡ false
 differ n m other = by (n == m) refl
   where
@@ -102,7 +108,7 @@ differ n m other = by (n == m) refl
 unsaid_same : (k after : Kept) (first cycle : ℕ) → (first ≡ cycle → ⊥) → KeptAfter k first after → is_unsaid after cycle ≡ is_unsaid k cycle
 unsaid_same k after first cycle other (inl e) = ap (λ d. is_unsaid d cycle) e
 unsaid_same k after first cycle other (inr put) =
-    ap (λ d. is_unsaid d cycle) put.1 ∙ ap (λ b. not b && is_there (k.sights cycle)) (any_same (λ a. a.cycle == cycle) k.accounts (account_of first put.0) (differ first cycle other))
+    ap (λ d. is_unsaid d cycle) put.1 ∙ ap (λ b. not (is_some (cond b (Some (account_of first put.0).list) (k.lists cycle))) && is_there (k.sights cycle)) (differ first cycle other)
 
 settled_before : (k after : Kept) (first cycle : ℕ) → first < cycle → KeptAfter k first after → IsSettled after cycle → IsSettled k cycle
 settled_before k after first cycle later kept settled = sym (unsaid_same k after first cycle (λ e. omega (arith, e, later)) kept) ∙ settled

@@ -2,8 +2,8 @@
 use Rattle.std.proofs.Common.{◌≡◌, ◌⊎◌, inl, inr, ℕ, ◌≤◌, List, refl, sym, ap, subst, ◌∙◌, arith}
 use Rattle.ocfl_tree.specs.Place.{Text}
 use Rattle.ocfl_compare.specs.declared.change.ChangeAt.{ChangeAt}
-use Rattle.ocfl_accounts.specs.{Kept.{Kept, with_account}, Crash.{Step, Same, MayPut, Outcomes, After, Passes}, Said.{Said}}
-use Rattle.ocfl_accounts.specs.{Telling.{IsAccountSaid, MayAccount, account_of}, declared.pair.Pair.{Pair}}
+use Rattle.ocfl_accounts.specs.{Kept.{Kept, account_of, with_account}, Crash.{Step, Same, MayPut, Outcomes, After, Passes}, Said.{Said}}
+use Rattle.ocfl_accounts.specs.{Telling.{IsAccountSaid, MayAccount}, declared.pair.Pair.{Pair}}
 
 -- where the account of what was said may be put, the account of the cycle may
 pub may_account : (k : Kept) (cycle : ℕ) (text : Pair → List ChangeAt → Text) (old new : Said) (pair : Pair) (changes : List ChangeAt) → IsAccountSaid k cycle text old new pair changes

@@ -1,23 +1,28 @@
 -- What a crash leaves after one more cycle.
-use Rattle.std.proofs.Common.{◌≡◌, ◌⊎◌, inl, inr, ℕ, ◌+◌, ◌≤◌, List, [], ◌∷◌, ◌++◌, map, Bool, true, false, Option, Some, None, refl, sym, ap, subst, ◌∙◌, arith, append_assoc}
-use Rattle.std.proofs.lemmas.List.{append-nil}
-use Rattle.std.specs.{Prelude.{◌||◌, ◌==◌}, List.{list_any}}
+use Rattle.std.proofs.Common.{◌≡◌, ◌⊎◌, inl, inr, ℕ, ◌+◌, ◌≤◌, List, [], ◌∷◌, ◌++◌, map, Bool, true, false, Option, Some, None, refl, sym, ap, subst, ◌∙◌, arith}
+use Rattle.std.proofs.lemmas.Bool.{false≢true}
+use Rattle.std.specs.Prelude.{◌==◌, cond}
 use Rattle.ocfl_tree.specs.Place.{Text}
 use Rattle.ocfl_compare.specs.declared.change.ChangeAt.{ChangeAt}
-use Rattle.ocfl_accounts.specs.{Kept.{Kept, Account, with_account, with_accounts}, Said.{Said, Grows}}
+use Rattle.ocfl_accounts.specs.{Kept.{Kept, Account, is_some, has_account, with_account, with_accounts, with_list, with_lists}, Said.{Said, Grows}}
 use Rattle.ocfl_accounts.specs.{Cycle.{Cycle}, Changes.{AreFound, IsSince, IsSinceWhole}}
 use Rattle.ocfl_accounts.specs.{Crash.{Outcomes, Passes}, Telling.{IsAccountSaid, MayAccount}}
 use Rattle.ocfl_accounts.specs.{Rounds.{Told, AreTold, MayAccounts, account_told}, declared.pair.Pair.{Pair}}
 use Rattle.ocfl_accounts.proofs.{Outputs.{grows_none, grows_on}, Passing.{passes_then}}
 
--- what is not among more of them is not among these
-pub not_among : {A : Type 0} (test : A → Bool) (xs ys : List A) → list_any test (xs ++ ys) ≡ false → list_any test xs ≡ false
-not_among test [] ys e = refl
-not_among test (x ∷ xs) ys e = by (test x) e (λ f. not_among test xs ys f)
+-- a cycle without an account after others were put had none before
+pub none_before : (accounts : List Account) (lists : ℕ → Option Text) (cycle : ℕ) → is_some (with_lists accounts lists cycle) ≡ false → is_some (lists cycle) ≡ false
+none_before [] lists cycle e = e
+none_before (a ∷ accounts) lists cycle e = by (a.cycle == cycle) (none_before accounts (with_list a lists) cycle e)
   where
-    by : (b : Bool) → (b || list_any test (xs ++ ys)) ≡ false → (list_any test (xs ++ ys) ≡ false → list_any test xs ≡ false) → (b || list_any test xs) ≡ false
-    by true f g = f
-    by false f g = g f
+    by : (b : Bool) → is_some (cond b (Some a.list) (lists cycle)) ≡ false → is_some (lists cycle) ≡ false
+    by true f = absurd (false≢true (sym f))
+    by false f = f
+
+-- one more account is put
+pub lists_more : (accounts : List Account) (a : Account) (lists : ℕ → Option Text) → with_list a (with_lists accounts lists) ≡ with_lists (accounts ++ a ∷ []) lists
+lists_more [] a lists = refl
+lists_more (b ∷ accounts) a lists = lists_more accounts a (with_list b lists)
 
 -- what was found does not hang on accounts
 found_before : (k : Kept) (accounts : List Account) (pair : Pair) (changes : List ChangeAt) → AreFound (with_accounts accounts k) pair changes → AreFound k pair changes
@@ -36,7 +41,7 @@ module _ (k : Kept) (text : Pair → List ChangeAt → Text) where
   pub said_before : (accounts : List Account) (cycle : ℕ) (s t : Said) (pair : Pair) (changes : List ChangeAt) → IsAccountSaid (with_accounts accounts k) cycle text s t pair changes → IsAccountSaid k cycle text s t pair changes
   said_before accounts cycle s t pair changes h = record {
     is = h.is;
-    unsaid = not_among (λ a. a.cycle == cycle) k.accounts accounts h.unsaid;
+    unsaid = none_before accounts k.lists cycle h.unsaid;
     pair_is = h.pair_is;
     changes_are = (h.changes_are.0, λ e. found_before k accounts pair changes (h.changes_are.1 e));
     said = h.said;
@@ -72,7 +77,7 @@ module _ (k : Kept) (text : Pair → List ChangeAt → Text) where
   may_within low n end s t bound x y h = (h.0, (within low n end s t h.0 bound h.1.0, h.1.1))
 
   map_more : (told : List Told) (x : Told) (d : Kept) → with_account (account_told x) (with_accounts (map account_told told) d) ≡ with_accounts (map account_told (told ++ x ∷ [])) d
-  map_more told x d = ap (λ l. record { sights = d.sights; reports = d.reports; listed = d.listed; accounts = l }) (append_assoc d.accounts (map account_told told) (account_told x ∷ []) ∙ ap (λ l. d.accounts ++ l) (mapped told))
+  map_more told x d = ap (λ l. record { sights = d.sights; reports = d.reports; listed = d.listed; lists = l }) (lists_more (map account_told told) (account_told x) d.lists ∙ ap (λ l. with_lists l d.lists) (mapped told))
     where
       mapped : (told : List Told) → map account_told told ++ account_told x ∷ [] ≡ map account_told (told ++ x ∷ [])
       mapped [] = refl
@@ -105,4 +110,4 @@ module _ (k : Kept) (text : Pair → List ChangeAt → Text) where
 
   -- nothing was said yet
   pub none_told : (low : ℕ) (s : Said) (x : Kept) → MayAccounts k text low low s s x x
-  none_told low s x = ([], (grows_none s, λ i. record { sights = x.sights; reports = x.reports; listed = x.listed; accounts = sym (append-nil x.accounts) i }))
+  none_told low s x = ([], (grows_none s, refl))

@@ -1,7 +1,8 @@
 -- The changes of a closed cycle.
-use Rattle.std.specs.Prelude.{◌≡◌, List, [], ◌++◌, true, false, filter, Option, Some, None}
-use Rattle.ocfl_tree.specs.Place.{Place}
-use Rattle.ocfl_compare.specs.{Changes.{is_left}, Compared.{IsCompared}, Expected.{IsSearched}}
+use Rattle.std.specs.Prelude.{◌≡◌, List, [], ◌++◌, Bool, true, false, filter, Option, Some, None}
+use Rattle.std.specs.List.{list_any}
+use Rattle.ocfl_tree.specs.Place.{Text, Place}
+use Rattle.ocfl_compare.specs.{Changes.{is_left}, Compared.{IsCompared}, Expected.{IsSearched}, Gone.{gone_text}}
 use Rattle.ocfl_compare.specs.declared.change.ChangeAt.{ChangeAt}
 use Rattle.ocfl_accounts.specs.{Cycle.{Cycle}, Kept.{Kept}, declared.pair.Pair.{Pair}}
 
@@ -33,3 +34,12 @@ pub record AreFound (k : Kept) (pair : Pair) (changes : List ChangeAt) : Type 0 
 -- of a cycle whose report lost lines nothing is said
 abbrev pub AreChanges : Kept → Pair → List ChangeAt → Type 0
 AreChanges k pair changes = (pair.closed.lost ≡ true → changes ≡ []) × (pair.closed.lost ≡ false → AreFound k pair changes)
+
+-- these changes are found, what is said of them is this text, by which something is new or gone or
+-- not, and the list of what is gone has a row for each that makes something gone
+pub record Finds (k : Kept) (pair : Pair) (says : Pair → List ChangeAt → Text) (news : ChangeAt → Bool) (text : Text) (is_grave : Bool) (list : Text) : Type 0 where
+  pub changes : List ChangeAt
+  pub are : AreChanges k pair changes
+  pub said : text ≡ says pair changes
+  pub grave : is_grave ≡ list_any news changes
+  pub listed : list ≡ gone_text changes

@@ -1,11 +1,11 @@
 -- Closed reports in memory, and an output in memory.
-use Rattle.std.specs.Prelude.{◌≡◌, ℕ, ◌≤◌, ◌==◌, ◌%◌, List, [], ◌∷◌, Bool, true, false, Option, Some, None, length, take}
+use Rattle.std.specs.Prelude.{◌≡◌, ℕ, ◌≤◌, ◌==◌, ◌%◌, List, [], ◌∷◌, ◌++◌, Bool, true, false, Option, Some, None, length, take}
 use Rattle.std.proofs.{Common.{◌∙◌, arith, sym}, lemmas.List.{take_all}}
 use Rattle.std.specs.List.{find}
 use Rattle.ocfl_tree.specs.Place.{Text, Place}
 use Rattle.ocfl_compare.specs.declared.change.{Change.{Change}, ChangeAt.{ChangeAt}}
 use Rattle.ocfl_compare.specs.declared.change.Change.TheVariants.{Gone, Undeclared, FileGone, Unlooked, Found, Repaired, Missing}
-use Rattle.ocfl_accounts.specs.{Cycle.{Cycle, Sight, there, away}, Crash.{Outcomes}, Kept.{Kept, Account}, Said.{Said}}
+use Rattle.ocfl_accounts.specs.{Cycle.{Cycle, Sight, there, away}, Crash.{Outcomes}, Kept.{Kept, Account, no_lists, with_lists}, Said.{Said}}
 use Rattle.ocfl_accounts.specs.declared.pair.Pair.{Pair}
 
 -- a closed cycle, and the bytes of its report, if that is there
@@ -37,7 +37,7 @@ kept_by held listed accounts = record {
   sights = λ cycle. sight_in (held_of held cycle);
   reports = λ cycle. report_in (held_of held cycle);
   listed = listed;
-  accounts = accounts;
+  lists = with_lists accounts no_lists;
 }
 
 -- the cycles, the objects that must be there, and the accounts that were put
@@ -49,35 +49,38 @@ pub record Content : Type 0 where
 abbrev pub kept_of : Content → Kept
 kept_of c = kept_by c.held c.listed c.accounts
 
--- what it holds, what was found last, how often a call has failed, which of the following calls fails,
+-- with one account more, and with the first of them alone
+abbrev pub content_and : Account → Content → Content
+content_and a c = record { held = c.held; listed = c.listed; accounts = c.accounts ++ a ∷ [] }
+
+abbrev pub content_with : ℕ → Content → Content
+content_with n c = record { held = c.held; listed = c.listed; accounts = take n c.accounts }
+
+-- what it holds, the list of what was found last, how often a call has failed, which of the following calls fails,
 -- counted from 1, and whether all after that one fail too
 pub record Folder : Type 0 where
   pub content : Content
-  pub found : List ChangeAt
+  pub found : Text
   pub faults : ℕ
   pub call : Option ℕ
   pub ends : Bool
-
--- what was kept when there were so many accounts
-abbrev pub kept_with : ℕ → Kept → Kept
-kept_with n k = record { sights = k.sights; reports = k.reports; listed = k.listed; accounts = take n k.accounts }
 
 -- accounts are on the disk once they are put
 abbrev pub leaves_now : Folder → Outcomes
 leaves_now f k = k ≡ kept_of f.content
 
 abbrev pub left_since : Folder → ℕ → Outcomes
-left_since f t k = (n : ℕ) × ((t ≤ n) × ((n ≤ length f.content.accounts) × (k ≡ kept_with n (kept_of f.content))))
+left_since f t k = (n : ℕ) × ((t ≤ n) × ((n ≤ length f.content.accounts) × (k ≡ kept_of (content_with n f.content))))
 
 -- The laws of the trait: what a crash may leave now is what it leaves since this moment.
-pub all_kept : (n : ℕ) (k : Kept) → length k.accounts ≤ n → kept_with n k ≡ k
-all_kept n k le = λ i. record { sights = k.sights; reports = k.reports; listed = k.listed; accounts = take_all n k.accounts le i }
+pub all_kept : (n : ℕ) (c : Content) → length c.accounts ≤ n → kept_of (content_with n c) ≡ kept_of c
+all_kept n c le = λ i. kept_of (record { held = c.held; listed = c.listed; accounts = take_all n c.accounts le i })
 
 pub counts_now : (f : Folder) (t : ℕ) (k : Kept) → t ≤ length f.content.accounts → leaves_now f k → left_since f t k
-counts_now f t k le now = (length f.content.accounts, (le, (omega arith, now ∙ sym (all_kept (length f.content.accounts) (kept_of f.content) (omega arith)))))
+counts_now f t k le now = (length f.content.accounts, (le, (omega arith, now ∙ sym (all_kept (length f.content.accounts) f.content (omega arith)))))
 
 pub only_now : (f : Folder) (k : Kept) → left_since f (length f.content.accounts) k → leaves_now f k
-only_now f k left = left.1.1.1 ∙ all_kept left.0 (kept_of f.content) left.1.0
+only_now f k left = left.1.1.1 ∙ all_kept left.0 f.content left.1.0
 
 -- of a cycle the last byte of its number and of how much it found
 abbrev pub text_of : Pair → List ChangeAt → Text

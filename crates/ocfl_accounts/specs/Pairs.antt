@@ -2,7 +2,7 @@
 use Rattle.std.specs.Prelude.{◌≡◌, ℕ, ◌&&◌, ◌||◌, List, [], ◌∷◌, Bool, true, false, not, filter, if◌then◌else◌, Option, Some, None}
 use Rattle.ocfl_tree.specs.Place.{Place}
 use Rattle.ocfl_compare.specs.Changes.{is_left}
-use Rattle.ocfl_accounts.specs.Cycle.{Cycle, Sight, IsEarlier}
+use Rattle.ocfl_accounts.specs.{Cycle.{Cycle, Sight, IsEarlier}, Kept.{is_some}}
 use Rattle.ocfl_accounts.specs.declared.pair.Pair.{Pair}
 
 -- those of the places that are none of the others, and not below one of them
@@ -36,10 +36,6 @@ pub record IsPair (sights : ℕ → Sight) (pair : Pair) : Type 0 where
   pub before : IsBefore sights pair.closed pair.before pair.missing
   pub again : pair.again.items ≡ left_before pair.closed pair.before
   pub whole : IsWholeBefore sights pair.before pair.again.items pair.whole pair.whole_missing
-
-abbrev pub is_some : {A : Type 0} → Option A → Bool
-is_some None = false
-is_some (Some x) = true
 
 -- a report is not there with which the cycle is to be compared
 abbrev pub lacks : Pair → Bool

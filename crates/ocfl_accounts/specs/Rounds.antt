@@ -2,8 +2,8 @@
 use Rattle.std.specs.Prelude.{◌≡◌, ℕ, ◌+◌, ◌<◌, ◌≤◌, List, [], ◌∷◌, map}
 use Rattle.ocfl_tree.specs.Place.{Text}
 use Rattle.ocfl_compare.specs.declared.change.ChangeAt.{ChangeAt}
-use Rattle.ocfl_accounts.specs.{Kept.{Kept, Account, with_accounts}, Crash.{Step}, Said.{Said, Grows}}
-use Rattle.ocfl_accounts.specs.{Telling.{IsAccountSaid, account_of}, declared.pair.Pair.{Pair}}
+use Rattle.ocfl_accounts.specs.{Kept.{Kept, Account, account_of, with_accounts}, Crash.{Step}, Said.{Said, Grows}}
+use Rattle.ocfl_accounts.specs.{Telling.{IsAccountSaid}, declared.pair.Pair.{Pair}}
 
 -- a closing that was said: its cycle, what that was compared with, what it found, and how the output
 -- stood before and then

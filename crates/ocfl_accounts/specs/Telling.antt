@@ -4,7 +4,7 @@ use Rattle.std.specs.List.{list_any}
 use Rattle.ocfl_tree.specs.Place.{Text}
 use Rattle.ocfl_compare.specs.declared.change.ChangeAt.{ChangeAt}
 use Rattle.ocfl_accounts.specs.{Cycle.{there}, Unsaid.{is_unsaid}}
-use Rattle.ocfl_accounts.specs.Kept.{Kept, Account, has_account, with_account}
+use Rattle.ocfl_accounts.specs.Kept.{Kept, Account, account_of, has_account, with_account}
 use Rattle.ocfl_accounts.specs.{Crash.{Step}, Said.{Said, HasSaid, Grows}, Pairs.{IsPair, waits, status_of}, Changes.{AreChanges}}
 use Rattle.ocfl_accounts.specs.{Causes.{IsReason}, declared.{closings.ClosingStop.{ClosingStop}, pair.Pair.{Pair}}}
 
@@ -20,9 +20,6 @@ pub record IsAccountSaid (k : Kept) (cycle : ℕ) (text : Pair → List ChangeAt
   pub changes_are : AreChanges k pair changes
   pub said : HasSaid (text pair changes) old new
   pub grew : Grows old new
-
-abbrev pub account_of : ℕ → List ChangeAt → Account
-account_of cycle changes = record { cycle = cycle; changes = changes }
 
 -- it is kept then, unless the cycle can still be compared
 abbrev pub kept_then : Pair → Account → Kept → Kept

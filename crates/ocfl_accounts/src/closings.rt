@@ -1,10 +1,9 @@
 //! Closed reports, what is found in them, and the accounts of that.
 ghost use Rattle.std.specs.Prelude.{◌≡◌, ◌≤◌, ℕ, Bool, false, IsTrue, IfOk, OnOk, List, [], ⊤};
-ghost use Rattle.std.specs.List.{list_any};
 ghost use Rattle.ocfl_tree.specs.Place.{Text};
 ghost use Rattle.ocfl_compare.specs.declared.change.ChangeAt.{ChangeAt};
-ghost use Rattle.ocfl_accounts.specs.{Crash.{Follows, IsPut, MayPut, Outcomes, Passes, Same}, Causes.{HasCause}, Changes.{AreChanges}};
-ghost use Rattle.ocfl_accounts.specs.{Kept.{Kept, has_account, nothing_kept, with_account}, Telling.{account_of}};
+ghost use Rattle.ocfl_accounts.specs.{Crash.{Follows, IsPut, MayPut, Outcomes, Passes, Same}, Causes.{HasCause}, Changes.{Finds}};
+ghost use Rattle.ocfl_accounts.specs.{Kept.{Kept, account_with, has_account, nothing_kept, with_account}};
 ghost use Rattle.ocfl_accounts.specs.{Sights.{IsSight}, declared.pair.Pair.{Pair as ModelPair}};
 
 use crate::closed::Look;
@@ -39,8 +38,8 @@ pub trait Closings {
     /// What calls show.
     ghost seen: { Self → Kept } = { λ _. nothing_kept };
 
-    /// What was found last.
-    ghost found: { Self → List ChangeAt } = { λ _. [] };
+    /// The list of what is gone, as it was found last.
+    ghost found: { Self → Text } = { λ _. [] };
 
     /// What a crash at this moment may leave.
     ghost may_leave: { Self → Outcomes } = { λ _ _. ⊤ };
@@ -75,30 +74,26 @@ pub trait Closings {
         ensures crash { IsTrue told → Passes may_leave moment left_since Same self.old self.new }
         ensures cause { IsTrue told → HasCause (faults self.old) (faults self.new) result };
 
-    /// Finds the changes of a closed cycle, whose account is put by the next `put`. Of a cycle whose
-    /// report lost lines it finds none.
+    /// Finds the changes of a closed cycle. Their list is the account that the next `put` puts. Of a
+    /// cycle whose report lost lines it finds none.
     fn find(&mut self, pair: &Pair) -> Result<Found, ClosingStop>
-        ensures changes { IsTrue told → OnOk result
-            (AreChanges (seen self.old) pair.now (found self.new)) }
-        ensures text { IsTrue told → IfOk result (λ it.
-            it.text.items ≡ text pair.now (found self.new)) }
-        ensures grave { IsTrue told → IfOk result (λ it.
-            it.is_grave ≡ list_any news (found self.new)) }
+        ensures finds { IsTrue told → IfOk result (λ it. Finds (seen self.old) pair.now text news
+            it.text.items it.is_grave (found self.new)) }
         ensures seen { IsTrue told → seen self.new ≡ seen self.old }
         ensures crash { IsTrue told → Passes may_leave moment left_since Same self.old self.new }
         ensures cause { IsTrue told → HasCause (faults self.old) (faults self.new) result };
 
-    /// Puts the account of the changes that were found last, which are those of this cycle. After
-    /// `Ok` it is on the disk: no crash from then on leaves a folder without it.
+    /// Puts the list of what was found last as the account of this cycle. After `Ok` it is on the
+    /// disk: no crash from then on leaves a folder without it.
     fn put(&mut self, pair: &Pair) -> Result<(), ClosingStop>
         ensures put { IsTrue told → OnOk result (seen self.new
-            ≡ with_account (account_of pair.now.closed.cycle (found self.old)) (seen self.old)) }
+            ≡ with_account (account_with pair.now.closed.cycle (found self.old)) (seen self.old)) }
         ensures may { IsTrue told → MayPut
-            (account_of pair.now.closed.cycle (found self.old)) (seen self.old) (seen self.new) }
+            (account_with pair.now.closed.cycle (found self.old)) (seen self.old) (seen self.new) }
         ensures crash { IsTrue told → Passes may_leave moment left_since
-            (MayPut (account_of pair.now.closed.cycle (found self.old))) self.old self.new }
+            (MayPut (account_with pair.now.closed.cycle (found self.old))) self.old self.new }
         ensures durable { IsTrue told → OnOk result (Follows
-            (IsPut (account_of pair.now.closed.cycle (found self.old)))
+            (IsPut (account_with pair.now.closed.cycle (found self.old)))
             (may_leave self.old) (may_leave self.new)) }
         ensures cause { IsTrue told → HasCause (faults self.old) (faults self.new) result };
 

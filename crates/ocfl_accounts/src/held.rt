@@ -6,14 +6,16 @@ ghost use Rattle.std.specs.List.{list_any};
 ghost use Rattle.ocfl_compare.specs.Changes.{is_left as is_left_out};
 ghost use Rattle.ocfl_accounts.specs.{Changes.{AreChanges, AreFound, IsMissing, IsSince, IsSinceWhole}};
 ghost use Rattle.ocfl_accounts.specs.Memory.{bytes_or_none, held_of, is_grave as is_grave_of, kept_by, report_in};
-ghost use Rattle.ocfl_accounts.specs.{Kept.{Account}, Sights.{IsSight}, Memory.{sight_in}};
+ghost use Rattle.ocfl_accounts.specs.{Kept.{Account, is_some, no_lists, with_lists}, Sights.{IsSight}, Memory.{sight_in}};
+ghost use Rattle.ocfl_compare.specs.Gone.{gone_row, gone_text};
 
 use crate::closed::{ClosedCycle, Look};
 use crate::pair::{Pair, is_left};
-use ocfl_compare::{Change, ChangeAt, CompareStop, compare, find_expected};
+use ocfl_compare::{Change, ChangeAt, CompareStop, GoneList, TakeChange, compare, find_expected};
 use ocfl_tree::Place;
 use std::alloc::{AllocError, Global};
 use std::marker::Model;
+use std::mem;
 
 /// A closed cycle in memory.
 #[derive(Debug, Drop)]
@@ -39,7 +41,8 @@ impl Model for MemCycle {
 #[derive(Debug, Drop)]
 pub struct MemAccount {
     pub cycle: u64,
-    pub changes: Vec<ChangeAt>,
+    /// The list of what is gone.
+    pub list: Vec<u8>,
 }
 
 impl Model for MemAccount {
@@ -47,7 +50,7 @@ impl Model for MemAccount {
 
     ghost Value = { Account };
 
-    ghost view = { λ a. record { cycle = a.cycle; changes = a.changes.items } };
+    ghost view = { λ a. record { cycle = a.cycle; list = a.list.items } };
 }
 
 /// The cycle of a number, if it is among these.
@@ -115,6 +118,12 @@ pub(crate) fn look_in(alloc: Global, cycles: &[MemCycle], cycle: u64) -> Result<
 
 /// Whether the account of a cycle is among these.
 pub(crate) fn is_put(accounts: &[MemAccount], cycle: u64) -> bool
+    ensures { result ≡ is_some (with_lists accounts.now no_lists cycle) }
+{
+    has_cycle(accounts, cycle)
+}
+
+fn has_cycle(accounts: &[MemAccount], cycle: u64) -> bool
     ensures { result ≡ list_any (λ account. account.cycle == cycle) accounts.now }
 {
     accounts.iter().any(|account| account.cycle == cycle)
@@ -289,4 +298,25 @@ fn is_news(change: &ChangeAt) -> bool
     ensures { result ≡ is_grave_of change.now }
 {
     !matches!(change.change, Change::Unlooked | Change::Repaired(_))
+}
+
+/// The list of what is gone by these changes.
+pub(crate) fn list_of(alloc: Global, changes: &[ChangeAt]) -> Result<Vec<u8>, AllocError>
+    ensures { IfOk result (λ list. list.items ≡ gone_text changes.now) }
+{
+    let mut list = GoneList::new(alloc, Vec::new(alloc));
+    for at in changes {
+        take_row(&mut list, at)?;
+    }
+    Ok(mem::replace(&mut list.out, Vec::new(alloc)))
+}
+
+/// Appends the row of a change, if it has one.
+fn take_row(list: &mut GoneList<Vec<u8>>, at: &ChangeAt) -> Result<(), AllocError>
+    ensures { OnOk result (list.new.out.items ≡ list.old.out.items ++ gone_row at.now) }
+{
+    match list.take(&at.place, at.change) {
+        Ok(()) => Ok(()),
+        Err(_) => Err(AllocError),
+    }
 }

@@ -1,7 +1,6 @@
 //! The laws of closings that are said over several calls, of which each may crash.
 ghost use Rattle.std.specs.Prelude.{◌≡◌, ◌⊎◌, ◌<◌, ◌≤◌, ℕ, IsTrue, List};
-ghost use Rattle.ocfl_tree.specs.Ascending.{IsAmong};
-ghost use Rattle.ocfl_accounts.specs.Kept.{Account, Kept};
+ghost use Rattle.ocfl_accounts.specs.Kept.{Account, HasAccount, Kept};
 ghost use Rattle.ocfl_accounts.specs.Calls.{AreCalls, Call, IsDoneIn, WasSaid, left_by};
 ghost use Rattle.ocfl_accounts.specs.{Telling.{AreSaid, Stand}, Unsaid.{NoneUnsaid, oldest}};
 
@@ -15,8 +14,8 @@ pub fn each_account_was_said<C: Closings>()
     ensures { IsTrue C.told → (first : Kept) (calls : List (Call C))
         → AreCalls C.seen C.may_leave C.moment C.left_since C.text (λ k. k ≡ first) calls
         → (k : Kept) → left_by C.moment C.left_since (λ d. d ≡ first) calls k
-        → (a : Account) → IsAmong k.accounts a
-        → IsAmong first.accounts a ⊎ WasSaid C.seen C.text a calls }
+        → (a : Account) → HasAccount k a
+        → HasAccount first a ⊎ WasSaid C.seen C.text a calls }
 {}
 
 /// After a call whose status is not 3 each of its cycles was said in it, or had its account before,

@@ -1,16 +1,16 @@
 //! Closed reports and an output in memory, which can be made to fail.
 ghost use Rattle.std.specs.Prelude.{◌≡◌, ◌<◌, ◌≤◌, ◌∷◌, ◌%◌, [], Some, None, true, false, refl, IfOk, IfSome, IsOkUnless, OnErr, OnOk, length};
 ghost use Rattle.std.specs.Option.{option_map};
-ghost use Rattle.ocfl_accounts.specs.{Causes.{HasCause, IsCause}, Memory.{is_grave as is_grave_of, kept_of, leaves_now}};
+ghost use Rattle.ocfl_accounts.specs.{Causes.{HasCause, IsCause}, Memory.{content_and, is_grave as is_grave_of, kept_of, leaves_now}};
 ghost use Rattle.ocfl_accounts.specs.Memory.{counts_now as is_left_now, left_since as was_left_since, only_now as is_left_only, said_so, text_of};
-ghost use Rattle.ocfl_accounts.specs.{Kept.{with_account}, Said.{HasFailed}};
+ghost use Rattle.ocfl_accounts.specs.Said.{HasFailed};
 
 use crate::closed::Look;
 use crate::closings::{ClosingStop, Closings, Found};
-use crate::held::{MemAccount, MemCycle, find_in, is_grave, is_put, look_in};
+use crate::held::{MemAccount, MemCycle, find_in, is_grave, is_put, list_of, look_in};
 use crate::pair::Pair;
 use crate::say::{NotSaid, Say};
-use ocfl_compare::{ChangeAt, CompareStop};
+use ocfl_compare::CompareStop;
 use ocfl_tree::Place;
 use std::alloc::{AllocError, Global};
 use std::marker::Model;
@@ -23,7 +23,8 @@ pub struct MemClosings {
     cycles: Vec<MemCycle>,
     listed: Option<Vec<Place>>,
     accounts: Vec<MemAccount>,
-    found: Vec<ChangeAt>,
+    /// The list of what was found last.
+    found: Vec<u8>,
     faults: u64,
     call: Option<u64>,
     ends: bool,
@@ -166,7 +167,7 @@ impl MemClosings {
     /// Keeps an account. The only refusal is `Memory`, and then nothing is changed.
     fn keep(&mut self, account: MemAccount) -> Result<(), ClosingStop>
         ensures ok { OnOk result
-            (kept_of self.new.content ≡ with_account account (kept_of self.old.content)) }
+            (self.new.content ≡ content_and account self.old.content) }
         ensures err { OnErr result (self.new.content ≡ self.old.content) }
         ensures faults { self.new.faults ≡ self.old.faults }
         ensures only_memory { IsOkUnless result ClosingStop.Memory }
@@ -242,11 +243,14 @@ impl Closings for MemClosings {
             Ok(changes) => changes,
             Err(stop) => return Err(self.stop_after(stop)),
         };
+        let Ok(list) = list_of(self.alloc, &changes) else {
+            return Err(ClosingStop::Memory);
+        };
         let Ok(text) = text_for(self.alloc, pair.closed.cycle(), changes.len()) else {
             return Err(ClosingStop::Memory);
         };
         let is_grave = is_grave(&changes);
-        self.found = changes;
+        self.found = list;
         Ok(Found { text, is_grave })
     }
 
@@ -254,7 +258,7 @@ impl Closings for MemClosings {
         self.begin_call()?;
         let account = MemAccount {
             cycle: pair.closed.cycle(),
-            changes: mem::replace(&mut self.found, Vec::new(self.alloc)),
+            list: mem::replace(&mut self.found, Vec::new(self.alloc)),
         };
         self.keep(account)
     }

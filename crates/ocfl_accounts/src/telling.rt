@@ -1,8 +1,8 @@
 //! Saying what a closed cycle found.
 ghost use Rattle.std.specs.Prelude.{◌≡◌, ◌⊎◌, false, IsTrue, IfOk, IsOkUnless, OnErr, OnOk, Option};
 ghost use Rattle.ocfl_accounts.specs.{Causes.{HasCause, HasReason}, Crash.{MayPut, Passes}};
-ghost use Rattle.ocfl_accounts.specs.{Cycle.{there}, Kept.{has_account}, Rounds.{MayAccounts}};
-ghost use Rattle.ocfl_accounts.specs.{Said.{Grows, HasFailed, HasSaid}, Telling.{account_of, kept_then}};
+ghost use Rattle.ocfl_accounts.specs.{Cycle.{there}, Kept.{account_with, has_account}, Rounds.{MayAccounts}};
+ghost use Rattle.ocfl_accounts.specs.{Said.{Grows, HasFailed, HasSaid}, Telling.{kept_then}};
 ghost use Rattle.ocfl_accounts.specs.Telling.{AreSaid, IsLeftAlone, IsOutcome, IsToldRightly, MayAccount};
 ghost use Rattle.ocfl_accounts.specs.Telling.{outcome_of, stand_of};
 ghost use Rattle.ocfl_accounts.specs.declared.closings.ClosingStop.{ClosingStop as ModelStop};
@@ -80,12 +80,12 @@ fn say_closed<C: Closings, S: Say>(
 /// Puts the account that was found last, unless the cycle can still be compared.
 fn keep_found<C: Closings>(closings: &mut C, pair: &Pair) -> Result<(), ClosingStop>
     ensures kept { IsTrue C.told → OnOk result (C.seen closings.new
-        ≡ kept_then pair.now (account_of pair.now.closed.cycle (C.found closings.old))
+        ≡ kept_then pair.now (account_with pair.now.closed.cycle (C.found closings.old))
         (C.seen closings.old)) }
-    ensures may { IsTrue C.told → MayPut (account_of pair.now.closed.cycle (C.found closings.old))
+    ensures may { IsTrue C.told → MayPut (account_with pair.now.closed.cycle (C.found closings.old))
         (C.seen closings.old) (C.seen closings.new) }
     ensures crash { IsTrue C.told → Passes C.may_leave C.moment C.left_since
-        (MayPut (account_of pair.now.closed.cycle (C.found closings.old)))
+        (MayPut (account_with pair.now.closed.cycle (C.found closings.old)))
         closings.old closings.new }
     ensures cause { IsTrue C.told
         → HasCause (C.faults closings.old) (C.faults closings.new) result }

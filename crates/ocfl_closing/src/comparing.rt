@@ -7,11 +7,11 @@ use ocfl_accounts::{ClosedCycle, Pair};
 use ocfl_compare::{CompareStop, TakeChange, compare, find_expected};
 use ocfl_files::failing::Failure;
 use ocfl_files::making::failed_file;
-use ocfl_kept::kept::{is_as_closed, is_marked_as_closed, open_report};
+use ocfl_kept::kept::{is_as_closed, open_report, read_kept};
 use ocfl_kept::state_dir::Folder;
+use ocfl_reading::checking::{ClosedCheck, ReportReader};
 use ocfl_reading::expected::Listed;
 use ocfl_reading::finding::{Findings, find_lines};
-use ocfl_reading::marking::ReportReader;
 use ocfl_reading::rows::{Changes, Rows};
 use ocfl_report::Line;
 use ocfl_messages::{Known, Shown};
@@ -64,16 +64,34 @@ fn end_list(
     }
 }
 
-/// A reader of the closed report of a cycle, which marks what it reads or does not.
+/// By what the closed report of a cycle is checked while it is read.
+fn check_of<F: Folder>(
+    alloc: Global,
+    folder: &mut F,
+    state: &str,
+    cycle: u64,
+    checks: bool,
+) -> Result<ClosedCheck, Failure> {
+    if !checks {
+        return Ok(ClosedCheck::Unchecked);
+    }
+    let kept = read_kept(alloc, folder, state, cycle)?;
+    Ok(ClosedCheck::by(&kept))
+}
+
+/// A reader of the closed report of a cycle, which checks what it reads or does not.
 fn reader_of<F: Folder>(
     alloc: Global,
     folder: &mut F,
     state: &str,
     cycle: u64,
-    marks: bool,
+    checks: bool,
 ) -> Result<ReportReader, Failure> {
     match open_report(alloc, folder, state, cycle)? {
-        Some(report) => Ok(ReportReader::new(alloc, report.file, marks)?),
+        Some(report) => {
+            let check = check_of(alloc, folder, state, cycle, checks)?;
+            Ok(ReportReader::new(alloc, report.file, check)?)
+        }
         None => Err(Failure::saying(format!(in alloc;
             "the report of cycle {cycle} is gone from {}\n",
             Shown(state)
@@ -90,20 +108,15 @@ fn changed_report(alloc: Global, cycle: u64, before: u64, changed: u64) -> Failu
 }
 
 /// Refuses the report of a cycle, one of a pair, that was read to its end and is not as it was
-/// closed. One that was not marked counts as it was.
-fn refuse_marked<F: Folder>(
+/// closed. One that was not checked counts as it was.
+fn refuse_read(
     alloc: Global,
-    folder: &mut F,
-    state: &str,
     cycle: u64,
     before: u64,
     read: u64,
     report: &ReportReader,
 ) -> Result<(), Failure> {
-    let Some(mark) = report.mark() else {
-        return Ok(());
-    };
-    if is_marked_as_closed(alloc, folder, state, read, &mark)? {
+    if report.is_as_closed() {
         return Ok(());
     }
     Err(changed_report(alloc, cycle, before, read))
@@ -124,8 +137,8 @@ fn refuse_changed<F: Folder>(
     Err(changed_report(alloc, cycle, before, changed))
 }
 
-/// Takes the changes since a report before, outside of these places. Both reports are marked while
-/// they are read, or the one before alone if this one was marked in another pass.
+/// Takes the changes since a report before, outside of these places. Both reports are checked while
+/// they are read, or the one before alone if this one was checked in another pass.
 fn take_all_changes<F: Folder>(
     alloc: Global,
     folder: &mut F,
@@ -140,16 +153,8 @@ fn take_all_changes<F: Folder>(
     let mut now = reader_of(alloc, folder, state, cycle, before == compared(pair))?;
     let stop = match compare(alloc, &mut earlier.reader, &mut now.reader, left, rows) {
         Ok(()) => {
-            refuse_marked(
-                alloc,
-                folder,
-                state,
-                cycle,
-                compared(pair),
-                before,
-                &earlier,
-            )?;
-            return refuse_marked(alloc, folder, state, cycle, before, cycle, &now);
+            refuse_read(alloc, cycle, compared(pair), before, &earlier)?;
+            return refuse_read(alloc, cycle, before, cycle, &now);
         }
         Err(stop) => stop,
     };

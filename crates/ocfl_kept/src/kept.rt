@@ -7,7 +7,7 @@ use ocfl_cursor::{PartEnds, Refused};
 use ocfl_disk::{OpenReport, StateFile};
 use ocfl_files::failing::Failure;
 use ocfl_files::making::failed_file;
-use ocfl_state::{Checkpoint, Left, ReportDigests, ReportMark, decode_checkpoint};
+use ocfl_state::{Checkpoint, Left, ReportCheck, ReportMark, decode_checkpoint};
 use ocfl_messages::Shown;
 use ocfl_tree::Place;
 use std::alloc::{AllocError, Global};
@@ -19,24 +19,18 @@ pub const MOST_BACK: u64 = 1_000;
 /// How many bytes of a report are read at once.
 const READ_LEN: usize = 16_384;
 
-/// Digests what a reader gives until its end.
-fn digest_all<R: Read>(reader: &mut R, digests: &mut ReportDigests) -> io::Result<()> {
+/// Whether what a reader gives until its end has this mark.
+fn is_marked<R: Read>(reader: &mut R, mark: &ReportMark) -> io::Result<bool> {
+    let mut check = ReportCheck::new(mark);
     let mut buffer = [0; READ_LEN];
     for _ in 0..u64::MAX {
         let count = reader.read(&mut buffer)?;
         if count == 0 {
             break;
         }
-        digests.push(&buffer[..count]);
+        check.push(&buffer[..count]);
     }
-    Ok(())
-}
-
-/// The mark of what a reader gives until its end.
-fn mark_of<R: Read>(reader: &mut R) -> io::Result<ReportMark> {
-    let mut digests = ReportDigests::new();
-    digest_all(reader, &mut digests)?;
-    Ok(digests.summary())
+    Ok(check.is_met())
 }
 
 /// Opens the closed report of a cycle.
@@ -209,22 +203,6 @@ pub fn is_packed<R: Room>(
     Ok(rt.has(path.as_str()))
 }
 
-/// Whether the closed report of a cycle, read to its end with this mark, is as it was when it was
-/// closed. One without a kept checkpoint counts so.
-pub fn is_marked_as_closed<F: Folder>(
-    alloc: Global,
-    folder: &mut F,
-    state: &str,
-    cycle: u64,
-    mark: &ReportMark,
-) -> Result<bool, Failure> {
-    match read_kept(alloc, folder, state, cycle)? {
-        Some(Some(kept)) => Ok(kept.report == *mark),
-        Some(None) => Ok(false),
-        None => Ok(true),
-    }
-}
-
 /// That the closed report of a cycle could not be read.
 fn failed_report(alloc: Global, state: &str, cycle: u64, whole: bool, error: io::Error) -> Failure {
     match report_path(alloc, state, cycle, whole) {
@@ -244,8 +222,8 @@ fn has_mark<F: Folder>(
     let Some(mut report) = open_report(alloc, folder, state, cycle)? else {
         return Ok(true);
     };
-    match mark_of(&mut report.file) {
-        Ok(found) => Ok(found == *mark),
+    match is_marked(&mut report.file, mark) {
+        Ok(is) => Ok(is),
         Err(error) => Err(failed_report(alloc, state, cycle, report.whole, error)),
     }
 }

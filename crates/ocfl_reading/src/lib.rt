@@ -2,11 +2,11 @@
 //! the findings of a closed report, and what changed in it.
 #![tactic(auto)]
 
+pub mod checking;
 pub mod expected;
 pub mod finding;
 pub mod known;
 pub mod lines;
-pub mod marking;
 pub mod reading;
 mod refusing;
 pub mod rows;

@@ -1,11 +1,11 @@
 //! Objects that earlier closings call gone, of which some may be back.
 ghost use Rattle.std.specs.Prelude.{⊤};
 
-use ocfl_compare::{Change, TakeChange, TakeStop};
+use ocfl_compare::{Change, Side, TakeChange, TakeStop};
 use ocfl_kept::kept::{MOST_BACK, list_path};
 use ocfl_kept::room::Room;
 use ocfl_reading::reading::{TakeLine, take_lines};
-use ocfl_report::{TextStop, read_place, split_once};
+use ocfl_report::{Line, TextStop, read_place, split_once};
 use ocfl_tree::Place;
 use std::alloc::{AllocError, Global};
 use std::io::{self, BufReader, ErrorKind};
@@ -37,6 +37,10 @@ impl Places {
 
 impl TakeChange for Places {
     ghost takes = { λ _ _ _. ⊤ };
+
+    fn see(&mut self, _side: Side, _line: &Line) -> Result<(), TakeStop> {
+        Ok(())
+    }
 
     fn take(&mut self, place: &Place, change: Change) -> Result<(), TakeStop> {
         if change == Change::Missing {

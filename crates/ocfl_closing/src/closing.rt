@@ -149,7 +149,7 @@ impl ToldBy<'_> {
         let (alloc, state) = (rt.global(), self.about.names.state);
         let mut again = find_changes(alloc, folder, state, pair, rows, account)?;
         self.look_for_expected(rt, folder, pair, rows, account)?;
-        end_changes(alloc, folder, state, pair, path, rows, &mut again, account)
+        end_changes(alloc, path, rows, &mut again, account)
     }
 
     /// Finds the objects that are back.
@@ -177,17 +177,9 @@ impl ToldBy<'_> {
         account: &mut Account,
     ) -> Result<(), Failure> {
         let (alloc, state, cycle) = (rt.global(), self.about.names.state, pair.closed.cycle());
-        let mut rows = Rows::new(alloc, self.about.known, list);
+        let mut rows = Rows::new(alloc, self.about.known, self.said, list);
         self.write_list(rt, folder, pair, path, &mut rows, account)?;
-        find_new(
-            alloc,
-            folder,
-            state,
-            cycle,
-            self.about.known,
-            self.said,
-            account,
-        )?;
+        find_new(alloc, folder, state, cycle, &mut rows, account)?;
         account.back = self.find_back(rt, folder, pair)?;
         Ok(())
     }

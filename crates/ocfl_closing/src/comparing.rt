@@ -14,7 +14,7 @@ use ocfl_reading::expected::Listed;
 use ocfl_reading::finding::{Findings, find_lines};
 use ocfl_reading::rows::{Changes, Rows};
 use ocfl_report::Line;
-use ocfl_messages::{Known, Shown};
+use ocfl_messages::Shown;
 use ocfl_tree::Place;
 use std::alloc::{AllocError, Global};
 use std::io;
@@ -196,7 +196,8 @@ fn refuse_changed_pair<F: Folder>(
     }
 }
 
-/// Finds what changed since the report before, outside of what one of the two left out.
+/// Finds what changed since the report before, outside of what one of the two left out. The lines of
+/// this report are counted by that, unless it is compared with the last whole one too.
 fn compare_before<F: Folder>(
     alloc: Global,
     folder: &mut F,
@@ -207,6 +208,9 @@ fn compare_before<F: Folder>(
     let Some(before) = &pair.before else {
         return Ok(Changes::new(alloc));
     };
+    if pair.whole.is_none() {
+        rows.count_lines();
+    }
     let left = both(alloc, pair.closed.left(), before.left())?;
     compare_with(alloc, folder, state, pair, before.cycle(), &left, rows)
 }
@@ -264,11 +268,10 @@ fn find_in<F: Folder>(
     state: &str,
     cycle: u64,
     named: &[Line],
-    known: &Known,
-    said: &[Line],
+    rows: &Rows<'_, '_>,
 ) -> Result<Findings, Failure> {
     let mut report = reader_of(alloc, folder, state, cycle, false)?;
-    match find_lines(alloc, &mut report.reader, named, known, said) {
+    match find_lines(alloc, &mut report.reader, named, rows.known(), rows.said()) {
         Ok(found) => Ok(found),
         Err(error) => Err(Failure::saying(format!(in alloc;
             "the report of cycle {cycle} in {}: {error}\n",
@@ -277,36 +280,14 @@ fn find_in<F: Folder>(
     }
 }
 
-/// The whole lines of what is repaired since a cycle, as its report has them.
-fn find_repaired<F: Folder>(
-    alloc: Global,
-    folder: &mut F,
-    state: &str,
-    cycle: u64,
-    changes: &Changes,
-) -> Result<Vec<Line>, Failure> {
-    if changes.repaired.is_empty() {
-        return Ok(Vec::new(alloc));
-    }
-    let none = Known::new(alloc);
-    let found = find_in(alloc, folder, state, cycle, &changes.repaired, &none, &[])?;
-    Ok(found.into_lines(alloc)?)
-}
-
 /// The whole lines of what is repaired, as the reports before have them.
-fn find_all_repaired<F: Folder>(
+fn all_repaired(
     alloc: Global,
-    folder: &mut F,
-    state: &str,
-    pair: &Pair,
     changes: &Changes,
     again: &Changes,
-) -> Result<Vec<Line>, Failure> {
-    let mut repaired = find_repaired(alloc, folder, state, compared(pair), changes)?;
-    if let Some(whole) = &pair.whole {
-        let mut others = find_repaired(alloc, folder, state, whole.cycle(), again)?;
-        repaired.append(&mut others)?;
-    }
+) -> Result<Vec<Line>, AllocError> {
+    let mut repaired = changes.repaired(alloc)?;
+    repaired.append(&mut again.repaired(alloc)?)?;
     Ok(repaired)
 }
 
@@ -413,34 +394,33 @@ pub(crate) fn find_unlisted<F: Folder>(
 
 /// Ends the list of what is gone, and notes what is repaired, and what changed since the last whole
 /// report.
-pub(crate) fn end_changes<F: Folder>(
+pub(crate) fn end_changes(
     alloc: Global,
-    folder: &mut F,
-    state: &str,
-    pair: &Pair,
     path: &str,
     rows: &mut Rows<'_, '_>,
     again: &mut Changes,
     account: &mut Account,
 ) -> Result<(), Failure> {
     end_list(alloc, path, rows, &mut account.changes)?;
-    account.repaired = find_all_repaired(alloc, folder, state, pair, &account.changes, again)?;
+    account.repaired = all_repaired(alloc, &account.changes, again)?;
     account.changes.join(again)?;
     Ok(())
 }
 
-/// Notes the findings of the report, and what is gone.
+/// Notes the findings of the report, and what is gone. The report is read for that unless its lines
+/// were counted while it was compared.
 pub(crate) fn find_new<F: Folder>(
     alloc: Global,
     folder: &mut F,
     state: &str,
     cycle: u64,
-    known: &Known,
-    said: &[Line],
+    rows: &mut Rows<'_, '_>,
     account: &mut Account,
 ) -> Result<(), Failure> {
-    let appeared = &account.changes.appeared;
-    account.findings = find_in(alloc, folder, state, cycle, appeared, known, said)?;
+    account.findings = match rows.take_found()? {
+        Some(found) => found,
+        None => find_in(alloc, folder, state, cycle, &account.changes.appeared, rows)?,
+    };
     account.gone = account.changes.gone(alloc)?;
     Ok(())
 }

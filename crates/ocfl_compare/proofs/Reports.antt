@@ -13,7 +13,7 @@ use Rattle.ocfl_report.proofs.LineTexts.{line_text_read}
 use Rattle.ocfl_separators.proofs.Reports.{line_is_first, more_read}
 use Rattle.ocfl_compare.specs.Internal.Reading.{listed, IsReading, HasRead, GoesOn, last_place, is_after, IsUnfit, IsNextLine, IsOpen, IsNextPlace, ReadStopsRightly}
 use Rattle.ocfl_compare.specs.declared.reading.ReadStop.{ReadStop}
-use Rattle.ocfl_compare.specs.declared.reading.ReadStop.TheVariants.{Line as BadLine, Failed, Memory}
+use Rattle.ocfl_compare.specs.declared.reading.ReadStop.TheVariants.{Line as BadLine, Failed, Output, Memory}
 
 -- ---- order
 
@@ -119,6 +119,7 @@ stop_read None left done next count text bytes stop o h line some e bad = tt
 stop_read (Some b) left done next count text bytes (BadLine n) o h line some e bad =
     line_refused (Some b) left left done next count o h n text bytes line some e (bad n refl).0 (bad n refl).1
 stop_read (Some b) left done next count text bytes Failed o h line some e bad = tt
+stop_read (Some b) left done next count text bytes Output o h line some e bad = tt
 stop_read (Some b) left done next count text bytes Memory o h line some e bad = tt
 
 -- ---- as the code tests it

@@ -16,7 +16,7 @@ use Rattle.ocfl_compare.specs.Internal.Reading.{IsReading, HasRead, IsBelow, IsA
 use Rattle.ocfl_compare.specs.Internal.Turns.{AreTaken, Group, IsGroup, group_changes, said_changes, first_place, leads_to, leads_from, shut_after, below_shut, AreFollowed, IsShutBy, IsHalf, IsSoFar, before_stop, now_stop}
 use Rattle.ocfl_compare.specs.declared.question.Question.{Question}
 use Rattle.ocfl_compare.specs.declared.reading.ReadStop.{ReadStop}
-use Rattle.ocfl_compare.specs.declared.reading.ReadStop.TheVariants.{Line as BadLine, Failed, Memory}
+use Rattle.ocfl_compare.specs.declared.reading.ReadStop.TheVariants.{Line as BadLine, Failed, Output, Memory}
 use Rattle.ocfl_compare.proofs.Around.{shut_more, followed_more, groups_said}
 
 -- ---- places
@@ -172,6 +172,7 @@ compared asked left b c n m Taken b_next n_next b_count n_count shut next h =
 stops_so : (k l : Text) (s : ReadStop) → (ReadStopsRightly k s → StopsRightly k l (before_stop s)) × (ReadStopsRightly l s → StopsRightly k l (now_stop s))
 stops_so k l (BadLine i) = (λ h. h, λ h. h)
 stops_so k l Failed = (λ h. tt, λ h. tt)
+stops_so k l Output = (λ h. tt, λ h. tt)
 stops_so k l Memory = (λ h. tt, λ h. tt)
 
 pub before_stops : (b n : Option Text) (s : ReadStop) → IfSome b (λ k. ReadStopsRightly k s) → IfSome b (λ k. IfSome n (λ l. StopsRightly k l (before_stop s)))

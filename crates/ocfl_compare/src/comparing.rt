@@ -10,10 +10,10 @@ ghost use Rattle.ocfl_compare.specs.Internal.Turns.{IfBothSome, IsSoFar, before_
 ghost use Rattle.ocfl_compare.specs.Internal.Turns.{leads_to, now_stop, said_changes, shut_after};
 
 use crate::question::Question;
-use crate::reading::{ReadStop, Reading, Taken, next_place, read_next, take_place, unread};
+use crate::reading::{ReadStop, Reading, next_place, read_next, shown_of, take_place, unread};
 use crate::saying::{Sides, give_said, is_shut};
 use crate::stop::CompareStop;
-use crate::taking::{TakeChange, TakeStop};
+use crate::taking::{Side, TakeChange, TakeStop};
 use ocfl_report::Line;
 use ocfl_tree::Place;
 use std::alloc::{AllocError, Global};
@@ -36,7 +36,8 @@ struct Both {
 /// file could not be read or is no longer named.
 ///
 /// Nothing is said of the places in `left` and of what is below them. All bytes of both readers
-/// are read as reports, and one line of each is in memory at a time.
+/// are read as reports, and one line of each is in memory at a time. The taker sees each line once:
+/// of each place those of the report before, then those of this one, and then it takes the changes.
 pub fn compare<R: BufRead, S: BufRead, T: TakeChange>(
     alloc: Global,
     before: &mut R,
@@ -142,11 +143,13 @@ fn turn<R: BufRead, S: BufRead, T: TakeChange>(
         (λ changes. T.takes start changes taker.old)
         → IfBothSome b n (λ before_bytes now_bytes. StopsRightly before_bytes now_bytes stop)) }
 {
-    let was = match take_place(alloc, place, before, text, both.before) {
+    let shown = shown_of(asked, Side::Before);
+    let was = match take_place(alloc, shown, place, before, taker, text, both.before) {
         Ok(taken) => taken,
         Err(stop) => return Err(of_before(stop)),
     };
-    let is = match take_place(alloc, place, now, text, both.now) {
+    let shown = shown_of(asked, Side::Now);
+    let is = match take_place(alloc, shown, place, now, taker, text, both.now) {
         Ok(taken) => taken,
         Err(stop) => return Err(of_now(stop)),
     };
@@ -229,6 +232,7 @@ fn of_before(stop: ReadStop) -> CompareStop
     match stop {
         ReadStop::Line(number) => CompareStop::Before(number),
         ReadStop::Failed => CompareStop::BeforeFailed,
+        ReadStop::Output => CompareStop::Output,
         ReadStop::Memory => CompareStop::Memory,
     }
 }
@@ -239,6 +243,7 @@ fn of_now(stop: ReadStop) -> CompareStop
     match stop {
         ReadStop::Line(number) => CompareStop::Now(number),
         ReadStop::Failed => CompareStop::NowFailed,
+        ReadStop::Output => CompareStop::Output,
         ReadStop::Memory => CompareStop::Memory,
     }
 }

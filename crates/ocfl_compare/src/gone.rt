@@ -7,8 +7,8 @@ ghost use Rattle.ocfl_compare.specs.Internal.Gones.{texts_joined};
 ghost use Rattle.ocfl_compare.specs.Changes.{change_at};
 
 use crate::change::Change;
-use crate::taking::{TakeChange, TakeStop};
-use ocfl_report::{put_place, write_all_of};
+use crate::taking::{Side, TakeChange, TakeStop};
+use ocfl_report::{Line, put_place, write_all_of};
 use ocfl_tree::Place;
 use std::alloc::{AllocError, Global};
 use std::io::Write;
@@ -34,6 +34,10 @@ impl<W: Write + Drop> GoneList<W> {
 impl<W: Write + Drop> TakeChange for GoneList<W> {
     ghost takes = { λ old changes new.
         Appends (W.contents old.out) (W.contents new.out) (gone_text changes) };
+
+    fn see(&mut self, _side: Side, _line: &Line) -> Result<(), TakeStop> {
+        Ok(())
+    }
 
     fn take(&mut self, place: &Place, change: Change) -> Result<(), TakeStop> {
         let mut row = Vec::new(self.alloc);

@@ -7,7 +7,7 @@
 //!   (`IsCompared`): objects with a line of them there and none here, content files whose place has
 //!   no line any more, findings whose code was not at the place, and findings whose code is there no
 //!   more, at places that were looked at. Otherwise it names the first bad line, and of which
-//!   report.
+//!   report. That its taker sees each line changes nothing of that.
 //! - `find_expected` writes exactly which objects of a list have no line of an object in a report
 //!   (`IsSearched`), in the order of places, each once. `read_list` reads such a list from its
 //!   text, or names the first bad line.
@@ -32,4 +32,4 @@ pub use expecting::find_expected;
 pub use gone::GoneList;
 pub use listing::{ListStop, read_list};
 pub use stop::CompareStop;
-pub use taking::{TakeChange, TakeStop};
+pub use taking::{Side, TakeChange, TakeStop};

@@ -1,6 +1,6 @@
 //! Reading a report line by line.
-ghost use Rattle.std.specs.Prelude.{◌≡◌, ◌≢◌, ◌⊎◌, ◌+◌, List, ℕ, ◌++◌, Option, None};
-ghost use Rattle.std.specs.Prelude.{false, IfOk, IfErr, IfSome, option_map};
+ghost use Rattle.std.specs.Prelude.{◌≡◌, ◌≢◌, ◌⊎◌, ◌+◌, List, [], ℕ, ◌++◌, Option, None};
+ghost use Rattle.std.specs.Prelude.{false, IfOk, IfErr, IfSome, OnOk, option_map};
 ghost use Rattle.std.specs.declared.cmp.Ordering.TheVariants.{Greater};
 ghost use Rattle.ocfl_tree.specs.Place.{place_cmp};
 ghost use Rattle.ocfl_report.specs.Line.{Line as ModelLine};
@@ -9,6 +9,8 @@ ghost use Rattle.ocfl_compare.specs.Internal.Reading.{IsReading, IsNextLine, IsN
 ghost use Rattle.ocfl_compare.specs.Internal.Reading.{IsUnfit, ReadStopsRightly, is_after, listed};
 ghost use Rattle.ocfl_compare.specs.{Internal.Telling.{IsTold, Tells}, Internal.Turns.{AreTaken}};
 
+use crate::question::Question;
+use crate::taking::{Side, TakeChange, TakeStop};
 use crate::told::{Told, nothing, tell};
 use ocfl_report::{InputStop, Line, TextStop, read_line, read_next_line};
 use ocfl_tree::Place;
@@ -32,6 +34,8 @@ pub(crate) enum ReadStop {
     Line(u64),
     /// The reader failed.
     Failed,
+    /// The taker of changes failed.
+    Output,
     /// Memory was refused.
     Memory,
 }
@@ -44,6 +48,23 @@ pub(crate) fn unread() -> Reading
     Reading {
         next: None,
         count: 0,
+    }
+}
+
+/// Whether a taker of changes sees the lines that are read.
+#[derive(Clone, Copy)]
+pub(crate) enum Shown {
+    /// It does not.
+    No,
+    /// It does, as those of one of two reports.
+    As(Side),
+}
+
+/// The lines are shown if it is asked what changed between two reports.
+pub(crate) fn shown_of(asked: Question, side: Side) -> Shown {
+    match asked {
+        Question::Changed => Shown::As(side),
+        Question::Expected => Shown::No,
     }
 }
 
@@ -117,11 +138,13 @@ pub(crate) struct Taken {
     pub(crate) reading: Reading,
 }
 
-/// Takes all next lines that have the place.
-pub(crate) fn take_place<R: BufRead>(
+/// Takes all next lines that have the place, and shows them to a taker of changes.
+pub(crate) fn take_place<R: BufRead, T: TakeChange>(
     alloc: Global,
+    shown: Shown,
     place: &Place,
     report: &mut R,
+    taker: &mut T,
     text: &mut Vec<u8>,
     first: Reading,
 ) -> Result<Taken, ReadStop>
@@ -132,6 +155,7 @@ pub(crate) fn take_place<R: BufRead>(
         × AreTaken place.now all (R.remaining report.new) done own first.next
         taken.reading.next taken.reading.count) }
     ensures below { IfOk result (λ taken. IsBelow place.now taken.reading.next) }
+    ensures shown { OnOk result (T.takes taker.old [] taker.new) }
     ensures refused { IfErr result (λ stop. (all : Option (List ℕ)) (done : List ModelLine)
         → HasRead all (R.remaining report.old) done first.next first.count
         → IfSome all (λ bytes. ReadStopsRightly bytes stop)) }
@@ -139,10 +163,11 @@ pub(crate) fn take_place<R: BufRead>(
     let mut told = nothing(alloc);
     let mut reading = first;
     for _ in 0..u64::MAX {
-        match take_line(place, told, &reading.next) {
+        match take_line(shown, place, told, &reading.next, taker) {
             Ok(Telling::More(more)) => told = more,
             Ok(Telling::Whole(told)) => return Ok(Taken { told, reading }),
-            Err(AllocError) => return Err(ReadStop::Memory),
+            Err(TakeStop::Failed) => return Err(ReadStop::Output),
+            Err(TakeStop::Memory) => return Err(ReadStop::Memory),
         }
         reading = read_next(alloc, report, text, reading)?;
     }
@@ -156,16 +181,36 @@ pub(crate) enum Telling {
     Whole(Told),
 }
 
-/// Takes the next line, if it has the place.
-fn take_line(place: &Place, told: Told, next: &Option<Line>) -> Result<Telling, AllocError>
-    ensures { IfOk result (Tells place.now told next.now) }
+/// Takes the next line, if it has the place, and shows it.
+fn take_line<T: TakeChange>(
+    shown: Shown,
+    place: &Place,
+    told: Told,
+    next: &Option<Line>,
+    taker: &mut T,
+) -> Result<Telling, TakeStop>
+    ensures tells { IfOk result (Tells place.now told next.now) }
+    ensures shown { OnOk result (T.takes taker.old [] taker.new) }
 {
     let Some(line) = next else {
         return Ok(Telling::Whole(told));
     };
     match place.cmp(&line.place) {
-        Ordering::Equal => Ok(Telling::More(tell(told, line)?)),
+        Ordering::Equal => {
+            show(shown, line, taker)?;
+            Ok(Telling::More(tell(told, line)?))
+        }
         _ => Ok(Telling::Whole(told)),
+    }
+}
+
+/// Shows a line to a taker of changes.
+fn show<T: TakeChange>(shown: Shown, line: &Line, taker: &mut T) -> Result<(), TakeStop>
+    ensures { OnOk result (T.takes taker.old [] taker.new) }
+{
+    match shown {
+        Shown::As(side) => taker.see(side, line),
+        Shown::No => Ok(()),
     }
 }
 

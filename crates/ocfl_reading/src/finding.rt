@@ -2,7 +2,7 @@
 
 use crate::lines::{line_of, put_lines};
 use crate::reading::{TakeLine, take_lines};
-use ocfl_report::{Code, Line};
+use ocfl_report::Line;
 use ocfl_messages::{Finding, Gathering, Gravest, Heads, Known, Tally};
 use std::alloc::{AllocError, Global};
 use std::io::{self, BufRead};
@@ -11,9 +11,7 @@ use std::io::{self, BufRead};
 pub struct Findings {
     /// How many findings there are of all.
     pub count: u64,
-    /// How many of those that are named were found.
-    matched: usize,
-    /// How many of these are known.
+    /// How many of those that are named are known.
     pub known: u64,
     /// How many of the others were said already.
     pub said: u64,
@@ -28,7 +26,6 @@ impl Drop for Findings {
     fn drop(self) {
         let Findings {
             count: _count,
-            matched: _matched,
             known: _known,
             said: _said,
             gravest: _gravest,
@@ -42,36 +39,29 @@ impl Findings {
     pub fn new(alloc: Global) -> Findings {
         Findings {
             count: 0,
-            matched: 0,
             known: 0,
             said: 0,
             gravest: Gravest::new(alloc),
             tally: Tally::new(),
         }
     }
-
-    /// The lines of those that are kept, in the order of places.
-    pub fn into_lines(self, alloc: Global) -> Result<Vec<Line>, AllocError> {
-        let mut lines = lines_of(alloc, &self.gravest)?;
-        sort_lines(&mut lines)?;
-        Ok(lines)
-    }
 }
 
-/// The lines that are kept of some findings, the most serious first.
+/// The lines that are kept of some findings, in the order of places, and the most serious of a place
+/// first.
 pub(crate) fn lines_of(alloc: Global, gravest: &Gravest) -> Result<Vec<Line>, AllocError> {
     let mut lines = Vec::new(alloc);
     put_lines(&gravest.bytes.first, &mut lines)?;
     put_lines(&gravest.objects.first, &mut lines)?;
     put_lines(&gravest.records.first, &mut lines)?;
     put_lines(&gravest.positions.first, &mut lines)?;
+    sort_lines(&mut lines)?;
     Ok(lines)
 }
 
-/// Whether a line is the one that is named: of that place, and of that code if one is named.
+/// Whether a line is one that is named: of that code and place.
 fn is_named(named: &Line, line: &Line) -> bool {
-    let is_code = named.code == Code::Clean || named.code == line.code;
-    is_code && named.place == line.place
+    named.code == line.code && named.place == line.place
 }
 
 /// Puts lines into the order of places.
@@ -89,20 +79,18 @@ fn have_same(lines: &[Line], line: &Line) -> bool {
     false
 }
 
-/// A search for the findings that are named.
-struct Search<'a> {
-    named: &'a [Line],
+/// Counts the lines of a report, and keeps the findings that are to be told.
+pub(crate) struct Counting<'a> {
     known: &'a Known,
     said: &'a [Line],
-    gathering: Gathering,
+    pub(crate) gathering: Gathering,
     found: Findings,
 }
 
 /// Written by hand, so that to let it go is one call wherever that happens.
-impl Drop for Search<'_> {
+impl Drop for Counting<'_> {
     fn drop(self) {
-        let Search {
-            named: _named,
+        let Counting {
             known: _known,
             said: _said,
             gathering: _gathering,
@@ -111,25 +99,30 @@ impl Drop for Search<'_> {
     }
 }
 
-impl Search<'_> {
-    /// What was found in all lines of the report.
-    fn into_found(self) -> Findings {
-        let Search {
-            named: _named,
-            known: _known,
-            said: _said,
-            gathering,
-            mut found,
-        } = self;
-        let (gravest, _) = gathering.end(true);
-        found.gravest = gravest;
-        found
+impl<'a> Counting<'a> {
+    /// Before the first line. `said` are the findings that were said already.
+    pub(crate) fn new(alloc: Global, known: &'a Known, said: &'a [Line]) -> Counting<'a> {
+        Counting {
+            known,
+            said,
+            gathering: Gathering::new(alloc, Heads::new()),
+            found: Findings::new(alloc),
+        }
     }
 
-    /// Counts one that is named. Whether it is to be told.
-    fn count_named(&mut self, line: &Line) -> bool {
+    /// Counts the next line.
+    pub(crate) fn count(&mut self, line: &Line) -> Result<(), AllocError> {
         let found = &mut self.found;
-        found.matched = found.matched.saturating_add(1);
+        found.tally.add(line)?;
+        if line.is_finding() {
+            found.count = found.count.saturating_add(1);
+        }
+        Ok(())
+    }
+
+    /// Counts a finding that is named. Whether it is to be told.
+    pub(crate) fn count_named(&mut self, line: &Line) -> bool {
+        let found = &mut self.found;
         if self.known.names(line) {
             found.known = found.known.saturating_add(1);
             return false;
@@ -141,13 +134,59 @@ impl Search<'_> {
         true
     }
 
-    /// Counts a finding. Whether it is to be told.
-    fn count_finding(&mut self, line: &Line) -> bool {
-        self.found.count = self.found.count.saturating_add(1);
-        match self.named.get(self.found.matched) {
-            Some(next) if is_named(next, line) => self.count_named(line),
+    /// What was found in all lines of the report.
+    pub(crate) fn into_found(self) -> Findings {
+        let Counting {
+            known: _known,
+            said: _said,
+            gathering,
+            mut found,
+        } = self;
+        let (gravest, _) = gathering.end(true);
+        found.gravest = gravest;
+        found
+    }
+}
+
+/// A search for the findings that are named.
+struct Search<'a> {
+    named: &'a [Line],
+    /// How many of them were found.
+    matched: usize,
+    counting: Counting<'a>,
+}
+
+/// Written by hand, so that to let it go is one call wherever that happens.
+impl Drop for Search<'_> {
+    fn drop(self) {
+        let Search {
+            named: _named,
+            matched: _matched,
+            counting: _counting,
+        } = self;
+    }
+}
+
+impl<'a> Search<'a> {
+    /// Whether a line is the next that is named, which is found by that.
+    fn is_next(&mut self, line: &Line) -> bool {
+        match self.named.get(self.matched) {
+            Some(next) if line.is_finding() && is_named(next, line) => {
+                self.matched = self.matched.saturating_add(1);
+                true
+            }
             _ => false,
         }
+    }
+
+    /// What counts its lines.
+    fn into_counting(self) -> Counting<'a> {
+        let Search {
+            named: _named,
+            matched: _matched,
+            counting,
+        } = self;
+        counting
     }
 }
 
@@ -156,15 +195,15 @@ impl TakeLine for Search<'_> {
         let Some(line) = line_of(alloc, text)? else {
             return Ok(true);
         };
-        self.found.tally.add(&line)?;
-        let is_told = line.is_finding() && self.count_finding(&line);
-        self.gathering.take(line, is_told)?;
+        self.counting.count(&line)?;
+        let is_told = self.is_next(&line) && self.counting.count_named(&line);
+        self.counting.gathering.take(line, is_told)?;
         Ok(true)
     }
 }
 
-/// Looks for findings in a report. They are named by their places and codes, in its order; under
-/// the code of no finding any one of the place is meant. `said` are those that were said already.
+/// Looks for findings in a report. They are named by their places and codes, in its order. `said`
+/// are those that were said already.
 pub fn find_lines<'a, B: BufRead>(
     alloc: Global,
     report: &mut B,
@@ -174,11 +213,9 @@ pub fn find_lines<'a, B: BufRead>(
 ) -> io::Result<Findings> {
     let mut search = Search {
         named,
-        known,
-        said,
-        gathering: Gathering::new(alloc, Heads::new()),
-        found: Findings::new(alloc),
+        matched: 0,
+        counting: Counting::new(alloc, known, said),
     };
     take_lines(alloc, report, &mut search)?;
-    Ok(search.into_found())
+    Ok(search.into_counting().into_found())
 }

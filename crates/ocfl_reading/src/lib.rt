@@ -3,6 +3,7 @@
 #![tactic(auto)]
 
 pub mod checking;
+mod compared;
 pub mod expected;
 pub mod finding;
 pub mod known;

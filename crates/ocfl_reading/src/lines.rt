@@ -25,6 +25,15 @@ pub fn line_of(alloc: Global, text: &[u8]) -> io::Result<Option<Line>> {
     }
 }
 
+/// The same line.
+pub(crate) fn copy_of(line: &Line) -> Result<Line, AllocError> {
+    Ok(Line {
+        code: line.code,
+        place: line.place.try_clone()?,
+        detail: line.detail.clone()?,
+    })
+}
+
 /// Appends the lines of findings.
 pub fn put_lines(findings: &[Finding], lines: &mut Vec<Line>) -> Result<(), AllocError> {
     for finding in findings {

@@ -1,10 +1,12 @@
 //! What changed from one report to the next, as the changes come.
 ghost use Rattle.std.specs.Prelude.{⊤};
 
-use crate::finding::sort_lines;
-use ocfl_compare::{Change, GoneList, TakeChange, TakeStop};
+use crate::compared::ComparedLines;
+use crate::finding::{Findings, lines_of, sort_lines};
+use crate::lines::copy_of;
+use ocfl_compare::{Change, GoneList, Side, TakeChange, TakeStop};
 use ocfl_report::{Code, Line};
-use ocfl_messages::{Gone, GoneKind, Known, SHOWN};
+use ocfl_messages::{Finding, Gone, GoneKind, Gravest, Known, SHOWN};
 use ocfl_tree::Place;
 use std::alloc::{AllocError, Global};
 use std::fs::File;
@@ -12,7 +14,10 @@ use std::mem;
 
 /// How many findings that are new are named at most: whether one of them is known is told by its
 /// whole line.
-const MOST_NAMED: usize = 10_000;
+const MOST_NAMED: u64 = 10_000;
+
+/// How many findings that are repaired are shown.
+const MOST_REPAIRED: u64 = SHOWN as u64;
 
 /// The first of what is gone, and how much there is.
 #[derive(Drop)]
@@ -49,13 +54,14 @@ impl Missing {
 
 /// What changed. Of each list there are the first, and how many there are.
 pub struct Changes {
-    /// Findings that are new, by their codes and places alone, up to 10,000.
+    /// Findings that are new, by their codes and places alone, up to 10,000. None where the lines of
+    /// the report were counted in the same reading.
     pub appeared: Vec<Line>,
     pub appeared_count: u64,
     /// How many others are new, and known by their codes and places.
     pub known_count: u64,
-    /// Findings that are repaired, by their codes and places alone, as many as are shown.
-    pub repaired: Vec<Line>,
+    /// Findings that are repaired, as many as are shown.
+    repaired: Gravest,
     pub repaired_count: u64,
     /// Objects that have no line of an object any more.
     pub objects: Missing,
@@ -91,7 +97,7 @@ impl Changes {
             appeared: Vec::new(alloc),
             appeared_count: 0,
             known_count: 0,
-            repaired: Vec::new(alloc),
+            repaired: Gravest::new(alloc),
             repaired_count: 0,
             objects: Missing::new(alloc),
             files: Missing::new(alloc),
@@ -122,6 +128,11 @@ impl Changes {
         Ok(gone)
     }
 
+    /// The lines of what is repaired, as the report before has them, as many as are shown.
+    pub fn repaired(&self, alloc: Global) -> Result<Vec<Line>, AllocError> {
+        lines_of(alloc, &self.repaired)
+    }
+
     /// Takes those of another comparison of the same report, of other places, too.
     pub fn join(&mut self, other: &mut Changes) -> Result<(), AllocError> {
         self.appeared_count = self.appeared_count.saturating_add(other.appeared_count);
@@ -141,8 +152,14 @@ pub struct Rows<'k, 'p> {
     alloc: Global,
     /// New findings that are known do not count.
     known: &'k Known,
+    /// The findings that were said already.
+    said: &'k [Line],
     /// If it is there, the changes of these places and of what is below them count alone.
     within: Option<&'p [Place]>,
+    /// The first finding of each code that the report before has at its last place with one.
+    before: Vec<Line>,
+    /// Counts the lines of this report, if they are not read again.
+    lines: Option<ComparedLines<'k>>,
     changes: Changes,
     list: GoneList<File>,
 }
@@ -153,7 +170,10 @@ impl Drop for Rows<'_, '_> {
         let Rows {
             alloc: _alloc,
             known: _known,
+            said: _said,
             within: _within,
+            before: _before,
+            lines: _lines,
             changes: _changes,
             list: _list,
         } = self;
@@ -161,14 +181,40 @@ impl Drop for Rows<'_, '_> {
 }
 
 impl<'k, 'p> Rows<'k, 'p> {
-    /// With no change yet.
-    pub fn new(alloc: Global, known: &'k Known, list: File) -> Rows<'k, 'p> {
+    /// With no change yet. `said` are the findings that were said already.
+    pub fn new(alloc: Global, known: &'k Known, said: &'k [Line], list: File) -> Rows<'k, 'p> {
         Rows {
             alloc,
             known,
+            said,
             within: None,
+            before: Vec::new(alloc),
+            lines: None,
             changes: Changes::new(alloc),
             list: GoneList::new(alloc, list),
+        }
+    }
+
+    /// New findings that are known.
+    pub fn known(&self) -> &'k Known {
+        self.known
+    }
+
+    /// The findings that were said already.
+    pub fn said(&self) -> &'k [Line] {
+        self.said
+    }
+
+    /// Counts the lines of this report while it is compared, with the whole lines of what is new.
+    pub fn count_lines(&mut self) {
+        self.lines = Some(ComparedLines::new(self.alloc, self.known, self.said));
+    }
+
+    /// What was found in the lines of this report, if they were counted.
+    pub fn take_found(&mut self) -> Result<Option<Findings>, AllocError> {
+        match self.lines.take() {
+            Some(lines) => Ok(Some(lines.into_found()?)),
+            None => Ok(None),
         }
     }
 
@@ -196,24 +242,48 @@ impl<'k, 'p> Rows<'k, 'p> {
         }
     }
 
-    /// Notes a finding that is repaired.
-    fn note_repaired(&mut self, line: Line) -> Result<(), AllocError> {
-        self.changes.repaired_count = self.changes.repaired_count.saturating_add(1);
-        if self.changes.repaired.len() < SHOWN {
-            self.changes.repaired.push(line)?;
+    /// Keeps a finding of the report before, until it is known whether it is repaired.
+    fn keep_before(&mut self, line: &Line) -> Result<(), AllocError> {
+        if !line.is_finding() || self.changes.repaired_count >= MOST_REPAIRED {
+            return Ok(());
+        }
+        if !is_at(&self.before, &line.place) {
+            self.before.clear();
+        }
+        if find_code(&self.before, line.code).is_none() {
+            self.before.push(copy_of(line)?)?;
         }
         Ok(())
     }
 
-    /// Notes a finding that is new.
-    fn note_new(&mut self, line: Line) -> Result<(), AllocError> {
-        if self.known.names(&line) {
-            self.changes.known_count = self.changes.known_count.saturating_add(1);
+    /// Notes a finding that is repaired.
+    fn note_repaired(&mut self, code: Code, place: &Place) -> Result<(), AllocError> {
+        let changes = &mut self.changes;
+        changes.repaired_count = changes.repaired_count.saturating_add(1);
+        if changes.repaired_count > MOST_REPAIRED || !is_at(&self.before, place) {
             return Ok(());
         }
-        self.changes.appeared_count = self.changes.appeared_count.saturating_add(1);
-        if self.changes.appeared.len() < MOST_NAMED {
-            self.changes.appeared.push(line)?;
+        match find_code(&self.before, code) {
+            Some(line) => changes.repaired.add(alone(copy_of(line)?)),
+            None => Ok(()),
+        }
+    }
+
+    /// Notes a finding that is new.
+    fn note_new(&mut self, code: Code, place: &Place) -> Result<(), AllocError> {
+        let line = bare_line(self.alloc, code, place)?;
+        let changes = &mut self.changes;
+        if self.known.names(&line) {
+            changes.known_count = changes.known_count.saturating_add(1);
+            return Ok(());
+        }
+        changes.appeared_count = changes.appeared_count.saturating_add(1);
+        if changes.appeared_count > MOST_NAMED {
+            return Ok(());
+        }
+        match &mut self.lines {
+            Some(lines) => lines.name(code, place),
+            None => changes.appeared.push(line)?,
         }
         Ok(())
     }
@@ -230,14 +300,23 @@ impl<'k, 'p> Rows<'k, 'p> {
                 changes.unlooked = changes.unlooked.saturating_add(1);
                 Ok(())
             }
-            Change::Found(code) => self.note_new(bare_line(self.alloc, code, place)?),
-            Change::Repaired(code) => self.note_repaired(bare_line(self.alloc, code, place)?),
+            Change::Found(code) => self.note_new(code, place),
+            Change::Repaired(code) => self.note_repaired(code, place),
         }
     }
 }
 
 impl TakeChange for Rows<'_, '_> {
     ghost takes = { λ _ _ _. ⊤ };
+
+    fn see(&mut self, side: Side, line: &Line) -> Result<(), TakeStop> {
+        match (side, &mut self.lines) {
+            (Side::Before, _) => self.keep_before(line)?,
+            (Side::Now, Some(lines)) => lines.take(line)?,
+            (Side::Now, None) => (),
+        }
+        Ok(())
+    }
 
     fn take(&mut self, place: &Place, change: Change) -> Result<(), TakeStop> {
         if !self.counts(place) {
@@ -261,6 +340,28 @@ fn is_within(place: &Place, branches: &[Place]) -> bool {
         }
     }
     false
+}
+
+/// Whether these lines are of a place.
+fn is_at(lines: &[Line], place: &Place) -> bool {
+    match lines.first() {
+        Some(line) => line.place == *place,
+        None => false,
+    }
+}
+
+/// The line of a code.
+fn find_code(lines: &[Line], code: Code) -> Option<&Line> {
+    lines.iter().find(|line| line.code == code)
+}
+
+/// A finding of which the object is not asked.
+fn alone(line: Line) -> Finding {
+    Finding {
+        line,
+        object: None,
+        files: None,
+    }
 }
 
 /// The line of a code at a place, without its detail.

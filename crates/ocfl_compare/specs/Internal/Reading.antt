@@ -7,7 +7,7 @@ use Rattle.ocfl_report.specs.{Line.{Line, line_of}, Text.{lines_text, IsLineText
 use Rattle.ocfl_report.specs.declared.line.Line.{Line as MadeLine}
 use Rattle.ocfl_separators.specs.Splits.{AreLines, IsNotLess, IsBadReportLine}
 use Rattle.ocfl_compare.specs.declared.reading.ReadStop.{ReadStop}
-use Rattle.ocfl_compare.specs.declared.reading.ReadStop.TheVariants.{Line as BadLine, Failed, Memory}
+use Rattle.ocfl_compare.specs.declared.reading.ReadStop.TheVariants.{Line as BadLine, Failed, Output, Memory}
 
 abbrev pub listed : Option MadeLine → List Line
 listed None = []
@@ -74,4 +74,5 @@ IsNextPlace (Some p) b n = (IsAt p b ⊎ IsAt p n) × (IsNotAbove p b × IsNotAb
 abbrev pub ReadStopsRightly : Text → ReadStop → Type 0
 ReadStopsRightly b (BadLine n) = IsBadReportLine b n
 ReadStopsRightly b Failed = ⊤
+ReadStopsRightly b Output = ⊤
 ReadStopsRightly b Memory = ⊤

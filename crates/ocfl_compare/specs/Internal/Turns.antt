@@ -10,7 +10,7 @@ use Rattle.ocfl_compare.specs.declared.change.Change.{Change}
 use Rattle.ocfl_compare.specs.declared.change.ChangeAt.{ChangeAt}
 use Rattle.ocfl_compare.specs.declared.question.Question.{Question}
 use Rattle.ocfl_compare.specs.declared.reading.ReadStop.{ReadStop}
-use Rattle.ocfl_compare.specs.declared.reading.ReadStop.TheVariants.{Line as BadLine, Failed, Memory}
+use Rattle.ocfl_compare.specs.declared.reading.ReadStop.TheVariants.{Line as BadLine, Failed, Output, Memory}
 use Rattle.ocfl_compare.specs.declared.stop.CompareStop.{CompareStop}
 use Rattle.ocfl_compare.specs.declared.stop.CompareStop.TheVariants as stop
 
@@ -112,9 +112,11 @@ pub record IsSoFar (asked : Question) (left : List Place) (b c : Option Text) (b
 abbrev pub before_stop : ReadStop → CompareStop
 before_stop (BadLine n) = stop.Before n
 before_stop Failed = stop.BeforeFailed
+before_stop Output = stop.Output
 before_stop Memory = stop.Memory
 
 abbrev pub now_stop : ReadStop → CompareStop
 now_stop (BadLine n) = stop.Now n
 now_stop Failed = stop.NowFailed
+now_stop Output = stop.Output
 now_stop Memory = stop.Memory

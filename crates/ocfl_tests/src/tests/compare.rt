@@ -11,6 +11,7 @@ use std::io::{BufRead, BufReader};
 use std::test::Fail;
 
 mod expecting;
+mod seeing;
 
 /// A root with two objects, of which one has a file that is missing.
 const BEFORE: &str = "ok\t.\t-\nok\to\t-\nok\to/v1/content/a\t3\n\

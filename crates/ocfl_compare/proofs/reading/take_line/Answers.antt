@@ -3,11 +3,11 @@ use Rattle.ocfl_compare.specs.{Internal.Reading.{listed}, Internal.Telling.{IsTo
 use Rattle.ocfl_compare.proofs.Tellings.{equal_at, at_equal}
 use Rattle.ocfl_compare.proofs.reading.take_line.Goals as goal
 
-pub returns-in_ok-tell-in-Equal : goal.returns-in_ok-tell-in-Equal
-returns-in_ok-tell-in-Equal c = (
+pub returns-in_ok-tell-in-Equal-clause-tells : goal.returns-in_ok-tell-in-Equal-clause-tells
+returns-in_ok-tell-in-Equal-clause-tells g c = (
   equal_at c.args.place.now c.args.next.now c.in-Some.line c.in-Some.is (sym c.cmp.ensures ∙ c.in-Equal.is),
   λ own h. subst (λ o. IsTold c.in_ok-tell-in-Equal.field-0 (own ++ listed o)) (sym c.in-Some.is) (c.in_ok-tell-in-Equal.ensures own h),
 )
 
-pub returns-in_default-cmp : goal.returns-in_default-cmp
-returns-in_default-cmp c = (λ a. c.in_default-cmp.not-Equal (c.cmp.ensures ∙ at_equal c.args.place.now c.args.next.now c.in-Some.line c.in-Some.is a), refl)
+pub returns-in_default-cmp-clause-tells : goal.returns-in_default-cmp-clause-tells
+returns-in_default-cmp-clause-tells g c = (λ a. c.in_default-cmp.not-Equal (c.cmp.ensures ∙ at_equal c.args.place.now c.args.next.now c.in-Some.line c.in-Some.is a), refl)

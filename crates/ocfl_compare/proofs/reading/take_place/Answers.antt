@@ -1,24 +1,27 @@
-use Rattle.std.proofs.{Common.{◌++◌}, lemmas.Result.{err_from_is_err_and}}
+use Rattle.std.proofs.{Common.{[], ◌++◌}, lemmas.Result.{err_from_is_err_and}}
 use Rattle.ocfl_compare.specs.Internal.Reading.{listed}
 use Rattle.ocfl_compare.proofs.Tellings.{taken_more, at_open, at_another, goes_from}
 use Rattle.ocfl_compare.proofs.reading.take_place.Goals as goal
 
 pub returns-in-Ok-Whole-clause-below : goal.returns-in-Ok-Whole-clause-below
 returns-in-Ok-Whole-clause-below g c =
-    let whole = rw c.in-Ok-Whole.field-0-is at c.in-Ok-Whole.ensures in
+    let whole = rw c.in-Ok-Whole.field-0-is at c.in-Ok-Whole.ensures.tells in
     at_another c.args.place.now c.loop.reading.next c.loop.invariant.least whole.0
+
+pub returns-in-Ok-Whole-clause-shown : goal.returns-in-Ok-Whole-clause-shown
+returns-in-Ok-Whole-clause-shown g c = g.met.T.TakeChange.joined c.args.taker.now c.loop.taker c.take_line.new.taker [] [] c.loop.invariant.shown c.in-Ok-Whole.ensures.shown
 
 pub returns-in_err-reading-clause-refused : goal.returns-in_err-reading-clause-refused
 returns-in_err-reading-clause-refused g c =
     let p = err_from_is_err_and c.from_residual.result c.from_residual.ensures.1 in
-    let more = rw c.in-Ok-More.field-0-is at c.in-Ok-More.ensures in
+    let more = rw c.in-Ok-More.field-0-is at c.in-Ok-More.ensures.tells in
     rw (p.1, p.2) (λ all done h.
     let t = c.loop.invariant.taken all done h in
     c.in_err-reading.ensures.refused all (done ++ t.0) (at_open c.args.place.now c.loop.reading.next (done ++ t.0) more.0) t.2.reading.reading)
 
 pub loop-preserved : goal.loop-preserved
 loop-preserved g c =
-    let more = rw c.in-Ok-More.field-0-is at c.in-Ok-More.ensures in
+    let more = rw c.in-Ok-More.field-0-is at c.in-Ok-More.ensures.tells in
     record {
       taken = λ all done h.
           let t = c.loop.invariant.taken all done h in
@@ -26,4 +29,5 @@ loop-preserved g c =
           let taken = taken_more c.args.place.now all (g.R.Read.remaining c.loop.report) (g.R.Read.remaining c.read_next.new.report) done t.0 c.args.first.next c.loop.reading.next _ c.loop.reading.count _ more.0 t.2 read in
           (t.0 ++ listed c.loop.reading.next, more.1 t.0 t.1, taken);
       least = goes_from c.args.place.now c.loop.reading.next _ more.0 c.in_ok-reading.ensures.order;
+      shown = g.met.T.TakeChange.joined c.args.taker.now c.loop.taker c.take_line.new.taker [] [] c.loop.invariant.shown c.in-Ok-More.ensures.shown;
     }

@@ -33,8 +33,9 @@ with_left left s = record { bytes = s.bytes; marks = s.marks; opened = s.opened;
 abbrev pub with_made : Text → Seen → Seen
 with_made bytes s = record { bytes = s.bytes; marks = s.marks; opened = s.opened; left = s.left; made = s.made ++ bytes; put = s.put }
 
+-- the joined report was put, and nothing is made then
 abbrev pub with_put : Bool → Seen → Seen
-with_put whole s = record { bytes = s.bytes; marks = s.marks; opened = s.opened; left = s.left; made = s.made; put = s.put ++ record { whole = whole; bytes = s.made } ∷ [] }
+with_put whole s = record { bytes = s.bytes; marks = s.marks; opened = s.opened; left = s.left; made = []; put = s.put ++ record { whole = whole; bytes = s.made } ∷ [] }
 
 -- the next line was read, with its line feed, or what is left; or nothing is left
 pub record ReadsLine (more : Bool) (line : Text) (old new : Seen) : Type 0 where

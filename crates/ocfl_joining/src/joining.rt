@@ -3,7 +3,7 @@ ghost use Rattle.std.specs.Prelude.{◌≡◌, ◌⊎◌, ◌↔◌, ◌+◌, Bo
 ghost use Rattle.std.specs.Prelude.{IsTrue};
 ghost use Rattle.std.specs.Prelude.{IfOk, IfErr, OnOk, OnErr};
 ghost use Rattle.ocfl_tree.specs.Place.{Place as ModelPlace};
-ghost use Rattle.ocfl_joining.specs.{Joined.{IsJoined, MayJoin}, Reports.{Seen, begun, with_put}};
+ghost use Rattle.ocfl_joining.specs.{Joined.{IsJoined, MayJoin}, Reports.{Put, Seen, begun, with_put}};
 ghost use Rattle.ocfl_joining.specs.Missing.{are_right, hindering_of, left_of, missing_of};
 ghost use Rattle.ocfl_joining.specs.Stops.{IsChangedRightly, IsMissingRightly, IsOfPart};
 ghost use Rattle.ocfl_joining.specs.Stops.{is_missing, is_output};
@@ -89,7 +89,7 @@ fn copy_all<R: PartReports>(
 /// The joined report has the bytes of all of them in their order, each once, and is put once each
 /// was found to be as it was closed, with lines of its part alone. Each is opened once, and read and
 /// checked while it is copied. If the report of a part is not whole, the joined one is put as one
-/// that is not whole, and the places that parts left out are given.
+/// that is not whole, and the places that parts left out are given. After `Ok` a crash leaves it.
 pub fn join<R: PartReports>(
     alloc: Global,
     separators: &Separators,
@@ -110,6 +110,8 @@ pub fn join<R: PartReports>(
     ensures part { IfErr result (IsOfPart separators.now) }
 
     // Of reports that are told.
+    ensures durable { IsTrue R.told → OnOk result ((puts : List Put)
+        → R.may_leave reports.new puts → puts ≡ (R.seen reports.new).put) }
     ensures joined { IsTrue R.told → IfOk result (λ joined.
         IsJoined separators.now joined.whole (R.seen reports.old) (R.seen reports.new)) }
     ensures changed { IsTrue R.told → IfErr result
@@ -145,6 +147,8 @@ fn make_joined<R: PartReports>(
     whole: bool,
     reports: &mut R,
 ) -> Result<(), JoinStop>
+    ensures durable { IsTrue R.told → OnOk result ((puts : List Put)
+        → R.may_leave reports.new puts → puts ≡ (R.seen reports.new).put) }
     ensures joined { IsTrue R.told → OnOk result
         (IsJoined separators.now whole (R.seen reports.old) (R.seen reports.new)) }
     ensures changed { IsTrue R.told → IfErr result
@@ -184,6 +188,8 @@ fn put<R: PartReports>(whole: bool, reports: &mut R) -> Result<(), JoinStop>
         (R.seen reports.new ≡ with_put whole (R.seen reports.old)) }
     ensures may { IsTrue R.told → OnErr result (((R.seen reports.new).put
         ≡ (R.seen reports.old).put) ⊎ (R.seen reports.new ≡ with_put whole (R.seen reports.old))) }
+    ensures durable { IsTrue R.told → OnOk result ((puts : List Put)
+        → R.may_leave reports.new puts → puts ≡ (R.seen reports.new).put) }
     ensures why { IfErr result (λ stop. is_output stop ≡ true) }
     ensures named { IfErr result (λ stop. is_missing stop ≡ false) }
     ensures other { (separators : List ModelPlace) (s : Seen)

@@ -88,6 +88,8 @@ impl PartReports for MemoryReports {
 
     ghost seen = { seen_in };
 
+    ghost may_leave = { λ reports puts. puts ≡ (seen_in reports).put };
+
     fn begin(&mut self) -> Result<(), ReportTrouble> {
         self.made.clear();
         Ok(())
@@ -125,6 +127,7 @@ impl PartReports for MemoryReports {
         if self.put.push(MemoryJoined { whole, bytes }).is_err() {
             return Err(ReportTrouble::Memory);
         }
+        self.made = Vec::new(self.alloc);
         Ok(())
     }
 }

@@ -1,6 +1,6 @@
 //! Closed reports of parts, and the joined one that is made of them.
-ghost use Rattle.std.specs.Prelude.{◌≡◌, ◌⊎◌, Bool, false, IsTrue, IfOk, OnOk, OnErr};
-ghost use Rattle.ocfl_joining.specs.Reports.{ReadsLine, Seen, begun, nothing_seen, with_made};
+ghost use Rattle.std.specs.Prelude.{◌≡◌, ◌⊎◌, Bool, false, List, IsTrue, IfOk, OnOk, OnErr, ⊤};
+ghost use Rattle.ocfl_joining.specs.Reports.{Put, ReadsLine, Seen, begun, nothing_seen, with_made};
 ghost use Rattle.ocfl_joining.specs.Reports.{with_open, with_put};
 
 use ocfl_state::ReportMark;
@@ -42,6 +42,9 @@ pub trait PartReports {
     /// What calls show, and what they made.
     ghost seen: { Self → Seen } = { λ _. nothing_seen };
 
+    /// The joined reports that a crash at this moment may leave.
+    ghost may_leave: { Self → List Put → Type 0 } = { λ _ _. ⊤ };
+
     /// Begins the joined report, which has nothing yet.
     fn begin(&mut self) -> Result<(), ReportTrouble>
         ensures begun { IsTrue told → OnOk result (seen self.new ≡ begun (seen self.old)) }
@@ -73,5 +76,7 @@ pub trait PartReports {
     fn put(&mut self, whole: bool) -> Result<(), ReportTrouble>
         ensures put { IsTrue told → OnOk result (seen self.new ≡ with_put whole (seen self.old)) }
         ensures may { IsTrue told → OnErr result (((seen self.new).put ≡ (seen self.old).put)
-            ⊎ (seen self.new ≡ with_put whole (seen self.old))) };
+            ⊎ (seen self.new ≡ with_put whole (seen self.old))) }
+        ensures durable { IsTrue told → OnOk result ((puts : List Put)
+            → may_leave self.new puts → puts ≡ (seen self.new).put) };
 }

@@ -2,12 +2,13 @@
 use Rattle.std.specs.Prelude.{ℕ, ◌++◌, codes, decimal}
 use Rattle.ocfl_tree.specs.Place.{Text}
 use Rattle.ocfl_report.specs.Text.{escape}
+use Rattle.ocfl_messages.specs.Quoted.{quoted}
 use Rattle.ocfl_messages.specs.declared.refusal.RefusalMessage.{RefusalMessage}
 use Rattle.ocfl_messages.specs.declared.refusal.RefusalMessage.TheVariants.{NoCheckpoint, HasReports, NotCheckpoint, Version, Damaged, Malformed, OfScripts, NoRoot, OtherRoot, OtherDeclaration, OtherPart, NamesGone, Older, RootChanged, Worn}
 
 -- longer ones
 abbrev pub other_root_text : Text → Text → Text → Text
-other_root_text bound root state = escape state ++ codes " belongs to the storage root " ++ escape bound ++ codes ", and this one is " ++ escape root ++ codes ". A root at another path needs a new state folder."
+other_root_text bound root state = escape state ++ codes " belongs to the storage root " ++ escape bound ++ codes ", and this one is " ++ escape root ++ codes ". A root at another path needs a new state folder, whose first cycle is compared with nothing. To find what was lost in the move, give --expected the list that ocfl-scrub-reports expected " ++ quoted state ++ codes " writes."
 
 abbrev pub other_declaration_text : Text → Text → Text
 other_declaration_text root state = escape state ++ codes ": the declaration of " ++ escape root ++ codes " is not the one of before. --force-root runs it anyway."

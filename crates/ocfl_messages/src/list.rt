@@ -19,7 +19,7 @@ const MAX_BYTES: usize = 16_777_216;
 #[derive(Clone, Copy, Debug, PartialEq, Eq, Error)]
 pub enum KnownStop {
     /// The first line, from 1, that names neither findings nor a loss, and is no remark.
-    #[error("bad list of known findings: line {0}")]
+    #[error("bad list of known findings: line {0} is neither a report line nor a code and a path")]
     Line(usize),
     /// There are more than 16,777,216 bytes.
     #[error("bad list of known findings: too long")]

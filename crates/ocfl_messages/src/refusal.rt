@@ -3,6 +3,7 @@ ghost use Rattle.std.specs.Prelude.{◌≡◌, ◌++◌, [], IfOk, string_bytes}
 ghost use Rattle.ocfl_report.specs.Text.{escape};
 ghost use Rattle.ocfl_messages.specs.Refusal.{refusal_text as text_of_refusal, reason_text, ending_text, names_gone_text, older_text, other_declaration_text, other_part_text, other_root_text};
 
+use crate::quoted::Quoted;
 use crate::shown::Shown;
 use std::alloc::{AllocError, Global};
 
@@ -112,7 +113,7 @@ fn worn(alloc: Global, state: Shown<'_>) -> Result<String, AllocError>
     format!(in alloc; "The number of the cycle in {state} cannot grow any further.")
 }
 
-/// Of a folder that is another root's.
+/// Of a folder that is another root's. The command can be pasted.
 fn other_root(
     alloc: Global,
     bound: &str,
@@ -122,10 +123,12 @@ fn other_root(
     ensures { IfOk result (λ text. string_bytes text
         ≡ other_root_text bound.now root.entry.0.now state.entry.0.now) }
 {
-    let bound = Shown(bound);
+    let (bound, folder) = (Shown(bound), Quoted(state.0));
     format!(in alloc;
         "{state} belongs to the storage root {bound}, and this one is {root}. A root at another \
-         path needs a new state folder."
+         path needs a new state folder, whose first cycle is compared with nothing. To find what \
+         was lost in the move, give --expected the list that ocfl-scrub-reports expected {folder} \
+         writes."
     )
 }
 

@@ -570,7 +570,9 @@ fn refusals_say_why(rt: HostRuntime) -> Result<(), Fail> {
         (
             RefusalMessage::OtherRoot("/srv/\u{1b}[2J"),
             "S belongs to the storage root /srv/%1B[2J, and this one is R. A root at another path \
-             needs a new state folder. Nothing was run.\n",
+             needs a new state folder, whose first cycle is compared with nothing. To find what was \
+             lost in the move, give --expected the list that ocfl-scrub-reports expected 'S' \
+             writes. Nothing was run.\n",
         ),
         (
             RefusalMessage::NamesGone { gone: 3, before: 5 },

@@ -2,14 +2,14 @@
 use Rattle.std.proofs.Common.{◌≡◌, ◌≢◌, ℕ, ◌+◌, ◌-◌, ◌<◌, ◌≤◌, ◌^◌, ◌==◌, List, [], ◌∷◌, ◌++◌, Bool, true, false, cond, All, length, take, drop, codes, decimal, refl, ap, ◌∙◌, nat_le, leb-true, length-append, flat_map, IsUtf8, arith}
 use Rattle.std.proofs.lemmas.{Bool.Decides.{nat_tests}, List.{length-take}}
 use Rattle.std.proofs.lemmas.List.Elements.{All-append, All-cons, All-drop, All-filter, All-head, All-nil, All-tail, All-take, filter-append}
-use Rattle.std.specs.{Prelude.{IfSome, Option, Some, None, ◌&&◌, nat_lt}, List.{filter, list_any}}
+use Rattle.std.specs.{Prelude.{IfSome, Option, Some, None, ◌&&◌, nat_lt, not}, List.{filter, list_any}}
 use Rattle.ocfl_tree.specs.{Name.{IsName, IsPlace}, Path.{slashed}, Place.{Text, Place}}
 use Rattle.ocfl_report.specs.{Text.{code_text, escape, place_text}, declared.code.Code.{Code}}
 use Rattle.ocfl_report.specs.declared.code.Code.TheVariants.{Clean, E001, E003, E007, E015, E017, E018, E023, E024, E025, E033, E036, E041, E058, E060, E061, E063, E069, E072, E073, E076, E080, E092, E093, E096, E097, E099, E100, E101, S01, S02, S03, S04, S05, S06, S07, S08}
 use Rattle.ocfl_report.proofs.{Bytes.{utf8_bytes}, CodeTexts.{code_text_printable}, Escapes.{escape_printable}, LineTexts.{no_line_feed}, Numbers.{decimal_no_line_feed}, PlaceTexts.{place_text_printable}, ReadPaths.{path_utf8}}
 use Rattle.ocfl_codes.specs.Meaning.{meaning_of}
 use Rattle.ocfl_messages.specs.{Command.{is_plain, over_text, path_text}, Finding.{Finding, IsPlaced}, Quoted.{has_control, quoted, quoted_byte}}
-use Rattle.ocfl_messages.specs.Grouped.{Sorted, below_text, brief_body, brief_finding, brief_head, brief_respelt, brief_text, count_with, first_with, fit_text, group_text, groups_text, inner_text, is_alone, is_with, lead_with, leads_after, leads_of, led_by, line_count, one_if, others_text, picked, respelt_words, shown_group, shown_leads, sorted}
+use Rattle.ocfl_messages.specs.Grouped.{Sorted, below_text, brief_body, brief_finding, brief_head, brief_respelt, brief_text, count_with, first_with, fit_text, group_text, groups_text, inner_text, is_alone, is_beside, is_with, kept_of, lead_with, leads_after, leads_of, led_by, line_count, one_if, others_text, picked, respelt_of, respelt_words, shown_group, shown_leads, sorted}
 use Rattle.ocfl_codes.specs.declared.weight.Weight.{Weight}
 use Rattle.ocfl_codes.specs.declared.weight.Weight.TheVariants.{Bytes, Object, Record, Position}
 use Rattle.ocfl_messages.specs.{Gravest.{by_weight, gravest, is_of_weight, most_kept, of_weight}, Many.{many_text, word_text}, declared.night.Night.{Night}}
@@ -119,9 +119,12 @@ head_flat f h = by f.object h.object
 
 -- ---- groups
 
+shorter : (p : Finding → Bool) (fs : List Finding) → length (filter p fs) ≤ length fs
+shorter p [] = omega arith
+shorter p (g ∷ fs) = elim (p g) as (λ b. length (cond b (g ∷ filter p fs) (filter p fs)) ≤ length (g ∷ fs)) [ true ↦ omega (arith, shorter p fs) | false ↦ omega (arith, shorter p fs) ]
+
 fewer : (f : Finding) (fs : List Finding) → count_with f fs ≤ length fs
-fewer f [] = omega arith
-fewer f (g ∷ fs) = elim (is_with f g) as (λ b. length (cond b (g ∷ filter (is_with f) fs) (filter (is_with f) fs)) ≤ length (g ∷ fs)) [ true ↦ omega (arith, fewer f fs) | false ↦ omega (arith, fewer f fs) ]
+fewer f fs = shorter (is_with f) fs
 
 finding_flat : (n : ℕ) (f : Finding) → n < 2 ^ 64 → IsPlaced f → line_count (brief_finding n f) ≡ 0
 finding_flat n f l h =
@@ -196,7 +199,10 @@ picked_placed is seen (f ∷ fs) h = All-append IsPlaced (one_if (is seen f) f) 
 
 pub groups_fit : (root : Text) (fs : List Finding) (room : ℕ) → length fs < 2 ^ 64 → All IsPlaced fs → line_count (groups_text root room fs) ≤ room
 groups_fit root fs room l h =
-    fit_fits root (sorted fs) [] (take room (leads_of fs)) room (record { few = l; placed = picked_placed (is_alone fs) [] fs h }) (All-take IsPlaced room (leads_of fs) (leads_placed [] fs (All-nil IsPlaced) h)) (omega (arith, length-take room (leads_of fs)))
+    let is_kept : Finding → Bool = λ f. not (is_beside (respelt_of fs) f) in
+    let few : length (kept_of fs) < 2 ^ 64 = omega (arith, l, shorter is_kept fs) in
+    let placed : All IsPlaced (kept_of fs) = All-filter is_kept IsPlaced fs h in
+    fit_fits root (sorted fs) [] (take room (leads_of fs)) room (record { few = few; placed = picked_placed (is_alone (kept_of fs)) [] (kept_of fs) placed }) (All-take IsPlaced room (leads_of fs) (leads_placed [] fs (All-nil IsPlaced) h)) (omega (arith, length-take room (leads_of fs)))
 
 -- ---- the message of a night
 

@@ -4,7 +4,7 @@ use Rattle.std.specs.List.{filter, list_any}
 use Rattle.unicode_normalization.specs.Forms.{nfc}
 use Rattle.ocfl_tree.specs.{Path.{slashed}, Place.{Text, Place, place_eq, text_eq}}
 use Rattle.ocfl_report.specs.{Text.{code_text}, declared.code.Code.{Code}}
-use Rattle.ocfl_report.specs.declared.code.Code.TheVariants.{E023, E092}
+use Rattle.ocfl_report.specs.declared.code.Code.TheVariants.{E023, E092, E093}
 use Rattle.ocfl_codes.specs.Meaning.{first_step_of, meaning_of}
 use Rattle.ocfl_messages.specs.{Command.{again_text, path_text}, Finding.{Finding, finding_of}, Known.{code_eq}, Many.{many_text}}
 use Rattle.ocfl_messages.specs.{Wording.{at_space, coded_text, is_missing, path_part, said_text}, declared.grouped.Sorted.{Sorted as MadeSorted}}
@@ -137,14 +137,32 @@ alone_of fs = picked (is_alone fs) [] fs
 abbrev pub respelt_of : List Finding → List Finding
 respelt_of fs = picked (is_paired true fs) [] fs
 
--- a list, and what is shown of its findings one by one
+-- a file of the fixity block is missing
+abbrev pub is_missed : Finding → Bool
+is_missed f = code_eq f.line.code E093 && is_missing (at_space f.line.detail)
+
+abbrev pub is_at : Finding → Finding → Bool
+is_at f g = is_with f g && place_eq f.line.place g.line.place
+
+-- and is the one that is missing of one of these pairs
+abbrev pub is_beside : List Finding → Finding → Bool
+is_beside respelt f = is_missed f && list_any (is_at f) respelt
+
+abbrev pub without_beside : List Finding → List Finding → List Finding
+without_beside respelt fs = filter (λ f. not (is_beside respelt f)) fs
+
+-- a list without what the fixity block says of the missing files of its pairs
+abbrev pub kept_of : List Finding → List Finding
+kept_of fs = without_beside (respelt_of fs) fs
+
+-- a list without these, and what is shown of its findings one by one
 pub record Sorted : Type 0 where
   pub all : List Finding
   pub alone : List Finding
   pub respelt : List Finding
 
 abbrev pub sorted : List Finding → Sorted
-sorted fs = record { all = fs; alone = alone_of fs; respelt = respelt_of fs }
+sorted fs = record { all = kept_of fs; alone = alone_of (kept_of fs); respelt = respelt_of fs }
 
 abbrev pub sorted_of : MadeSorted → Sorted
 sorted_of s = record { all = map finding_of s.all.now; alone = map finding_of s.alone.now; respelt = map finding_of s.respelt.now }

@@ -12,7 +12,7 @@ use crate::command::{again, path_of};
 use crate::finding::{FileCounts, Finding};
 use crate::known::{is_code, is_place};
 use crate::many::many;
-use crate::respelt::{find_alone, find_respelt};
+use crate::respelt::{find_alone, find_kept, find_respelt};
 use crate::wording::{put_path_part, put_said, put_words};
 use ocfl_codes::{first_step, meaning};
 use ocfl_report::Code;
@@ -144,7 +144,7 @@ fn put_member(
 /// Findings, and what is shown of them one by one.
 #[derive(Clone, Copy)]
 struct Sorted<'a> {
-    /// All of them.
+    /// All of them, without what the fixity block says of the missing files of pairs.
     all: &'a [Finding],
     /// Those that are in no pair.
     alone: &'a [Finding],
@@ -719,9 +719,11 @@ pub(crate) fn put_groups(
     ensures { OnOk result (text.new.items ≡ text.old.items ++ fit_text root.now
         (sorted_findings (map finding_of all.now)) room [] (map finding_of leads.now)) }
 {
-    let (alone, respelt) = (find_alone(alloc, all)?, find_respelt(alloc, all)?);
+    let respelt = find_respelt(alloc, all)?;
+    let kept = find_kept(alloc, respelt.as_slice(), all)?;
+    let alone = find_alone(alloc, kept.as_slice())?;
     let sorted = Sorted {
-        all,
+        all: kept.as_slice(),
         alone: alone.as_slice(),
         respelt: respelt.as_slice(),
     };

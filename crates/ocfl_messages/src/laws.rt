@@ -37,7 +37,6 @@ pub fn words_of_commands_are_shown()
 {}
 
 /// Groups of findings have no more lines than there is room for, whatever the names in their places.
-#[tactic(auto, using(crate::proofs::LineCounts::groups_fit))]
 pub fn groups_have_room()
     ensures { (root : Text) (room : ℕ) (fs : List ModelFinding) → length fs < 2 ^ 64
         → All IsPlaced fs → line_count (groups_text root room fs) ≤ room }

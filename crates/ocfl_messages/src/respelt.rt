@@ -1,13 +1,14 @@
 //! Files that are there under another spelling of their names: each is a finding of the file that is
 //! missing, and one of the file that is in no inventory.
 ghost use Rattle.std.specs.Prelude.{◌≡◌, ◌++◌, ◌∷◌, [], IfOk, OnOk, encode_utf8_all, chars, map, string_bytes};
+ghost use Rattle.std.specs.List.{list_any};
 ghost use Rattle.unicode_normalization.specs.Forms.{nfc};
 ghost use Rattle.ocfl_messages.specs.Finding.{finding_of};
-ghost use Rattle.ocfl_messages.specs.Grouped.{alone_of, count_side as count_of_side, form_of, is_alone as are_alone, is_counted_with, is_lost as is_of_lost, is_paired as are_paired, is_side as is_of_side, is_spelt as are_spelt, is_stray as is_of_stray, one_if, respelt_of};
+ghost use Rattle.ocfl_messages.specs.Grouped.{alone_of, count_side as count_of_side, form_of, is_alone as are_alone, is_at as are_at, is_beside as are_beside, is_counted_with, is_lost as is_of_lost, is_missed as is_of_missed, is_paired as are_paired, is_side as is_of_side, is_spelt as are_spelt, is_stray as is_of_stray, one_if, respelt_of, without_beside};
 
 use crate::finding::Finding;
 use crate::grouped::is_with;
-use crate::known::is_code;
+use crate::known::{is_code, is_place};
 use crate::wording::{is_missing, split};
 use ocfl_report::Code;
 use ocfl_tree::{Place, is_text};
@@ -159,4 +160,60 @@ pub(crate) fn find_respelt(alloc: Global, all: &[Finding]) -> Result<Vec<Finding
         add_if(is, finding, &mut respelt)?;
     }
     Ok(respelt)
+}
+
+/// Whether a finding says that a file of the fixity block is missing.
+fn is_missed(finding: &Finding) -> bool
+    ensures { result ≡ is_of_missed (finding_of finding.now) }
+{
+    is_code(finding.line.code, Code::E093) && is_missing(split(finding.line.detail.as_bytes()))
+}
+
+/// Whether two findings of one group are of the same place.
+fn is_at(one: &Finding, other: &Finding) -> bool
+    ensures { result ≡ are_at (finding_of one.now) (finding_of other.now) }
+{
+    is_with(one, other) && is_place(&one.line.place, &other.line.place)
+}
+
+/// Whether one of some findings is of the group and the place of another one.
+fn any_at(one: &Finding, findings: &[Finding]) -> bool
+    ensures { result ≡ list_any (λ g. are_at (finding_of one.now) (finding_of g)) findings.now }
+{
+    findings.iter().any(|other| is_at(one, other))
+}
+
+/// Whether a finding is what the fixity block says of the missing file of one of these pairs.
+fn is_beside(respelt: &[Finding], finding: &Finding) -> bool
+    ensures { result ≡ are_beside (map finding_of respelt.now) (finding_of finding.now) }
+{
+    is_missed(finding) && any_at(finding, respelt)
+}
+
+/// Takes a finding unless it is beside a pair.
+fn add_kept(
+    respelt: &[Finding],
+    finding: &Finding,
+    kept: &mut Vec<Finding>,
+) -> Result<(), AllocError>
+    ensures { OnOk result (map finding_of kept.new.items ≡ map finding_of kept.old.items
+        ++ without_beside (map finding_of respelt.now) (finding_of finding.now ∷ [])) }
+{
+    add_if(!is_beside(respelt, finding), finding, kept)
+}
+
+/// The findings without what the fixity block says of the missing files of these pairs.
+pub(crate) fn find_kept(
+    alloc: Global,
+    respelt: &[Finding],
+    all: &[Finding],
+) -> Result<Vec<Finding>, AllocError>
+    ensures { IfOk result (λ kept. map finding_of kept.items
+        ≡ without_beside (map finding_of respelt.now) (map finding_of all.now)) }
+{
+    let mut kept = Vec::new(alloc);
+    for finding in all {
+        add_kept(respelt, finding, &mut kept)?;
+    }
+    Ok(kept)
 }

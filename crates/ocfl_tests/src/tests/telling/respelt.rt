@@ -78,6 +78,28 @@ fn objects_in_another_form_have_few_lines(rt: HostRuntime) -> Result<(), Fail> {
     Ok(())
 }
 
+/// The fixity block names the file too, and another one, and a third one has another digest there.
+const OF_FIXITY: &str = "ok\t.\t-\nok\to\t-\n\
+E092\to/v1/content/M%C3%BC\tsha512 missing\nE093\to/v1/content/M%C3%BC\tmd5 missing\n\
+E023\to/v1/content/Mu%CC%88\t-\nE093\to/v1/content/a\tmd5 missing\n\
+E093\to/v1/content/b\tmd5 00 11\n";
+
+const WITHOUT_FIXITY: &str = "5 findings tonight in /srv, cycle 2, run 4:
+Object o, 0 of 4 files right:
+\tv1/content/a: missing (E093)
+\tv1/content/b: not the digest of the fixity block (E093), expected md5 00, found 11
+\tv1/content/M\u{fc}: here under another spelling of its name (E092, E023)
+\tTo do: see whether E092 is there too; if not, compare the fixity block with its source
+\tTo look again: ocfl-scrub check '/srv' 'o/v1/content/M\u{fc}'
+";
+
+#[test]
+fn what_the_fixity_block_says_of_a_pair_has_no_line(rt: HostRuntime) -> Result<(), Fail> {
+    let text = message_on(rt.alloc(), OF_FIXITY)?;
+    assert_eq!(rt; text.as_str(), WITHOUT_FIXITY);
+    Ok(())
+}
+
 /// So many objects with such a file that each has one line.
 const IN_ONE_LINE: &str = "\
 Object 12: v1/content/\u{e9}: here under another spelling of its name (E092, E023)
@@ -91,7 +113,8 @@ fn a_pair_is_two_findings_of_an_object_in_one_line(rt: HostRuntime) -> Result<()
     for number in 10..33 {
         let pair = format!(in alloc;
             "ok\t{number}\t-\nE023\t{number}/v1/content/e%CC%81\t-\n\
-             E092\t{number}/v1/content/%C3%A9\tmd5 missing\n"
+             E092\t{number}/v1/content/%C3%A9\tmd5 missing\n\
+             E093\t{number}/v1/content/%C3%A9\tsha1 missing\n"
         )?;
         report.push_str(pair.as_str())?;
         if number == 13 {

@@ -15,7 +15,7 @@ use ocfl_folder::FsTree;
 use ocfl_given::given::{Found, Given, find_given, program_digest, text_of};
 use ocfl_given::waiting::{find_wait, say_wait};
 use ocfl_journal::ending::{Ended, EndedFolder, end_night, log_ended, log_unbegun, status_told};
-use ocfl_journal::noting::{Beside, Noting, OnDisk, Told, open_noting, stop_file};
+use ocfl_journal::noting::{Beside, Noting, open_noting, stop_file};
 use ocfl_journal::{NightLog, SystemLog};
 use ocfl_kept::room::Room;
 use ocfl_kept::stand::Standing;
@@ -144,7 +144,7 @@ fn runs_over<R, F, L, T, C, W>(
     block: &mut Block,
     out: W,
     is_shown: bool,
-) -> (NightEnd, Told)
+) -> Runs
 where
     R: Sight,
     F: Folder + StateFolder + Drop,
@@ -172,27 +172,32 @@ where
     let end = night_over(
         rt, planned, folder, tree, &mut clock, block, &mut out, &reasons, shown,
     );
-    (end, noting.told_by(out.into_message().speaker))
+    Runs {
+        end,
+        why: why_of(rt.global(), &reasons, tree.reason_of_last()),
+        told: noting.told_by(out.into_message().speaker),
+    }
 }
 
 /// Makes the runs of a night over an open folder.
-fn make_runs<'a, R>(
-    rt: &'a R,
+fn make_runs<R, F, L>(
+    rt: &R,
     planned: &Planned<'_>,
-    noting: &mut OnDisk<'a, R>,
+    noting: &mut Noting<F, L>,
+    log: L,
     shown_on: Terminals,
 ) -> Result<Runs, AllocError>
 where
     R: Files<File = File> + Env + AllocGlobal + Clock + Print + Eprint,
+    F: Folder + StateFolder + Drop,
+    L: NightLog + Drop,
 {
     let given = &planned.given;
-    let mut block = Block::new(rt.alloc())?;
-    let stop = stop_file(rt, given.asked.state.as_str())?;
-    let log = SystemLog::at(rt, given.asked.state.as_str())?;
     let beside = noting.beside(given.about(), log)?;
-    let reasons = beside.reasons.clone()?;
+    let mut block = Block::new(rt.alloc())?;
     let mut tree = FsTree::entering(rt, given.root.as_str())?;
-    let (end, told) = runs_over(
+    let stop = stop_file(rt, given.asked.state.as_str())?;
+    Ok(runs_over(
         rt,
         planned,
         noting,
@@ -202,12 +207,7 @@ where
         &mut block,
         output_on(rt, shown_on),
         shown_on.error,
-    );
-    Ok(Runs {
-        end,
-        why: why_of(rt.alloc(), &reasons, tree.reason()),
-        told,
-    })
+    ))
 }
 
 /// Standard output, from which progress is removed if both go to one terminal.
@@ -223,16 +223,19 @@ where
 }
 
 /// Makes the runs of a night over an open folder, and gives what is said of how it ended.
-fn run_night<'a, R>(
-    rt: &'a R,
+fn run_night<R, F, L>(
+    rt: &R,
     planned: &Planned<'_>,
-    noting: &mut OnDisk<'a, R>,
+    noting: &mut Noting<F, L>,
+    log: L,
     shown_on: Terminals,
 ) -> Result<(Runs, Option<String>), AllocError>
 where
     R: Files<File = File> + Env + AllocGlobal + Clock + Print + Eprint,
+    F: Folder + StateFolder + Drop,
+    L: NightLog + Drop,
 {
-    let runs = make_runs(rt, planned, noting, shown_on)?;
+    let runs = make_runs(rt, planned, noting, log, shown_on)?;
     if shown_on.error {
         clear(rt);
     }
@@ -282,29 +285,50 @@ where
 }
 
 /// Makes a night that is planned, and gives its status.
-fn make_planned<'a, R>(
-    rt: &'a R,
+fn make_planned<R, F, L>(
+    rt: &R,
     planned: &Planned<'_>,
-    noting: OnDisk<'a, R>,
+    noting: Noting<F, L>,
+    log: L,
     shown_on: Terminals,
 ) -> Result<u8, AllocError>
 where
     R: Files<File = File> + Env + AllocGlobal + Clock + Print + Eprint,
+    F: Folder + StateFolder + Drop,
+    L: NightLog + Drop,
 {
     let mut noting = noting;
-    let (runs, said) = run_night(rt, planned, &mut noting, shown_on)?;
+    let (runs, said) = run_night(rt, planned, &mut noting, log, shown_on)?;
     close_night(rt, &planned.given, noting, &runs, &said)
 }
 
-/// Makes a night, and gives its status.
+/// Makes a night over an open folder, and gives its status. `log` is where its lines go.
+fn make_opened<R, F, L>(
+    rt: &R,
+    found: Found<'_>,
+    noting: Noting<F, L>,
+    log: L,
+    shown_on: Terminals,
+) -> Result<u8, Failure>
+where
+    R: Files<File = File> + Env + AllocGlobal + Clock + Print + Eprint,
+    F: Folder + StateFolder + Drop,
+    L: NightLog + Drop,
+{
+    let plan = find_plan(rt, &found.given, noting.began())?;
+    let planned = Planned::of(found, plan);
+    Ok(make_planned(rt, &planned, noting, log, shown_on)?)
+}
+
+/// Makes a night, and gives its status. It alone knows the types of the folder and its log: what it
+/// calls takes any with their traits, which costs far less to prove.
 fn make_found<R>(rt: &R, found: Found<'_>, shown_on: Terminals) -> Result<u8, Failure>
 where
     R: Files<File = File> + Env + AllocGlobal + Clock + Print + Eprint,
 {
+    let log = SystemLog::at(rt, found.given.asked.state.as_str())?;
     let noting = open_noting(rt, found.given.about(), found.given.asked.create)?;
-    let plan = find_plan(rt, &found.given, noting.began())?;
-    let planned = Planned::of(found, plan);
-    Ok(make_planned(rt, &planned, noting, shown_on)?)
+    make_opened(rt, found, noting, log, shown_on)
 }
 
 /// The same of a night that is asked for.

@@ -1,8 +1,8 @@
 -- What a crash may leave of closed reports in memory.
 use Rattle.std.proofs.Common.{◌≡◌, ◌⊎◌, inl, inr, ⊎_elim, ℕ, zero, suc, Bool, true, false, Option, Some, None, Result, Ok, Err, OnOk, OnErr, IfOk, Vec, Global, ◌+◌, ◌≤◌, List, [], ◌∷◌, length, refl, sym, ap, subst, ◌∙◌, arith, length-append}
 use Rattle.std.proofs.lemmas.{Bool.{eqb-true, false≢true}, List.{take-append-le}}
-use Rattle.ocfl_accounts.specs.{Crash.{Step, After, Passes, MayPut, IsPut, Follows}, Kept.{Kept, Account, account_with, is_some, no_lists, with_account, with_list, with_lists}}
-use Rattle.std.specs.{Prelude.{◌==◌, ◌||◌, ◌++◌, cond, take}, List.{list_any}}
+use Rattle.ocfl_accounts.specs.{Crash.{Step, After, Passes, MayPut, IsPut, Follows}, Kept.{Kept, Account, is_some, no_lists, with_account, with_list, with_lists}}
+use Rattle.std.specs.{Prelude.{◌==◌, ◌||◌, cond}, List.{list_any}}
 use Rattle.ocfl_compare.specs.declared.change.ChangeAt.{ChangeAt}
 use Rattle.ocfl_accounts.specs.{Changes.{AreChanges, AreFound}, Sights.{IsOf, IsSight}, declared.{closed.Look.{Look}, pair.Pair.{Pair}}}
 use Rattle.ocfl_accounts.specs.Memory.{Held, held_of, sight_in, Content, Folder, all_kept, content_and, content_with, kept_of, leaves_now, left_since}

@@ -4,7 +4,7 @@ use Rattle.std.proofs.lemmas.Bool.{false≢true}
 use Rattle.std.specs.Prelude.{◌==◌, cond}
 use Rattle.ocfl_tree.specs.Place.{Text}
 use Rattle.ocfl_compare.specs.declared.change.ChangeAt.{ChangeAt}
-use Rattle.ocfl_accounts.specs.{Kept.{Kept, Account, is_some, has_account, with_account, with_accounts, with_list, with_lists}, Said.{Said, Grows}}
+use Rattle.ocfl_accounts.specs.{Kept.{Kept, Account, is_some, with_account, with_accounts, with_list, with_lists}, Said.{Said, Grows}}
 use Rattle.ocfl_accounts.specs.{Cycle.{Cycle}, Changes.{AreFound, IsSince, IsSinceWhole}}
 use Rattle.ocfl_accounts.specs.{Crash.{Outcomes, Passes}, Telling.{IsAccountSaid, MayAccount}}
 use Rattle.ocfl_accounts.specs.{Rounds.{Told, AreTold, MayAccounts, account_told}, declared.pair.Pair.{Pair}}

@@ -1,7 +1,7 @@
 use Rattle.std.proofs.Common.{rules, ◌∙◌, ap, subst}
 use Rattle.std.specs.Option.{option_map}
 use Rattle.ocfl_compare.specs.Gone.{gone_text}
-use Rattle.ocfl_accounts.specs.{Changes.{AreChanges, Finds}, Memory.{kept_by, kept_of}}
+use Rattle.ocfl_accounts.specs.{Changes.{AreChanges}, Memory.{kept_by, kept_of}}
 use Rattle.ocfl_accounts.proofs.memory.MemClosingsClosings.find.Goals as goal
 
 pub returns-clause-finds : goal.returns-clause-finds

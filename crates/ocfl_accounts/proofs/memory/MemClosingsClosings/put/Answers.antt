@@ -1,6 +1,6 @@
 use Rattle.std.proofs.Common.{◌≡◌, ◌∙◌, ap, subst, length}
 use Rattle.std.specs.Prelude.{OnOk}
-use Rattle.ocfl_accounts.specs.{Crash.{Passes, Follows, IsPut, MayPut}, Kept.{Account, account_with, with_account}}
+use Rattle.ocfl_accounts.specs.{Crash.{Passes, Follows, IsPut, MayPut}, Kept.{Account, with_account}}
 use Rattle.ocfl_accounts.specs.Memory.{Folder, kept_of, leaves_now, left_since}
 use Rattle.ocfl_accounts.proofs.Memories.{put_kept, put_lasts, put_may, put_or_not}
 use Rattle.ocfl_accounts.proofs.memory.MemClosingsClosings.put.Goals as goal

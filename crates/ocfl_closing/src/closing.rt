@@ -7,12 +7,15 @@ ghost use Rattle.std.proofs.lemmas.Bool.{false≢true};
 
 use crate::account::{Account, Paths, compared, compared_whole, paths_of, text_of, why_not};
 use crate::back::gone_before;
-use crate::closed::{find_made, look_at};
+use crate::closed::find_made;
 use crate::comparing::{end_changes, find_changes, find_new, find_returned, find_unlisted};
-use ocfl_accounts::{ClosingStop, Found, Look, NotSaid, Pair, Say, find_unsaid, say_cycles};
+use ocfl_accounts::{ClosingStop, Found, NotSaid, Pair, Say, find_unsaid, say_cycles};
+use ocfl_closed::{ClosedDisk, DiskClosings, FindChanges};
+use ocfl_disk::StateFile;
 use ocfl_files::failing::{Failure, say_failure};
+use ocfl_files::making::failed_file;
 use ocfl_files::timing::seconds_now;
-use ocfl_kept::kept::{is_told, read_ends};
+use ocfl_kept::kept::{is_packed, is_told, list_path, open_report, read_ends, report_path};
 use ocfl_kept::names::About;
 use ocfl_kept::room::Room;
 use ocfl_kept::state::failed_folder;
@@ -24,7 +27,8 @@ use ocfl_messages::{ClosingRow, LogRow, log_line};
 use ocfl_tree::Place;
 use std::alloc::{AllocError, Global};
 use std::fs::File;
-use std::io::Write;
+use std::io::{self, Write};
+use std::os::unix::fs::FileExt;
 use std::time::Clock;
 
 /// An output over a writer, which commits by flushing it.
@@ -229,6 +233,35 @@ impl ToldBy<'_> {
     }
 }
 
+/// A closed report that was opened.
+#[derive(Drop)]
+struct Opened {
+    file: File,
+    cycle: u64,
+    whole: bool,
+}
+
+/// That an open report could not be read.
+fn failed_report(alloc: Global, state: &str, report: &Opened, error: &io::Error) -> Failure {
+    match report_path(alloc, state, report.cycle, report.whole) {
+        Ok(path) => failed_file(alloc, path.as_str(), error),
+        Err(error) => Failure::from(error),
+    }
+}
+
+/// Brings a file, or the names in a folder, to the disk.
+fn sync_at<R: Room>(rt: &R, path: &str) -> Result<(), Failure> {
+    match sync_opened(rt, path) {
+        Ok(()) => Ok(()),
+        Err(error) => Err(failed_file(rt.global(), path, &error)),
+    }
+}
+
+fn sync_opened<R: Room>(rt: &R, path: &str) -> io::Result<()> {
+    let opened = rt.open_file(path)?;
+    opened.sync_all()
+}
+
 /// What was found of a cycle, and is not put yet.
 #[derive(Drop)]
 struct Pending {
@@ -286,26 +319,50 @@ impl<R: Room + Clock, F: Folder> Telling<'_, '_, R, F> {
         Ok(found)
     }
 
-    /// Puts the list of what was found last in place, and logs it.
-    fn put_pending(&mut self, pair: &Pair) -> Result<(), Failure> {
-        let Some(Pending { paths, account }) = self.pending.take() else {
-            return Ok(());
-        };
-        self.rt
-            .put_made(paths.new_list.as_str(), paths.list.as_str())?;
-        self.told
-            .log_closing(self.rt, self.folder, pair, &paths, &account)
+    /// Opens the closed report of a cycle that has the name of a whole one, or of one that is not.
+    fn open_named(&mut self, cycle: u64, whole: bool) -> Result<Option<Opened>, Failure> {
+        let state = self.told.about.names.state;
+        match open_report(self.rt.global(), self.folder, state, cycle)? {
+            Some(report) if report.whole == whole => Ok(Some(Opened {
+                file: report.file,
+                cycle,
+                whole,
+            })),
+            _ => Ok(None),
+        }
     }
 
-    /// Removes the list of what was found last, and logs it if this night closed the cycle.
-    fn drop_pending(&mut self, pair: &Pair) -> Result<(), Failure> {
+    /// Brings the list of what was found last to the disk.
+    fn sync_pending(&mut self) -> Result<(), Failure> {
+        match &self.pending {
+            Some(pending) => sync_at(self.rt, pending.paths.new_list.as_str()),
+            None => Ok(()),
+        }
+    }
+
+    /// Puts the list of what was found last in the place of that of a cycle.
+    fn rename_pending(&mut self, cycle: u64) -> Result<(), Failure> {
+        let list = list_path(self.rt.global(), self.told.about.names.state, cycle)?;
+        match &self.pending {
+            Some(pending) => self
+                .rt
+                .put_made(pending.paths.new_list.as_str(), list.as_str()),
+            None => Ok(()),
+        }
+    }
+
+    /// Brings the names in the folder of the closed reports to the disk.
+    fn sync_reports(&mut self) -> Result<(), Failure> {
+        let state = self.told.about.names.state;
+        let folder = format!(in self.rt.global(); "{state}/{}", StateFile::Reports)?;
+        sync_at(self.rt, folder.as_str())
+    }
+
+    /// Logs what was found last.
+    fn log_pending(&mut self, pair: &Pair) -> Result<(), Failure> {
         let Some(Pending { paths, account }) = self.pending.take() else {
             return Ok(());
         };
-        self.rt.remove_file(paths.new_list.as_str());
-        if pair.closed.cycle() != self.told.closed {
-            return Ok(());
-        }
         self.told
             .log_closing(self.rt, self.folder, pair, &paths, &account)
     }
@@ -321,43 +378,95 @@ impl<R: Room + Clock, F: Folder> Telling<'_, '_, R, F> {
     }
 }
 
-impl<R: Room + Clock + Eprint, F: Folder> ocfl_accounts::Closings for Telling<'_, '_, R, F> {
-    ghost stays = { λ told closings. absurd (false≢true told) };
+impl<R: Room + Clock + Eprint, F: Folder> ClosedDisk for Telling<'_, '_, R, F> {
+    type Report = Opened;
 
-    ghost counts_now = { λ told closings t k le now. absurd (false≢true told) };
+    ghost short = { λ told report. absurd (false≢true told) };
 
-    ghost only_now = { λ told closings k left. absurd (false≢true told) };
+    ghost is_disk = { λ told disk. absurd (false≢true told) };
 
-    fn has_account(&mut self, cycle: u64) -> Result<bool, ClosingStop> {
+    fn has_list(&mut self, cycle: u64) -> Result<bool, ClosingStop> {
         match is_told(self.rt, self.told.about.names.state, cycle) {
             Ok(is) => Ok(is),
             Err(_) => Err(ClosingStop::Memory),
         }
     }
 
-    fn look(&mut self, cycle: u64) -> Result<Look, ClosingStop> {
-        let look = look_at(self.rt, self.folder, self.told.about.names.state, cycle);
-        self.keep(look)
-    }
-
-    fn find(&mut self, pair: &Pair) -> Result<Found, ClosingStop> {
-        let found = self.find_pending(pair);
+    fn open_report(&mut self, cycle: u64, whole: bool) -> Result<Option<Opened>, ClosingStop> {
+        let found = self.open_named(cycle, whole);
         self.keep(found)
     }
 
-    fn put(&mut self, pair: &Pair) -> Result<(), ClosingStop> {
-        let put = self.put_pending(pair);
-        self.keep(put)
+    fn read_at(
+        &mut self,
+        report: &Opened,
+        start: u64,
+        buffer: &mut [u8],
+    ) -> Result<usize, ClosingStop> {
+        match report.file.read_at(buffer, start) {
+            Ok(count) => Ok(count),
+            Err(error) => {
+                let state = self.told.about.names.state;
+                self.failure = Some(failed_report(self.rt.global(), state, report, &error));
+                Err(ClosingStop::Failed)
+            }
+        }
     }
 
-    fn drop_found(&mut self, pair: &Pair) -> Result<(), ClosingStop> {
-        let dropped = self.drop_pending(pair);
-        self.keep(dropped)
+    fn kept_checkpoint(&mut self, cycle: u64) -> Result<Option<Vec<u8>>, ClosingStop> {
+        match self.folder.stored_at_closing(cycle) {
+            Ok(bytes) => Ok(bytes),
+            Err(_) => {
+                let state = self.told.about.names.state;
+                self.failure = Some(failed_folder(self.rt.global(), self.folder, state));
+                Err(ClosingStop::Failed)
+            }
+        }
+    }
+
+    fn is_packed(&mut self, cycle: u64) -> Result<bool, ClosingStop> {
+        match is_packed(self.rt, self.told.about.names.state, cycle, false) {
+            Ok(is) => Ok(is),
+            Err(_) => Err(ClosingStop::Memory),
+        }
+    }
+
+    fn sync_list(&mut self) -> Result<(), ClosingStop> {
+        let synced = self.sync_pending();
+        self.keep(synced)
+    }
+
+    fn rename_list(&mut self, cycle: u64) -> Result<(), ClosingStop> {
+        let renamed = self.rename_pending(cycle);
+        self.keep(renamed)
+    }
+
+    fn sync_folder(&mut self) -> Result<(), ClosingStop> {
+        let synced = self.sync_reports();
+        self.keep(synced)
+    }
+
+    fn remove_list(&mut self) {
+        if let Some(pending) = &self.pending {
+            self.rt.remove_file(pending.paths.new_list.as_str());
+        }
+    }
+
+    fn log(&mut self, pair: &Pair) -> Result<(), ClosingStop> {
+        let logged = self.log_pending(pair);
+        self.keep(logged)
     }
 
     fn fail(&mut self, stop: ClosingStop) {
         let failure = self.failure_of(stop);
         let _ = say_failure(self.rt, &failure);
+    }
+}
+
+impl<R: Room + Clock + Eprint, F: Folder> FindChanges for Telling<'_, '_, R, F> {
+    fn find(&mut self, pair: &Pair) -> Result<Found, ClosingStop> {
+        let found = self.find_pending(pair);
+        self.keep(found)
     }
 }
 
@@ -370,20 +479,21 @@ where
     F: Folder,
     W: Write,
 {
-    let mut telling = Telling {
+    let telling = Telling {
         rt,
         folder,
         told,
         pending: None,
         failure: None,
     };
+    let mut closings = DiskClosings::over(rt.global(), telling, told.closed);
     let mut first = told.before;
     // A cycle that could not be looked at is the first: then it is said, or why it is not.
-    let _ = find_unsaid(&mut telling, &mut first);
+    let _ = find_unsaid(&mut closings, &mut first);
     let end = told.before.max(told.closed).saturating_add(1);
     say_cycles(
         rt.global(),
-        &mut telling,
+        &mut closings,
         first.max(1),
         end,
         &mut Speaking { out },

@@ -3,6 +3,7 @@
 mod accounts;
 mod checkpoint;
 mod clock;
+mod closed;
 mod codes;
 mod common;
 mod compare;

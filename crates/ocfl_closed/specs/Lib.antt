@@ -1,0 +1,5 @@
+pub mod Files
+pub mod Cut
+pub mod Losing
+-- What private functions say: a reader of the public contracts needs none of it.
+pub mod Internal

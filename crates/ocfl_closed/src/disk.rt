@@ -1,0 +1,143 @@
+//! The calls of the system that are made on the files of closed cycles.
+ghost use Rattle.std.specs.Prelude.{◌≡◌, ◌⊎◌, ◌<◌, ◌≤◌, ◌^◌, ℕ, Bool, false, IsTrue, IfOk, List, MatchResult, OnOk, [], length, take};
+ghost use Rattle.std.specs.Option.{option_map};
+ghost use Rattle.ocfl_tree.specs.Place.{Text};
+ghost use Rattle.ocfl_compare.specs.declared.change.ChangeAt.{ChangeAt};
+ghost use Rattle.ocfl_state.specs.Calls.{IsReadOf, bytes_of};
+ghost use Rattle.ocfl_accounts.specs.{Causes.{HasCause}, Changes.{Finds}, Kept.{is_some}};
+ghost use Rattle.ocfl_accounts.specs.declared.pair.Pair.{Pair as ModelPair};
+ghost use Rattle.ocfl_closed.specs.{Cut.{AreNamed, Calm, ClosedState, IsClosedDisk, Names, Still, untold}, Files.{kept_of, report_named}};
+
+use ocfl_accounts::{ClosingStop, Found, Pair};
+
+/// What closings ask of the system, by the numbers of cycles. `Failed` is answered if a call failed,
+/// and `Memory` if memory was refused.
+///
+/// One that states nothing of what is on the disk does not tell it.
+pub trait ClosedDisk {
+    /// An open report.
+    type Report: Drop;
+
+    /// Whether the clauses say what is on the disk. Of one that does not tell, they say little.
+    ghost told: { Bool } = { false };
+
+    /// What is on the disk, and what a power cut may leave of it.
+    ghost state: { Self → ClosedState } = { λ _. untold };
+
+    /// The bytes of an open report.
+    ghost bytes: { Self.Report → Text } = { λ _. [] };
+
+    /// Whether the list of what is gone at the end of a cycle is there.
+    fn has_list(&mut self, cycle: u64) -> Result<bool, ClosingStop>
+        ensures still { IsTrue told → Still (state self.old) (state self.new) }
+        ensures value { IsTrue told → IfOk result (λ answer.
+            answer ≡ is_some ((state self.old).files.lists cycle)) }
+        ensures cause { IsTrue told
+            → HasCause (state self.old).faults (state self.new).faults result };
+
+    /// Opens the closed report of a cycle that has the name of a whole one, or of one that is not.
+    /// `None` if nothing has that name.
+    fn open_report(&mut self, cycle: u64, whole: bool) -> Result<Option<Self::Report>, ClosingStop>
+        ensures still { IsTrue told → Still (state self.old) (state self.new) }
+        ensures value { IsTrue told → IfOk result (λ found.
+            option_map bytes found ≡ report_named (state self.old).files whole cycle) }
+        ensures cause { IsTrue told
+            → HasCause (state self.old).faults (state self.new).faults result };
+
+    /// Reads bytes of an open report from an offset on into the front of the buffer, and gives how
+    /// many. For a buffer that is not empty, 0 is the end of the report.
+    fn read_at(
+        &mut self,
+        report: &Self::Report,
+        start: u64,
+        buffer: &mut [u8],
+    ) -> Result<usize, ClosingStop>
+        ensures bound { IfOk result (λ count. count ≤ length buffer.new) }
+        ensures still { IsTrue told → Still (state self.old) (state self.new) }
+        ensures value { IsTrue told → IfOk result (λ count.
+            IsReadOf (bytes report.now) start (take count buffer.new) (length buffer.new)) }
+        ensures cause { IsTrue told
+            → HasCause (state self.old).faults (state self.new).faults result };
+
+    /// The bytes of the checkpoint with which the report of a cycle was closed. `None` if none was
+    /// kept.
+    fn kept_checkpoint(&mut self, cycle: u64) -> Result<Option<Vec<u8>>, ClosingStop>
+        ensures still { IsTrue told → Still (state self.old) (state self.new) }
+        ensures value { IsTrue told → IfOk result (λ found.
+            option_map bytes_of found ≡ (state self.old).files.kept cycle) }
+        ensures cause { IsTrue told
+            → HasCause (state self.old).faults (state self.new).faults result };
+
+    /// Whether the report of a cycle that is not whole is there compressed.
+    fn is_packed(&mut self, cycle: u64) -> Result<bool, ClosingStop>
+        ensures still { IsTrue told → Still (state self.old) (state self.new) }
+        ensures value { IsTrue told → IfOk result (λ answer.
+            answer ≡ (state self.old).files.packed cycle) }
+        ensures cause { IsTrue told
+            → HasCause (state self.old).faults (state self.new).faults result };
+
+    /// Brings the bytes of the list that was made last to the disk.
+    fn sync_list(&mut self) -> Result<(), ClosingStop>
+        ensures still { IsTrue told → Still (state self.old) (state self.new) }
+        ensures synced { IsTrue told → OnOk result (IsTrue (state self.new).is_synced) }
+        ensures cause { IsTrue told
+            → HasCause (state self.old).faults (state self.new).faults result };
+
+    /// Gives the list that was made last the name of the list of a cycle, in place of what has it.
+    fn rename_list(&mut self, cycle: u64) -> Result<(), ClosingStop>
+        requires { IsTrue told → IsTrue (state self.old).is_synced }
+        ensures names { IsTrue told → MatchResult result
+            (λ _. Names cycle (state self.old) (state self.new))
+            (λ _. Calm (state self.old) (state self.new)
+            ⊎ Names cycle (state self.old) (state self.new)) }
+        ensures cause { IsTrue told
+            → HasCause (state self.old).faults (state self.new).faults result };
+
+    /// Brings the names in the folder of the closed reports to the disk.
+    fn sync_folder(&mut self) -> Result<(), ClosingStop>
+        ensures calm { IsTrue told → Calm (state self.old) (state self.new) }
+        ensures named { IsTrue told → OnOk result (AreNamed (state self.new)) }
+        ensures cause { IsTrue told
+            → HasCause (state self.old).faults (state self.new).faults result };
+
+    /// Removes the list that was made last, if it can.
+    fn remove_list(&mut self)
+        ensures calm { IsTrue told → Calm (state self.old) (state self.new) }
+        ensures faults { IsTrue told → (state self.new).faults ≡ (state self.old).faults };
+
+    /// Appends the line on what was found last of a cycle to the log.
+    fn log(&mut self, pair: &Pair) -> Result<(), ClosingStop>
+        ensures calm { IsTrue told → Calm (state self.old) (state self.new) }
+        ensures cause { IsTrue told
+            → HasCause (state self.old).faults (state self.new).faults result };
+
+    /// Says why a closing was not said.
+    fn fail(&mut self, stop: ClosingStop)
+        ensures calm { IsTrue told → Calm (state self.old) (state self.new) }
+        ensures faults { IsTrue told → (state self.new).faults ≡ (state self.old).faults };
+
+    /// No report is longer than the system's files may be.
+    ghost short: { IsTrue told → (report : Self.Report) → length (bytes report) < 2 ^ 63 };
+
+    /// The laws of what is on a disk.
+    ghost is_disk: { IsTrue told → (disk : Self) → IsClosedDisk (state disk) };
+}
+
+/// What finds the changes of a closed cycle in its files, and makes the list of what is gone. This is
+/// no call of the system.
+pub trait FindChanges: ClosedDisk {
+    /// What is said of the changes of a cycle.
+    ghost text: { ModelPair → List ChangeAt → Text } = { λ _ _. [] };
+
+    /// Whether a change is new or gone, and not known.
+    ghost news: { ChangeAt → Bool } = { λ _. false };
+
+    /// Finds the changes of a closed cycle, and makes the list of what is gone by them.
+    fn find(&mut self, pair: &Pair) -> Result<Found, ClosingStop>
+        ensures calm { IsTrue Self.told → Calm (Self.state self.old) (Self.state self.new) }
+        ensures finds { IsTrue Self.told → IfOk result (λ it.
+            Finds (kept_of (Self.state self.old).files) pair.now text news it.text.items it.is_grave
+            (Self.state self.new).beside) }
+        ensures cause { IsTrue Self.told
+            → HasCause (Self.state self.old).faults (Self.state self.new).faults result };
+}

@@ -1,0 +1,117 @@
+//! Closed reports on a disk, and their accounts.
+ghost use Rattle.std.specs.Prelude.{◌≡◌, ◌⊎◌, IsTrue, OnOk};
+ghost use Rattle.ocfl_accounts.specs.{Causes.{HasCause}, Kept.{account_with}, Crash.{Follows, IsPut, MayPut}};
+ghost use Rattle.ocfl_closed.specs.{Cut.{Passes, with_listed}, Files.{kept_of}};
+
+use crate::disk::{ClosedDisk, FindChanges};
+use crate::looking::look_at;
+use ocfl_accounts::{ClosingStop, Closings, Found, Look, Pair};
+use std::alloc::Global;
+
+/// The closed reports of a state folder on a disk. The account of a cycle is its list of what is
+/// gone.
+pub struct DiskClosings<D> {
+    alloc: Global,
+    pub disk: D,
+    /// The cycle that the night closed; 0 if it closed none.
+    closed: u64,
+}
+
+impl<D: Drop> Drop for DiskClosings<D> {
+    fn drop(self) {
+        let DiskClosings {
+            alloc: _alloc,
+            disk: _disk,
+            closed: _closed,
+        } = self;
+    }
+}
+
+impl<D: FindChanges> DiskClosings<D> {
+    /// Those that a disk shows, of which the night closed this cycle; 0 if it closed none.
+    pub fn over(alloc: Global, disk: D, closed: u64) -> DiskClosings<D>
+        ensures { result.disk ≡ disk }
+    {
+        DiskClosings {
+            alloc,
+            disk,
+            closed,
+        }
+    }
+}
+
+/// Puts the list that was made last as that of a cycle: its bytes are brought to the disk, then it
+/// gets its name, and then that is brought to the disk.
+fn put_list<D: ClosedDisk>(disk: &mut D, cycle: u64) -> Result<(), ClosingStop>
+    ensures put { IsTrue D.told → OnOk result ((D.state disk.new).files
+        ≡ with_listed (account_with cycle (D.state disk.old).beside) (D.state disk.old).files) }
+    ensures may { IsTrue D.told → ((D.state disk.new).files ≡ (D.state disk.old).files)
+        ⊎ ((D.state disk.new).files
+        ≡ with_listed (account_with cycle (D.state disk.old).beside) (D.state disk.old).files) }
+    ensures passes { IsTrue D.told → Passes (MayPut (account_with cycle (D.state disk.old).beside))
+        (D.state disk.old) (D.state disk.new) }
+    ensures durable { IsTrue D.told → OnOk result (Follows
+        (IsPut (account_with cycle (D.state disk.old).beside))
+        (D.state disk.old).may_leave (D.state disk.new).may_leave) }
+    ensures cause { IsTrue D.told
+        → HasCause (D.state disk.old).faults (D.state disk.new).faults result }
+{
+    disk.sync_list()?;
+    disk.rename_list(cycle)?;
+    disk.sync_folder()
+}
+
+impl<D: FindChanges> Closings for DiskClosings<D> {
+    ghost told = { D.told };
+
+    ghost seen = { λ closings. kept_of (D.state closings.disk).files };
+
+    ghost found = { λ closings. (D.state closings.disk).beside };
+
+    ghost may_leave = { λ closings. (D.state closings.disk).may_leave };
+
+    ghost moment = { λ closings. (D.state closings.disk).moment };
+
+    ghost left_since = { λ closings. (D.state closings.disk).left_since };
+
+    ghost faults = { λ closings. (D.state closings.disk).faults };
+
+    ghost text = { D.text };
+
+    ghost news = { D.news };
+
+    ghost stays = { λ told closings. (D.is_disk told closings.disk).stays };
+
+    ghost counts_now = { λ told closings. (D.is_disk told closings.disk).counts_now };
+
+    ghost only_now = { λ told closings. (D.is_disk told closings.disk).only_now };
+
+    fn has_account(&mut self, cycle: u64) -> Result<bool, ClosingStop> {
+        self.disk.has_list(cycle)
+    }
+
+    fn look(&mut self, cycle: u64) -> Result<Look, ClosingStop> {
+        look_at(self.alloc, &mut self.disk, cycle)
+    }
+
+    fn find(&mut self, pair: &Pair) -> Result<Found, ClosingStop> {
+        self.disk.find(pair)
+    }
+
+    fn put(&mut self, pair: &Pair) -> Result<(), ClosingStop> {
+        put_list(&mut self.disk, pair.closed.cycle())?;
+        self.disk.log(pair)
+    }
+
+    fn drop_found(&mut self, pair: &Pair) -> Result<(), ClosingStop> {
+        self.disk.remove_list();
+        if pair.closed.cycle() != self.closed {
+            return Ok(());
+        }
+        self.disk.log(pair)
+    }
+
+    fn fail(&mut self, stop: ClosingStop) {
+        self.disk.fail(stop);
+    }
+}

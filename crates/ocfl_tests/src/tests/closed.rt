@@ -1,0 +1,364 @@
+//! What is there of closed cycles on a disk, and in which order the calls are made that put a list.
+ghost use Rattle.std.proofs.lemmas.Bool.{false≢true};
+
+use crate::tests::common::store::place_of;
+use ocfl_accounts::{ClosedCycle, ClosingStop, Closings, Found, Look, Pair};
+use ocfl_closed::{ClosedDisk, DiskClosings, FindChanges, look_at};
+use ocfl_cursor::{Cursor, State};
+use ocfl_state::{Checkpoint, Left, Phase, ReportMark, RootIdentity, TopNames, encode_checkpoint};
+use sha2::{Digest, Sha256};
+use std::alloc::Global;
+use std::test::Fail;
+
+/// The report of a cycle.
+const REPORT: &[u8] = b"ok\t.\t-\nok\to\t-\n";
+
+/// The files of one cycle, and which calls were made on its list.
+struct OneCycle {
+    alloc: Global,
+    whole: bool,
+    incomplete: bool,
+    packed: bool,
+    kept: Option<Vec<u8>>,
+    calls: String,
+    /// Which of the calls that put a list fails, counted from 1; 0 if none does.
+    fails: usize,
+}
+
+impl Drop for OneCycle {
+    fn drop(self) {
+        let OneCycle {
+            alloc: _alloc,
+            whole: _whole,
+            incomplete: _incomplete,
+            packed: _packed,
+            kept: _kept,
+            calls: _calls,
+            fails: _fails,
+        } = self;
+    }
+}
+
+impl OneCycle {
+    fn new(alloc: Global) -> OneCycle {
+        OneCycle {
+            alloc,
+            whole: false,
+            incomplete: false,
+            packed: false,
+            kept: None,
+            calls: String::new(alloc),
+            fails: 0,
+        }
+    }
+
+    /// Notes a call, which may fail.
+    fn note(&mut self, call: &str) -> Result<(), ClosingStop> {
+        let Ok(()) = self.calls.push_str(call) else {
+            return Err(ClosingStop::Memory);
+        };
+        if self.calls.as_str().split(';').count() == self.fails + 1 && self.fails > 0 {
+            return Err(ClosingStop::Failed);
+        }
+        Ok(())
+    }
+}
+
+impl ClosedDisk for OneCycle {
+    type Report = Vec<u8>;
+
+    ghost short = { λ told report. absurd (false≢true told) };
+
+    ghost is_disk = { λ told disk. absurd (false≢true told) };
+
+    fn has_list(&mut self, cycle: u64) -> Result<bool, ClosingStop> {
+        Ok(cycle == 2)
+    }
+
+    fn open_report(&mut self, _cycle: u64, whole: bool) -> Result<Option<Vec<u8>>, ClosingStop> {
+        let is_there = if whole { self.whole } else { self.incomplete };
+        if !is_there {
+            return Ok(None);
+        }
+        match Vec::from_slice(self.alloc, REPORT) {
+            Ok(report) => Ok(Some(report)),
+            Err(_) => Err(ClosingStop::Memory),
+        }
+    }
+
+    /// Gives at most 5 bytes.
+    fn read_at(
+        &mut self,
+        report: &Vec<u8>,
+        start: u64,
+        buffer: &mut [u8],
+    ) -> Result<usize, ClosingStop> {
+        let from = (start as usize).min(report.len());
+        let count = (report.len() - from).min(5).min(buffer.len());
+        buffer[..count].copy_from_slice(&report[from..from + count]);
+        Ok(count)
+    }
+
+    fn kept_checkpoint(&mut self, _cycle: u64) -> Result<Option<Vec<u8>>, ClosingStop> {
+        match &self.kept {
+            Some(bytes) => match bytes.try_clone() {
+                Ok(bytes) => Ok(Some(bytes)),
+                Err(_) => Err(ClosingStop::Memory),
+            },
+            None => Ok(None),
+        }
+    }
+
+    fn is_packed(&mut self, _cycle: u64) -> Result<bool, ClosingStop> {
+        Ok(self.packed)
+    }
+
+    fn sync_list(&mut self) -> Result<(), ClosingStop> {
+        self.note("sync;")
+    }
+
+    fn rename_list(&mut self, cycle: u64) -> Result<(), ClosingStop> {
+        self.note(if cycle == 3 {
+            "rename;"
+        } else {
+            "rename another;"
+        })
+    }
+
+    fn sync_folder(&mut self) -> Result<(), ClosingStop> {
+        self.note("sync folder;")
+    }
+
+    fn remove_list(&mut self) {
+        let _ = self.note("remove;");
+    }
+
+    fn log(&mut self, _pair: &Pair) -> Result<(), ClosingStop> {
+        self.note("log;")
+    }
+
+    fn fail(&mut self, _stop: ClosingStop) {
+        let _ = self.note("fail;");
+    }
+}
+
+impl FindChanges for OneCycle {
+    fn find(&mut self, _pair: &Pair) -> Result<Found, ClosingStop> {
+        self.note("find;")?;
+        Ok(Found {
+            text: Vec::new(self.alloc),
+            is_grave: true,
+        })
+    }
+}
+
+/// What was kept of a cycle when it was closed: nothing, other bytes, or a checkpoint, by whether it
+/// is whole, whether it leaves a place out, and whether it has the mark of the report.
+#[derive(Clone, Copy)]
+enum Kept {
+    Nothing,
+    Other,
+    Checkpoint(bool, bool, bool),
+}
+
+/// The bytes of what was kept.
+fn bytes_of(alloc: Global, kept: Kept) -> Result<Option<Vec<u8>>, Fail> {
+    let (whole, leaves, is_right) = match kept {
+        Kept::Nothing => return Ok(None),
+        Kept::Other => return Ok(Some(Vec::from_slice(alloc, b"no checkpoint".as_slice())?)),
+        Kept::Checkpoint(whole, leaves, is_right) => (whole, leaves, is_right),
+    };
+    let mut left = Vec::new(alloc);
+    if leaves {
+        left.push(Left {
+            place: place_of(alloc, "p")?,
+            after: None,
+        })?;
+    }
+    let lines = if is_right { REPORT } else { &REPORT[7..] };
+    let mark = ReportMark {
+        bytes: REPORT.len() as u64,
+        lines: 2,
+        pieces: [0; 32],
+        tail: Sha256::digest(lines),
+    };
+    Ok(Some(encode_checkpoint(
+        alloc,
+        &Checkpoint {
+            root: RootIdentity {
+                path: place_of(alloc, "srv/ocfl")?,
+                declared: [0x11; 32],
+            },
+            names: TopNames {
+                count: 3,
+                digest: [0xAB; 32],
+            },
+            phase: Phase::Closing,
+            whole,
+            report: mark,
+            told: 0,
+            left,
+            part: None,
+            cursor: Cursor::from_parts(1, 1, 4, 1, State::Ended).ok_or("a cursor")?,
+        },
+    )?))
+}
+
+/// What is there: which reports, what was kept, and whether one is compressed; and what is seen:
+/// whether the report is there, whether it is whole, whether it lost lines, and how many places it
+/// left out.
+const SIGHTS: [([bool; 3], Kept, [bool; 3], usize); 17] = [
+    ([true, false, false], Kept::Nothing, [true, true, false], 0),
+    ([true, true, true], Kept::Other, [true, true, false], 0),
+    (
+        [true, false, false],
+        Kept::Checkpoint(false, true, false),
+        [true, true, false],
+        1,
+    ),
+    ([false, true, false], Kept::Nothing, [true, false, true], 0),
+    ([false, true, false], Kept::Other, [true, false, true], 0),
+    (
+        [false, true, false],
+        Kept::Checkpoint(true, true, true),
+        [true, false, false],
+        1,
+    ),
+    (
+        [false, true, false],
+        Kept::Checkpoint(true, true, false),
+        [true, false, true],
+        1,
+    ),
+    (
+        [false, true, false],
+        Kept::Checkpoint(true, false, true),
+        [true, false, true],
+        0,
+    ),
+    (
+        [false, true, false],
+        Kept::Checkpoint(false, true, true),
+        [true, false, true],
+        1,
+    ),
+    (
+        [false, false, false],
+        Kept::Nothing,
+        [false, true, false],
+        0,
+    ),
+    ([false, false, true], Kept::Nothing, [false, false, true], 0),
+    ([false, false, true], Kept::Other, [false, false, true], 0),
+    (
+        [false, false, false],
+        Kept::Checkpoint(true, false, true),
+        [false, true, false],
+        0,
+    ),
+    (
+        [false, false, true],
+        Kept::Checkpoint(true, false, true),
+        [false, false, true],
+        0,
+    ),
+    (
+        [false, false, true],
+        Kept::Checkpoint(true, true, true),
+        [false, false, false],
+        0,
+    ),
+    (
+        [false, false, false],
+        Kept::Checkpoint(true, true, true),
+        [false, false, false],
+        0,
+    ),
+    (
+        [false, false, false],
+        Kept::Checkpoint(false, false, true),
+        [false, false, true],
+        0,
+    ),
+];
+
+/// A look as whether the report is there, whether it is whole, whether it lost lines, and how many
+/// places it left out.
+fn seen(look: Look) -> ([bool; 3], usize) {
+    match look {
+        Look::There(closed) => (
+            [true, closed.is_whole(), closed.is_lost()],
+            closed.left().len(),
+        ),
+        Look::Away { whole, lost } => ([false, whole, lost], 0),
+    }
+}
+
+#[test]
+fn a_cycle_is_seen_by_its_files(rt: HostRuntime) -> Result<(), Fail> {
+    let alloc = rt.alloc();
+    for (index, (there, kept, sight, left)) in SIGHTS.iter().enumerate() {
+        let mut disk = OneCycle::new(alloc);
+        disk.whole = there[0];
+        disk.incomplete = there[1];
+        disk.packed = there[2];
+        disk.kept = bytes_of(alloc, *kept)?;
+        let look = look_at(alloc, &mut disk, 3)?;
+        assert_eq!(rt; seen(look), (*sight, *left), "{index}");
+        let mut closings = DiskClosings::over(alloc, disk, 0);
+        assert_eq!(rt; seen(closings.look(3)?), (*sight, *left), "{index}");
+    }
+    Ok(())
+}
+
+/// A cycle that is compared with none.
+fn pair_of(alloc: Global, cycle: u64) -> Pair {
+    Pair {
+        closed: ClosedCycle::new(cycle, true, false, Vec::new(alloc)),
+        before: None,
+        missing: None,
+        again: Vec::new(alloc),
+        whole: None,
+        whole_missing: None,
+    }
+}
+
+/// The calls that were made if that one of them fails.
+const PUT: [&str; 5] = [
+    "sync;rename;sync folder;log;",
+    "sync;",
+    "sync;rename;",
+    "sync;rename;sync folder;",
+    "sync;rename;sync folder;log;",
+];
+
+#[test]
+fn a_list_is_on_the_disk_before_it_has_its_name(rt: HostRuntime) -> Result<(), Fail> {
+    let alloc = rt.alloc();
+    for (fails, calls) in PUT.iter().enumerate() {
+        let mut disk = OneCycle::new(alloc);
+        disk.fails = fails;
+        let mut closings = DiskClosings::over(alloc, disk, 3);
+        let put = closings.put(&pair_of(alloc, 3));
+        assert_eq!(rt; put.is_ok(), fails == 0, "{fails}");
+        assert_eq!(rt; closings.disk.calls.as_str(), *calls, "{fails}");
+    }
+    Ok(())
+}
+
+#[test]
+fn a_list_that_is_not_put_is_removed(rt: HostRuntime) -> Result<(), Fail> {
+    let alloc = rt.alloc();
+    for (closed, calls) in [(3, "remove;log;"), (2, "remove;")] {
+        let mut closings = DiskClosings::over(alloc, OneCycle::new(alloc), closed);
+        assert_eq!(rt; closings.has_account(3), Ok(false));
+        assert_eq!(rt; closings.has_account(2), Ok(true));
+        closings.drop_found(&pair_of(alloc, 3))?;
+        assert_eq!(rt; closings.disk.calls.as_str(), calls);
+        let found = closings.find(&pair_of(alloc, 3))?;
+        assert!(rt; found.is_grave);
+        closings.fail(ClosingStop::Failed);
+        assert!(rt; closings.disk.calls.as_str().ends_with("find;fail;"));
+    }
+    Ok(())
+}

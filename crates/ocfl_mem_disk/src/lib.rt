@@ -4,6 +4,8 @@
 
 mod mem_call;
 mod mem_disk;
+mod mem_join;
 mod shown;
 
 pub use mem_disk::{MemDisk, MemHandle};
+pub use mem_join::MemJoinDisk;

@@ -3,8 +3,10 @@ ghost use Rattle.std.specs.Prelude.{◌≡◌, ◌<◌, ◌≤◌, ◌+◌, ◌+
 ghost use Rattle.std.specs.Prelude.{IfOk, IfErr, OnOk, OnErr, None, Some, length, take, not};
 ghost use Rattle.std.specs.Prelude.{if◌then◌else◌};
 ghost use Rattle.std.specs.IoError.{error_kind};
-ghost use Rattle.ocfl_state.specs.Calls.{IsReadOf};
+ghost use Rattle.std.specs.Option.{option_map};
+ghost use Rattle.ocfl_state.specs.Calls.{IsReadOf, bytes_of};
 ghost use Rattle.ocfl_disk.specs.Disk.{HasFault, has_name};
+ghost use Rattle.ocfl_join_disk.specs.Shown.{file_named, text_in};
 ghost use Rattle.ocfl_mem_disk.specs.Log.{disk_of, shown_of, may_make};
 
 use crate::mem_call::MemCall;
@@ -154,6 +156,21 @@ impl MemDisk {
             Err(_failed) => Err(no_memory(name)),
         }
     }
+
+    /// The bytes of the closed report of a cycle, whole or not, if it is there.
+    pub fn closed_bytes(&mut self, cycle: u64, whole: bool) -> Result<Option<Vec<u8>>, Reason>
+        ensures log { self.new.log ≡ self.old.log }
+        ensures later { self.old.faults ≤ self.new.faults }
+        ensures value { IfOk result (λ found. option_map bytes_of found
+            ≡ text_in cycle whole (disk_of self.old.log.items self.old.faults).seen) }
+    {
+        self.begin(StateFile::Reports)?;
+        let shown = self.shown(StateFile::Reports)?;
+        match find_file(&shown.closed, cycle, whole) {
+            Some(file) => Ok(Some(self.bytes(StateFile::Reports, file)?)),
+            None => Ok(None),
+        }
+    }
 }
 
 fn is_as_whole(one: bool, whole: bool) -> bool
@@ -172,6 +189,18 @@ fn is_among(closed: &[ReportName], cycle: u64, whole: bool) -> bool
         }
     }
     false
+}
+
+/// The file of the closed report of a cycle among these.
+fn find_file(closed: &[ReportName], cycle: u64, whole: bool) -> Option<usize>
+    ensures { result ≡ file_named cycle whole closed.now }
+{
+    for name in closed {
+        if name.cycle == cycle && is_as_whole(name.whole, whole) {
+            return Some(name.file);
+        }
+    }
+    None
 }
 
 /// Gives the bytes from an offset on, as many as there is room for.

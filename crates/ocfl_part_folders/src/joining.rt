@@ -1,11 +1,14 @@
 //! Joining the closed reports of all parts of a storage root, of one cycle.
 
-use crate::joined::{JoinedFolder, find_joined};
+use crate::folder_disk::{FolderDisk, find_joined};
 use crate::part_facts::{Facts, closed_parts, last_of_all, read_all};
 use ocfl_files::failing::{Failure, say_failure};
 use ocfl_files::making::failed_file;
 use ocfl_files::saying::STOPPED;
-use ocfl_joining::{ClosedPart, JoinStop, MissingPart, PartFault, find_most_names, join};
+use ocfl_join_disk::{ComparedReports, MakingReports};
+use ocfl_joining::{
+    ClosedPart, JoinStop, Joined as JoinedReport, MissingPart, PartFault, find_most_names, join,
+};
 use ocfl_kept::kept::{MOST_BACK, is_packed, is_told, part_path, report_path};
 use ocfl_kept::room::Room;
 use ocfl_arguments::JoinAsked;
@@ -241,6 +244,30 @@ impl AllParts<'_> {
         Ok(true)
     }
 
+    /// Makes the joined report of a cycle, or compares that which was made before.
+    fn join_on<'a, R: Room>(
+        &'a self,
+        rt: &'a R,
+        cycle: u64,
+        parts: &[Option<ClosedPart>],
+        made: Option<bool>,
+    ) -> (Result<JoinedReport, JoinStop>, FolderDisk<'a, R>) {
+        let (alloc, root) = (rt.global(), root_of(parts));
+        let disk = FolderDisk::new(rt, self.state, self.facts);
+        match made {
+            Some(whole) => {
+                let mut reports = ComparedReports::over(alloc, disk, cycle, whole);
+                let joined = join(alloc, self.separators, root, cycle, parts, &mut reports);
+                (joined, reports.into_disk())
+            }
+            None => {
+                let mut reports = MakingReports::over(alloc, disk, cycle);
+                let joined = join(alloc, self.separators, root, cycle, parts, &mut reports);
+                (joined, reports.into_disk())
+            }
+        }
+    }
+
     /// Joins these reports of a cycle, and gives the status. One that is made already is compared
     /// with them, unless parts were tidied away; so that nobody takes it for one that it is not.
     /// Parts that cannot be joined are named if `names` is set.
@@ -254,17 +281,15 @@ impl AllParts<'_> {
     where
         R: Room + Print + Eprint,
     {
-        let alloc = rt.global();
         let made = match cycle {
             0 => None,
             _ => find_joined(rt, self.state, cycle)?,
         };
-        let mut reports = JoinedFolder::new(rt, self.state, cycle, self.facts, made);
-        let root = root_of(parts);
-        match join(alloc, self.separators, root, cycle, parts, &mut reports) {
+        let (joined, mut disk) = self.join_on(rt, cycle, parts, made);
+        match joined {
             Ok(joined) => {
                 if made.is_none() {
-                    say_joined(rt, self.state, cycle, joined.whole, reports.runs())?;
+                    say_joined(rt, self.state, cycle, joined.whole, disk.runs())?;
                 }
                 self.status_by(rt, cycle, parts, joined.whole)
             }
@@ -272,7 +297,7 @@ impl AllParts<'_> {
                 Ok(say_missing(rt, cycle, parts, &missing))
             }
             Err(JoinStop::Missing(_)) => Ok(0),
-            Err(stop) => Err(stopped(alloc, stop, reports.take_failure())),
+            Err(stop) => Err(stopped(rt.global(), stop, disk.take_failure())),
         }
     }
 

@@ -1,6 +1,6 @@
 //! Joining the closed reports in the state folders of parts.
 #![tactic(auto)]
 
-mod joined;
+mod folder_disk;
 pub mod joining;
 mod part_facts;

@@ -14,6 +14,7 @@ mod folder;
 mod identity;
 mod inventory;
 mod item;
+mod join_disk;
 mod joining;
 mod laws;
 mod line;

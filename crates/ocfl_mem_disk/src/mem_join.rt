@@ -1,0 +1,184 @@
+//! Closed reports of parts in memory, which are joined on a disk in memory.
+ghost use Rattle.std.specs.Prelude.{◌≡◌, true, [], Ok, Err, IfErr, IfOk, IfSome};
+ghost use Rattle.ocfl_joining.specs.Memory.{bytes_of, kept_of};
+ghost use Rattle.ocfl_mem_disk.specs.Log.{disk_of};
+
+use crate::mem_disk::{MemDisk, MemHandle};
+use ocfl_disk::{Disk, Reason, StateFile};
+use ocfl_join_disk::{JoinDisk, OpenPart};
+use ocfl_joining::{MemoryReport, ReportTrouble};
+use std::alloc::Global;
+use std::io::{self, Cursor, ErrorKind};
+
+/// Closed reports of parts in memory, the same of each cycle, and a disk in memory on which they are
+/// joined.
+#[derive(Debug)]
+pub struct MemJoinDisk {
+    alloc: Global,
+    disk: MemDisk,
+    parts: Vec<MemoryReport>,
+    opened: Vec<usize>,
+}
+
+/// Written by hand, so that to let it go is one call wherever that happens.
+impl Drop for MemJoinDisk {
+    fn drop(self) {
+        let MemJoinDisk {
+            alloc: _alloc,
+            disk: _disk,
+            parts: _parts,
+            opened: _opened,
+        } = self;
+    }
+}
+
+/// What a call of the disk that failed means for a joining.
+fn trouble_of(reason: Reason) -> ReportTrouble {
+    match reason.error.kind() {
+        ErrorKind::OutOfMemory => ReportTrouble::Memory,
+        _ => ReportTrouble::Failed,
+    }
+}
+
+/// What a call of the disk gave.
+fn answer<T>(outcome: Result<T, Reason>) -> Result<T, ReportTrouble>
+    ensures ok { IfOk result (λ value. outcome ≡ Ok value) }
+    ensures err { IfErr result (λ _. (reason : Reason) × (outcome ≡ Err reason)) }
+{
+    match outcome {
+        Ok(value) => Ok(value),
+        Err(reason) => Err(trouble_of(reason)),
+    }
+}
+
+/// The report of the part with a number.
+fn part_with(parts: &[MemoryReport], number: usize) -> Option<&MemoryReport>
+    ensures { IfSome result (λ part. (part.now.bytes.items ≡ bytes_of parts.now number)
+        × (part.now.kept ≡ kept_of parts.now number)) }
+{
+    parts.get(number.checked_sub(1)?)
+}
+
+impl MemJoinDisk {
+    /// These closed reports, of which none was opened, and a disk.
+    pub fn new(alloc: Global, disk: MemDisk, parts: Vec<MemoryReport>) -> MemJoinDisk
+        ensures disk { result.disk ≡ disk }
+        ensures parts { result.parts ≡ parts }
+        ensures opened { result.opened.items ≡ [] }
+    {
+        MemJoinDisk {
+            alloc,
+            disk,
+            parts,
+            opened: Vec::new(alloc),
+        }
+    }
+
+    /// Puts other closed reports in place of those that are there.
+    pub fn put_parts(&mut self, parts: Vec<MemoryReport>)
+        ensures parts { self.new.parts ≡ parts }
+        ensures disk { self.new.disk ≡ self.old.disk }
+        ensures opened { self.new.opened ≡ self.old.opened }
+    {
+        self.parts = parts;
+    }
+}
+
+impl JoinDisk for MemJoinDisk {
+    type Report = Cursor<Vec<u8>>;
+
+    type Made = MemHandle;
+
+    ghost told = { true };
+
+    ghost parts = { λ d. record {
+      bytes = λ _. bytes_of d.parts.items;
+      marks = λ _. kept_of d.parts.items;
+      opened = d.opened.items;
+    } };
+
+    ghost state = { λ d. disk_of d.disk.log.items d.disk.faults };
+
+    ghost number = { λ file. file.number };
+
+    ghost use Rattle.ocfl_mem_disk.specs.Showing.{is_disk_at};
+
+    ghost is_disk = { λ told d. is_disk_at d.disk.log.items d.disk.faults };
+
+    fn open_part(
+        &mut self,
+        _cycle: u64,
+        number: usize,
+    ) -> Result<OpenPart<Cursor<Vec<u8>>>, ReportTrouble> {
+        let Some(part) = part_with(self.parts.as_slice(), number) else {
+            return Err(ReportTrouble::Failed);
+        };
+        let bytes = part.bytes.to_vec(self.alloc)?;
+        let mark = part.kept;
+        if self.opened.push(number).is_err() {
+            return Err(ReportTrouble::Memory);
+        }
+        Ok(OpenPart {
+            report: Cursor::new(bytes),
+            mark,
+        })
+    }
+
+    fn keep_failure(&mut self, _cycle: u64, _error: io::Error) -> ReportTrouble {
+        ReportTrouble::Failed
+    }
+
+    fn open_joined(&mut self, cycle: u64, whole: bool) -> Result<Cursor<Vec<u8>>, ReportTrouble> {
+        match self.disk.closed_bytes(cycle, whole) {
+            Ok(Some(bytes)) => Ok(Cursor::new(bytes)),
+            Ok(None) => Err(ReportTrouble::Failed),
+            Err(reason) => Err(trouble_of(reason)),
+        }
+    }
+
+    fn refuse_joined(
+        &mut self,
+        _cycle: u64,
+        _whole: bool,
+        _error: Option<io::Error>,
+    ) -> ReportTrouble {
+        ReportTrouble::Failed
+    }
+
+    fn has_joined(&mut self, cycle: u64, whole: bool) -> Result<bool, ReportTrouble> {
+        let found = self.disk.has_closed(cycle, whole);
+        answer(found)
+    }
+
+    fn create(&mut self, _cycle: u64) -> Result<MemHandle, ReportTrouble> {
+        let made = self.disk.create(StateFile::Report);
+        answer(made)
+    }
+
+    fn append(
+        &mut self,
+        _cycle: u64,
+        file: &mut MemHandle,
+        bytes: &[u8],
+    ) -> Result<(), ReportTrouble> {
+        let appended = self.disk.append(StateFile::Report, file, bytes);
+        answer(appended)
+    }
+
+    fn sync(&mut self, _cycle: u64, file: &MemHandle) -> Result<(), ReportTrouble> {
+        let synced = self.disk.sync(StateFile::Report, file);
+        answer(synced)
+    }
+
+    fn rename(&mut self, cycle: u64, whole: bool) -> Result<(), ReportTrouble> {
+        let renamed = self.disk.rename_report(cycle, whole);
+        answer(renamed)
+    }
+
+    fn sync_folder(&mut self) -> Result<(), ReportTrouble> {
+        let reports = self.disk.sync_folder(StateFile::Reports);
+        answer(reports)?;
+        let folder = self.disk.sync_folder(StateFile::Folder);
+        answer(folder)
+    }
+}

@@ -1,4 +1,4 @@
-use Rattle.std.proofs.Common.{◌≤◌, subst, sym, arith}
+use Rattle.std.proofs.Common.{arith}
 use Rattle.ocfl_state.specs.Pieces.{no_pieces}
 use Rattle.ocfl_state.proofs.checking.ReportCheck.push.Goals as goal
 

@@ -60,7 +60,7 @@ fn own_folder(alloc: Global, path: &str, is_dir: bool) -> Result<(), Failure> {
     if is_dir {
         return Ok(());
     }
-    Err(Failure::saying(format!(in alloc; "{}: is no folder\n", Shown(path))))
+    Err(Failure::saying(format!(in alloc; "{}: is not a folder\n", Shown(path))))
 }
 
 /// Makes a folder for its owner and group, unless it is there.

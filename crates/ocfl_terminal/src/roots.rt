@@ -39,7 +39,7 @@ fn root_at(alloc: Global, path: &str) -> Result<Root, Failure> {
             place,
         }),
         None => Err(Failure::usage(format!(in alloc;
-            "{} is no path of names in UTF-8\n",
+            "{} is not a path of names in UTF-8\n",
             Shown(path)
         )?)),
     }

@@ -110,7 +110,7 @@ def overlapping(folder: str) -> None:
                         ("by a link", folder + "/link"), ("below a link", folder + "/link/new"),
                         ("by dots", folder + "/root/../root/state/")]:
         got = Nights(state, audited.root).first("--slice", SLICE)
-        check("a state folder " + name, (got[0], "one in the other" in got[2]), (2, True))
+        check("a state folder " + name, (got[0], "must not be inside" in got[2]), (2, True))
         check(name + ": nothing is made", sorted(os.walk(audited.root)), before)
     check("above the root: nothing is made", sorted(os.listdir(folder)), ["link", "root"])
     beside = Nights(audited.root + "-state", audited.root)

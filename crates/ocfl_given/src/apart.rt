@@ -34,8 +34,8 @@ where
     match are_apart(rt, state, root) {
         Ok(true) => Ok(()),
         Ok(false) => Err(Failure::usage(format!(in rt.alloc();
-            "the state folder and the storage root lie one in the other, and nothing is written \
-             into a storage root\n"
+            "the state folder must not be inside the storage root, or contain it: nothing is \
+             written into a storage root\n"
         )?)),
         Err(_) => Err(Failure::from(AllocError)),
     }

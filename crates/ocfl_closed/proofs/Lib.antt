@@ -1,6 +1,6 @@
-pub mod Losing
-pub mod Marks
-pub mod Passing
-pub mod Pushing
-pub mod Putting
-pub mod Reading
+mod Losing
+mod Marks
+mod Passing
+mod Pushing
+mod Putting
+mod Reading

@@ -15,7 +15,7 @@ use ocfl_disk::StateFile;
 use ocfl_files::failing::{Failure, say_failure};
 use ocfl_files::making::failed_file;
 use ocfl_files::timing::seconds_now;
-use ocfl_kept::kept::{is_packed, is_told, list_path, open_report, read_ends, report_path};
+use ocfl_kept::kept::{is_packed, is_told, list_path, read_ends, report_path};
 use ocfl_kept::names::About;
 use ocfl_kept::room::Room;
 use ocfl_kept::state::failed_folder;
@@ -321,14 +321,13 @@ impl<R: Room + Clock, F: Folder> Telling<'_, '_, R, F> {
 
     /// Opens the closed report of a cycle that has the name of a whole one, or of one that is not.
     fn open_named(&mut self, cycle: u64, whole: bool) -> Result<Option<Opened>, Failure> {
-        let state = self.told.about.names.state;
-        match open_report(self.rt.global(), self.folder, state, cycle)? {
-            Some(report) if report.whole == whole => Ok(Some(Opened {
-                file: report.file,
-                cycle,
-                whole,
-            })),
-            _ => Ok(None),
+        match self.folder.closed_report_as(cycle, whole) {
+            Ok(Some(file)) => Ok(Some(Opened { file, cycle, whole })),
+            Ok(None) => Ok(None),
+            Err(_) => {
+                let state = self.told.about.names.state;
+                Err(failed_folder(self.rt.global(), self.folder, state))
+            }
         }
     }
 

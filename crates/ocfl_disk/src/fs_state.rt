@@ -93,19 +93,34 @@ impl<R: Files<File = File> + AllocGlobal + Clone + Drop> FsState<SystemDisk<R>> 
         self.answer(found)
     }
 
+    /// Opens the closed report of a cycle that is whole, or the one that is not, if it is there.
+    pub fn open_closed_as(
+        &mut self,
+        cycle: u64,
+        whole: bool,
+    ) -> Result<Option<File>, FolderTrouble>
+        ensures kept { IfErr result (λ trouble. IsKept self.new.reason trouble) }
+        ensures same { OnOk result (self.new.reason ≡ self.old.reason) }
+    {
+        let found = self.closed_as(cycle, whole);
+        self.answer(found)
+    }
+
     fn closed(&self, cycle: u64) -> Result<Option<OpenReport>, Reason> {
-        if !self.disk.has_folder(StateFile::Reports)? {
-            return Ok(None);
-        }
         for whole in [true, false] {
-            let found = self
-                .disk
-                .open_file(closed_file(cycle, whole), &for_reading())?;
-            if let Some(file) = found {
+            if let Some(file) = self.closed_as(cycle, whole)? {
                 return Ok(Some(OpenReport { file, whole }));
             }
         }
         Ok(None)
+    }
+
+    fn closed_as(&self, cycle: u64, whole: bool) -> Result<Option<File>, Reason> {
+        if !self.disk.has_folder(StateFile::Reports)? {
+            return Ok(None);
+        }
+        self.disk
+            .open_file(closed_file(cycle, whole), &for_reading())
     }
 }
 

@@ -1,2 +1,2 @@
-pub mod Joined
-pub mod Compared
+mod Joined
+mod Compared

@@ -22,6 +22,9 @@ pub trait Folder {
     /// Opens the closed report of a cycle.
     fn closed_report(&mut self, cycle: u64) -> Result<Option<OpenReport>, FolderTrouble>;
 
+    /// Opens the closed report of a cycle that is whole, or the one that is not.
+    fn closed_report_as(&mut self, cycle: u64, whole: bool) -> Result<Option<File>, FolderTrouble>;
+
     /// Appends a line to the log.
     fn add_to_log(&mut self, line: &[u8]) -> Result<(), FolderTrouble>;
 }
@@ -41,6 +44,10 @@ impl<'a, R: Files<File = File> + AllocGlobal> Folder for FsState<SystemDisk<&'a 
 
     fn closed_report(&mut self, cycle: u64) -> Result<Option<OpenReport>, FolderTrouble> {
         self.open_closed(cycle)
+    }
+
+    fn closed_report_as(&mut self, cycle: u64, whole: bool) -> Result<Option<File>, FolderTrouble> {
+        self.open_closed_as(cycle, whole)
     }
 
     fn add_to_log(&mut self, line: &[u8]) -> Result<(), FolderTrouble> {

@@ -5,7 +5,7 @@ pub mod CheckpointTexts
 mod CheckpointRefusals
 mod CheckpointWriting
 mod CheckpointShowing
-mod PieceLaws
+pub mod PieceLaws
 mod Readings
 mod SummaryLaws
 mod Resuming

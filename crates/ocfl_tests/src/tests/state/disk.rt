@@ -181,6 +181,8 @@ fn other_files_are_read_and_written(rt: HostRuntime) -> Result<(), Fail> {
     let mut text = Vec::new(rt.alloc());
     closed.file.read_to_end(&mut text)?;
     assert!(rt; !closed.whole && text.as_slice() == b"abc".as_slice());
+    assert!(rt; folder.open_closed_as(1, true)?.is_none());
+    assert!(rt; folder.open_closed_as(1, false)?.is_some());
     fs::remove_dir_all(&rt, "others")?;
     Ok(())
 }

@@ -1,5 +1,6 @@
 mod Numbers
 mod Parts
+mod LastClosed
 mod Copies
 mod Decoded
 mod ClosedLaws

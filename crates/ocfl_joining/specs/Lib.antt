@@ -4,5 +4,7 @@ pub mod Joined
 pub mod Stops
 pub mod Memory
 pub mod Within
+pub mod Facts
+pub mod Status
 -- What private functions say: a reader of the public contracts needs none of it.
 pub mod Internal

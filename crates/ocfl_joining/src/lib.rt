@@ -24,18 +24,22 @@
 #![tactic(auto)]
 
 mod copying;
+mod facts;
 mod joining;
 pub mod laws;
 mod memory;
 mod missing;
 mod part;
 mod reports;
+mod status;
 mod within;
 
 pub use copying::PartStop;
+pub use facts::{Facts, facts_of, is_emptied, known_part, last_of_all, mark_of, runs_of};
 pub use joining::{JoinStop, Joined, join};
 pub use memory::{MemoryJoined, MemoryReport, MemoryReports};
 pub use missing::{find_missing, find_most_names};
 pub use part::{ClosedPart, MissingPart, PartFault};
 pub use reports::{KeptMark, PartReports, ReportTrouble};
+pub use status::{CycleEnd, join_status};
 pub use within::find_within;

@@ -1,12 +1,11 @@
 //! The state folders of parts, and the folder of their joined reports, as a joining asks for them.
 ghost use mathlib.Core.Bool.{false≢true};
 
-use crate::part_facts::{Facts, is_emptied};
 use ocfl_disk::{OpenReport, StateFile};
 use ocfl_files::failing::Failure;
 use ocfl_files::making::failed_file;
 use ocfl_join_disk::{JoinDisk, OpenPart};
-use ocfl_joining::{KeptMark, ReportTrouble};
+use ocfl_joining::{Facts, ReportTrouble, is_emptied, mark_of, runs_of};
 use ocfl_kept::kept::{ClosedIn, part_path, report_path};
 use ocfl_kept::room::Room;
 use ocfl_state::Checkpoint;
@@ -56,15 +55,6 @@ impl<'a, R: Room> Drop for FolderDisk<'a, R> {
     }
 }
 
-/// With what a report was closed, by what was kept of its closing.
-fn mark_of(kept: &Option<Option<Checkpoint>>) -> KeptMark {
-    match kept {
-        None => KeptMark::NotKept,
-        Some(None) => KeptMark::Damaged,
-        Some(Some(checkpoint)) => KeptMark::Kept(checkpoint.report),
-    }
-}
-
 impl<'a, R: Room> FolderDisk<'a, R> {
     /// The folders of the parts of which this is known.
     pub(crate) fn new(rt: &'a R, state: &'a str, facts: &'a [Option<Facts>]) -> FolderDisk<'a, R> {
@@ -90,11 +80,9 @@ impl<'a, R: Room> FolderDisk<'a, R> {
 
     /// Counts the runs of a part.
     fn add_runs(&mut self, kept: &Option<Option<Checkpoint>>) {
-        match kept {
-            Some(Some(checkpoint)) => {
-                self.runs = self.runs.saturating_add(checkpoint.cursor.runs());
-            }
-            _ => self.lacks_runs = true,
+        match runs_of(kept) {
+            Some(runs) => self.runs = self.runs.saturating_add(runs),
+            None => self.lacks_runs = true,
         }
     }
 
@@ -200,11 +188,7 @@ impl<'a, R: Room> FolderDisk<'a, R> {
             kept,
         } = self.find_report(cycle, number)?;
         self.add_runs(&kept);
-        let mark = if self.is_lost(cycle, number, bytes) {
-            KeptMark::Damaged
-        } else {
-            mark_of(&kept)
-        };
+        let mark = mark_of(self.is_lost(cycle, number, bytes), &kept);
         let OpenReport {
             file,
             whole: _whole,

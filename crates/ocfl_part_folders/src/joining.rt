@@ -1,13 +1,13 @@
 //! Joining the closed reports of all parts of a storage root, of one cycle.
 
 use crate::folder_disk::{FolderDisk, find_joined};
-use crate::part_facts::{Facts, closed_parts, last_of_all, read_all};
+use crate::part_facts::{closed_parts, read_all};
 use ocfl_files::failing::{Failure, say_failure};
 use ocfl_files::making::failed_file;
-use ocfl_files::saying::STOPPED;
 use ocfl_join_disk::{ComparedReports, MakingReports};
 use ocfl_joining::{
-    ClosedPart, JoinStop, Joined as JoinedReport, MissingPart, PartFault, find_most_names, join,
+    ClosedPart, CycleEnd, Facts, JoinStop, Joined as JoinedReport, MissingPart, PartFault,
+    find_most_names, join, join_status, last_of_all,
 };
 use ocfl_kept::kept::{MOST_BACK, is_packed, is_told, part_path, report_path};
 use ocfl_kept::room::Room;
@@ -85,17 +85,16 @@ fn say_one<R: Eprint>(rt: &R, cycle: u64, parts: &[Option<ClosedPart>], one: &Mi
     }
 }
 
-/// Names the parts that cannot be joined, and gives the status.
+/// Names the parts that cannot be joined.
 fn say_missing<R: Eprint>(
     rt: &R,
     cycle: u64,
     parts: &[Option<ClosedPart>],
     missing: &[MissingPart],
-) -> u8 {
+) {
     for one in missing {
         say_one(rt, cycle, parts, one);
     }
-    STOPPED
 }
 
 /// Says of the report of a part that it is not whole, and what was left out.
@@ -113,13 +112,13 @@ fn say_left<R: Eprint>(rt: &R, number: usize, part: &ClosedPart) {
     }
 }
 
-/// Says what the joined report lacks, which is not whole, and gives the status.
+/// Says what the joined report lacks, which is not whole.
 fn say_incomplete<R: Room + Eprint>(
     rt: &R,
     state: &str,
     cycle: u64,
     parts: &[Option<ClosedPart>],
-) -> Result<u8, Failure> {
+) -> Result<(), Failure> {
     for (index, part) in parts.iter().enumerate() {
         if let Some(part) = part {
             say_left(rt, index.saturating_add(1), part);
@@ -130,7 +129,7 @@ fn say_incomplete<R: Room + Eprint>(
     let _ = eprintln!(rt;
         "ocfl-scrub: the joined report of cycle {cycle} lacks what these parts left out: {path}"
     );
-    Ok(STOPPED)
+    Ok(())
 }
 
 /// Counts the lines of a report.
@@ -293,10 +292,13 @@ impl AllParts<'_> {
                 }
                 self.status_by(rt, cycle, parts, joined.whole)
             }
-            Err(JoinStop::Missing(missing)) if names && made.is_none() => {
-                Ok(say_missing(rt, cycle, parts, &missing))
+            Err(JoinStop::Missing(missing)) => {
+                let named = names && made.is_none();
+                if named {
+                    say_missing(rt, cycle, parts, &missing);
+                }
+                Ok(join_status(CycleEnd::IsHindered { named }))
             }
-            Err(JoinStop::Missing(_)) => Ok(0),
             Err(stop) => Err(stopped(rt.global(), stop, disk.take_failure())),
         }
     }
@@ -312,10 +314,10 @@ impl AllParts<'_> {
     where
         R: Room + Print + Eprint,
     {
-        if whole {
-            return Ok(0);
+        if !whole {
+            say_incomplete(rt, self.state, cycle, parts)?;
         }
-        say_incomplete(rt, self.state, cycle, parts)
+        Ok(join_status(CycleEnd::IsJoined { whole }))
     }
 
     /// Joins the reports of a cycle, and gives the status.

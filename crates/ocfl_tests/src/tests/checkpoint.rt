@@ -3,6 +3,10 @@ use crate::tests::common::cursors::{LINES as CURSOR_LINES, ends_of, whole_text a
 use crate::tests::common::store::place_of;
 use crate::tests::common::{Runtime, expect_shown};
 use ocfl_cursor::{Cursor, CursorStop, Refused, ShowStop, State, TextKind};
+use ocfl_joining::{
+    CycleEnd, KeptMark, facts_of, is_emptied, join_status, known_part, last_of_all, mark_of,
+    runs_of,
+};
 use ocfl_state::{
     Checkpoint, Left, NotShown, Phase, ReportMark, RootIdentity, TopNames, checkpoint_lines,
     checkpoint_reads_back, decode_checkpoint, encode_checkpoint, every_checkpoint_fits,
@@ -364,4 +368,76 @@ fn checkpoints_and_cursors_are_shown(rt: HostRuntime) -> Result<(), Fail> {
 #[test]
 fn no_checkpoint_has_its_text(rt: HostRuntime) -> Result<(), Fail> {
     expect_shown(&rt, "no checkpoint", &NOT_CHECKPOINT, "not a checkpoint")
+}
+
+/// A checkpoint whose cycle has ended and is closed.
+fn closed_checkpoint(alloc: Global) -> Result<Checkpoint, Fail> {
+    let mut checkpoint = part_checkpoint(alloc)?;
+    checkpoint.phase = Phase::Open;
+    Ok(checkpoint)
+}
+
+#[test]
+fn checkpoints_say_what_parts_have_closed(rt: HostRuntime) -> Result<(), Fail> {
+    let alloc = rt.alloc();
+    let mut all = Vec::new(alloc);
+    for (checkpoint, last, has_lines) in [
+        (checkpoint(alloc)?, 0, false),
+        (part_checkpoint(alloc)?, 6, false),
+        (closed_checkpoint(alloc)?, 7, true),
+    ] {
+        let facts = facts_of(alloc, &checkpoint)?;
+        assert_eq!(rt; facts.last, last);
+        assert_eq!(rt; facts.has_lines, has_lines);
+        assert_eq!(rt; is_emptied(&facts, last, 0), has_lines);
+        assert!(rt; !is_emptied(&facts, last, 1) && !is_emptied(&facts, last + 1, 0));
+        all.push(Some(facts))?;
+    }
+    assert_eq!(rt; last_of_all(&all[1..]), 6);
+    assert_eq!(rt; last_of_all(&all), 0);
+    assert_eq!(rt; last_of_all(&[]), u64::MAX);
+    assert_eq!(rt; last_of_all(&[None]), 0);
+    Ok(())
+}
+
+#[test]
+fn a_part_is_known_by_what_was_kept(rt: HostRuntime) -> Result<(), Fail> {
+    let alloc = rt.alloc();
+    let facts = facts_of(alloc, &closed_checkpoint(alloc)?)?;
+    let kept = Some(Some(part_checkpoint(alloc)?));
+    let part = known_part(alloc, &facts, 7, true, false, &kept)?;
+    assert!(rt;
+        part.root
+            .as_slice()
+            .starts_with("mnt/ré %/ocfl\n".as_bytes())
+    );
+    assert_eq!(rt; part.root.len(), 14 + 1 + 32);
+    assert!(rt; part.cycle == 7 && part.told && !part.whole);
+    assert_eq!(rt; part.names, Some(u64::MAX));
+    assert_eq!(rt; part.left.len(), 2);
+    assert_eq!(rt; runs_of(&kept), Some(2));
+    assert_eq!(rt; mark_of(true, &kept), KeptMark::Damaged);
+    assert!(rt; matches!(mark_of(false, &kept), KeptMark::Kept(mark) if mark.lines == 7));
+    assert_eq!(rt; mark_of(false, &Some(None)), KeptMark::Damaged);
+    assert_eq!(rt; mark_of(false, &None), KeptMark::NotKept);
+    for kept in [None, Some(None)] {
+        let part = known_part(alloc, &facts, 7, true, true, &kept)?;
+        assert!(rt; part.names.is_none() && part.left.is_empty() && runs_of(&kept).is_none());
+    }
+    Ok(())
+}
+
+/// How a joining ended, and its status.
+const STATUSES: [(CycleEnd, u8); 4] = [
+    (CycleEnd::IsJoined { whole: true }, 0),
+    (CycleEnd::IsJoined { whole: false }, 3),
+    (CycleEnd::IsHindered { named: true }, 3),
+    (CycleEnd::IsHindered { named: false }, 0),
+];
+
+#[test]
+fn a_joining_has_a_status(rt: HostRuntime) {
+    for (end, status) in STATUSES {
+        assert_eq!(rt; join_status(end), status);
+    }
 }

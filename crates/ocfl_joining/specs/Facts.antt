@@ -1,0 +1,93 @@
+-- What the checkpoints of parts say of them, and of their closed reports.
+use Rattle.std.specs.Prelude.{ℕ, ◌-◌, ◌^◌, ◌==◌, ◌&&◌, min, nat_lt, List, [], ◌∷◌, ◌++◌, map, Bool, true, false, if◌then◌else◌, Option, Some, None}
+use Rattle.ocfl_tree.specs.{Place.{Text, Place}, Path.{slashed}}
+use Rattle.ocfl_cursor.specs.Cursor.{State, start, behind, ended}
+use Rattle.ocfl_cursor.specs.declared.ends.PartEnds.{PartEnds}
+use Rattle.ocfl_state.specs.Checkpoint.{Checkpoint}
+use Rattle.ocfl_state.specs.declared.checkpoint_parts.RootIdentity.{RootIdentity}
+use Rattle.ocfl_state.specs.declared.checkpoint_parts.Phase.{Phase}
+use Rattle.ocfl_state.specs.declared.checkpoint_parts.Phase.TheVariants.{Open, Closing}
+use Rattle.ocfl_joining.specs.declared.facts.Facts.{Facts}
+use Rattle.ocfl_joining.specs.declared.reports.KeptMark.{KeptMark}
+use Rattle.ocfl_joining.specs.declared.reports.KeptMark.TheVariants.{NotKept, Kept, Damaged}
+
+-- ---- the checkpoint of a part
+
+-- which storage root it is of: its path, and the digest of what declares it
+abbrev pub root_of : RootIdentity → Text
+root_of r = slashed r.path ++ 10 ∷ r.declared
+
+abbrev pub has_ended : State → Bool
+has_ended start = false
+has_ended (behind p) = false
+has_ended ended = true
+
+abbrev pub is_open : Phase → Bool
+is_open Open = true
+is_open Closing = false
+
+-- its cycle has ended, and the report of that is closed
+abbrev pub is_closed : Checkpoint → Bool
+is_closed c = has_ended c.cursor.state && is_open c.phase
+
+-- the cycle that was closed last; 0 if none was
+abbrev pub last_closed : Checkpoint → ℕ
+last_closed c = if is_closed c then c.cursor.cycle else c.cursor.cycle - 1
+
+-- that cycle is known to have read files, so that its report has lines
+abbrev pub has_lines : Checkpoint → Bool
+has_lines c = is_closed c && nat_lt 0 c.cursor.spent
+
+-- a whole root has no ends
+abbrev pub from_of : Option PartEnds → Option Place
+from_of None = None
+from_of (Some ends) = ends.from
+
+abbrev pub below_of : Option PartEnds → Option Place
+below_of None = None
+below_of (Some ends) = ends.below
+
+-- ---- all parts
+
+abbrev pub last_by : Option Facts → ℕ
+last_by None = 0
+last_by (Some facts) = facts.last
+
+-- the last cycle that each part has closed, and 2^64 - 1 if there is no part
+abbrev pub last_of_all : List (Option Facts) → ℕ
+last_of_all [] = 2 ^ 64 - 1
+last_of_all (facts ∷ all) = min (last_by facts) (last_of_all all)
+
+-- ---- what was kept when a report was closed: none where nothing was, and none in it where that is
+-- no checkpoint any more
+
+-- a report of no bytes had lines when it was closed
+abbrev pub is_emptied : Facts → ℕ → ℕ → Bool
+is_emptied facts cycle bytes = (bytes == 0) && (facts.has_lines && (facts.last == cycle))
+
+abbrev pub mark_by : Option (Option Checkpoint) → KeptMark
+mark_by None = NotKept
+mark_by (Some None) = Damaged
+mark_by (Some (Some c)) = Kept c.report
+
+-- with what it was closed
+abbrev pub mark_of : Bool → Option (Option Checkpoint) → KeptMark
+mark_of emptied kept = if emptied then Damaged else mark_by kept
+
+-- the places that were left out of it, as far as they are known
+abbrev pub left_in : Option (Option Checkpoint) → List Place
+left_in None = []
+left_in (Some None) = []
+left_in (Some (Some c)) = map (λ l. l.place) c.left
+
+-- how many names the storage root had when its cycle began, if that was kept
+abbrev pub names_in : Option (Option Checkpoint) → Option ℕ
+names_in None = None
+names_in (Some None) = None
+names_in (Some (Some c)) = Some c.names.count
+
+-- how many runs it had, if that was kept
+abbrev pub runs_in : Option (Option Checkpoint) → Option ℕ
+runs_in None = None
+runs_in (Some None) = None
+runs_in (Some (Some c)) = Some c.cursor.runs

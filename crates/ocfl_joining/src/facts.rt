@@ -1,0 +1,255 @@
+//! What the checkpoints of parts say of them, and of their closed reports.
+ghost use Rattle.std.specs.Prelude.{◌≡◌, ◌++◌, IfOk, OnOk, map};
+ghost use Rattle.std.specs.Option.{option_map};
+ghost use Rattle.ocfl_cursor.specs.State.{state_of};
+ghost use Rattle.ocfl_joining.specs.Facts.{below_of, from_of, has_ended, has_lines, is_closed};
+ghost use Rattle.ocfl_joining.specs.Facts.{is_emptied as is_emptied_by, is_open, last_by};
+ghost use Rattle.ocfl_joining.specs.Facts.{last_closed, last_of_all as last_of_these, left_in};
+ghost use Rattle.ocfl_joining.specs.Facts.{mark_by, mark_of as mark_of_these, names_in};
+ghost use Rattle.ocfl_joining.specs.Facts.{root_of, runs_in};
+
+use crate::part::ClosedPart;
+use crate::reports::KeptMark;
+use ocfl_cursor::State;
+use ocfl_state::{Checkpoint, Left, Phase, RootIdentity};
+use ocfl_tree::Place;
+use std::alloc::{AllocError, Global};
+
+/// What the checkpoint of a part says.
+#[derive(Debug)]
+pub struct Facts {
+    /// Which storage root it is of: its path, a line feed, and the digest of its declaration.
+    pub root: Vec<u8>,
+    /// Where the part begins. The first part, and a whole root, has no beginning.
+    pub from: Option<Place>,
+    /// Below which place it stays. The last part, and a whole root, has no end.
+    pub below: Option<Place>,
+    /// The cycle that was closed last; 0 if none was.
+    pub last: u64,
+    /// Whether that cycle is known to have read files, so that its report has lines.
+    pub has_lines: bool,
+}
+
+/// Written by hand, so that to let it go is one call wherever that happens.
+impl Drop for Facts {
+    fn drop(self) {
+        let Facts {
+            root: _root,
+            from: _from,
+            below: _below,
+            last: _last,
+            has_lines: _has_lines,
+        } = self;
+    }
+}
+
+/// Which storage root it is of.
+fn root_text(alloc: Global, identity: &RootIdentity) -> Result<Vec<u8>, AllocError>
+    ensures { IfOk result (λ root. root.items ≡ root_of identity.now) }
+{
+    let mut root = Vec::from_slice(alloc, identity.path.path().as_bytes())?;
+    root.push(b'\n')?;
+    root.extend_from_slice(&identity.declared)?;
+    Ok(root)
+}
+
+fn is_ended(state: &State) -> bool
+    ensures { result ≡ has_ended (state_of state.now) }
+{
+    matches!(state, State::Ended)
+}
+
+/// Whether the cycle of a checkpoint has ended, and its report is closed.
+fn is_closed(checkpoint: &Checkpoint) -> bool
+    ensures { result ≡ is_closed checkpoint.now }
+{
+    is_ended(checkpoint.cursor.state()) && checkpoint.phase == Phase::Open
+}
+
+/// The cycle whose report was closed last.
+fn last_closed(checkpoint: &Checkpoint) -> u64
+    ensures { result ≡ last_closed checkpoint.now }
+{
+    let cycle = checkpoint.cursor.cycle();
+    if is_closed(checkpoint) {
+        cycle
+    } else {
+        cycle.saturating_sub(1)
+    }
+}
+
+fn has_lines(checkpoint: &Checkpoint) -> bool
+    ensures { result ≡ has_lines checkpoint.now }
+{
+    is_closed(checkpoint) && checkpoint.cursor.spent() > 0
+}
+
+fn copy_end(end: &Option<Place>) -> Result<Option<Place>, AllocError>
+    ensures { IfOk result (λ copy. copy ≡ end.now) }
+{
+    match end {
+        Some(place) => Ok(Some(place.try_clone()?)),
+        None => Ok(None),
+    }
+}
+
+fn find_from(checkpoint: &Checkpoint) -> Result<Option<Place>, AllocError>
+    ensures { IfOk result (λ from. from ≡ from_of checkpoint.now.part) }
+{
+    match &checkpoint.part {
+        Some(ends) => copy_end(&ends.from),
+        None => Ok(None),
+    }
+}
+
+fn find_below(checkpoint: &Checkpoint) -> Result<Option<Place>, AllocError>
+    ensures { IfOk result (λ below. below ≡ below_of checkpoint.now.part) }
+{
+    match &checkpoint.part {
+        Some(ends) => copy_end(&ends.below),
+        None => Ok(None),
+    }
+}
+
+/// What a checkpoint says of its part.
+///
+/// The only error is running out of memory.
+pub fn facts_of(alloc: Global, checkpoint: &Checkpoint) -> Result<Facts, AllocError>
+    ensures root { IfOk result (λ facts. facts.root.items ≡ root_of checkpoint.now.root) }
+    ensures from { IfOk result (λ facts. facts.from ≡ from_of checkpoint.now.part) }
+    ensures below { IfOk result (λ facts. facts.below ≡ below_of checkpoint.now.part) }
+    ensures last { IfOk result (λ facts. facts.last ≡ last_closed checkpoint.now) }
+    ensures lines { IfOk result (λ facts. facts.has_lines ≡ has_lines checkpoint.now) }
+{
+    Ok(Facts {
+        root: root_text(alloc, &checkpoint.root)?,
+        from: find_from(checkpoint)?,
+        below: find_below(checkpoint)?,
+        last: last_closed(checkpoint),
+        has_lines: has_lines(checkpoint),
+    })
+}
+
+fn last_in(facts: &Option<Facts>) -> u64
+    ensures { result ≡ last_by facts.now }
+{
+    match facts {
+        Some(facts) => facts.last,
+        None => 0,
+    }
+}
+
+/// The last cycle that each part has closed: 0 if one has closed none, and the greatest number if
+/// there is no part.
+pub fn last_of_all(all: &[Option<Facts>]) -> u64
+    ensures { result ≡ last_of_these all.now }
+{
+    let mut last = u64::MAX;
+    for facts in all {
+        last = last_in(facts).min(last);
+    }
+    last
+}
+
+/// Whether the report of a cycle, of so many bytes now, had lines when it was closed and has none.
+pub fn is_emptied(facts: &Facts, cycle: u64, bytes: u64) -> bool
+    ensures { result ≡ is_emptied_by facts.now cycle bytes }
+{
+    bytes == 0 && facts.has_lines && facts.last == cycle
+}
+
+fn kept_mark(kept: &Option<Option<Checkpoint>>) -> KeptMark
+    ensures { result ≡ mark_by kept.now }
+{
+    match kept {
+        None => KeptMark::NotKept,
+        Some(None) => KeptMark::Damaged,
+        Some(Some(checkpoint)) => KeptMark::Kept(checkpoint.report),
+    }
+}
+
+/// With what a report was closed, by what was kept then: `None` where nothing was, and `Some(None)`
+/// where that is no checkpoint any more. One that lost all its lines is damaged.
+pub fn mark_of(emptied: bool, kept: &Option<Option<Checkpoint>>) -> KeptMark
+    ensures { result ≡ mark_of_these emptied kept.now }
+{
+    if emptied {
+        KeptMark::Damaged
+    } else {
+        kept_mark(kept)
+    }
+}
+
+/// The places of branches that were left out.
+fn places_of(alloc: Global, left: &[Left]) -> Result<Vec<Place>, AllocError>
+    ensures { IfOk result (λ places. places.items ≡ map (λ l. l.place) left.now) }
+{
+    let mut places = Vec::new(alloc);
+    for branch in left {
+        places.push(branch.place.try_clone()?)?;
+    }
+    Ok(places)
+}
+
+/// The places that were left out of a closed report, by what was kept then.
+fn left_out(alloc: Global, kept: &Option<Option<Checkpoint>>) -> Result<Vec<Place>, AllocError>
+    ensures { IfOk result (λ places. places.items ≡ left_in kept.now) }
+{
+    match kept {
+        Some(Some(checkpoint)) => places_of(alloc, &checkpoint.left),
+        _ => Ok(Vec::new(alloc)),
+    }
+}
+
+/// How many names the storage root had when the cycle of a closed report began, if that was kept.
+fn names_of(kept: &Option<Option<Checkpoint>>) -> Option<u64>
+    ensures { result ≡ names_in kept.now }
+{
+    match kept {
+        Some(Some(checkpoint)) => Some(checkpoint.names.count),
+        _ => None,
+    }
+}
+
+/// How many runs the cycle of a closed report had, if that was kept.
+pub fn runs_of(kept: &Option<Option<Checkpoint>>) -> Option<u64>
+    ensures { result ≡ runs_in kept.now }
+{
+    match kept {
+        Some(Some(checkpoint)) => Some(checkpoint.cursor.runs()),
+        _ => None,
+    }
+}
+
+/// What is known of the report that a part closed in a cycle: whether it is whole, and whether what
+/// it has new and gone was said; by the part's checkpoint, and by what was kept at its closing.
+///
+/// The only error is running out of memory.
+pub fn known_part(
+    alloc: Global,
+    facts: &Facts,
+    cycle: u64,
+    told: bool,
+    whole: bool,
+    kept: &Option<Option<Checkpoint>>,
+) -> Result<ClosedPart, AllocError>
+    ensures root { IfOk result (λ part. part.root.items ≡ facts.now.root.items) }
+    ensures from { IfOk result (λ part. part.from ≡ facts.now.from) }
+    ensures below { IfOk result (λ part. part.below ≡ facts.now.below) }
+    ensures cycle { IfOk result (λ part. part.cycle ≡ cycle) }
+    ensures told { IfOk result (λ part. part.told ≡ told) }
+    ensures whole { IfOk result (λ part. part.whole ≡ whole) }
+    ensures names { IfOk result (λ part. part.names ≡ names_in kept.now) }
+    ensures left { IfOk result (λ part. part.left.items ≡ left_in kept.now) }
+{
+    Ok(ClosedPart {
+        root: facts.root.to_vec(alloc)?,
+        from: copy_end(&facts.from)?,
+        below: copy_end(&facts.below)?,
+        cycle,
+        whole,
+        told,
+        names: names_of(kept),
+        left: left_out(alloc, kept)?,
+    })
+}

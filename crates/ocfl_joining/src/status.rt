@@ -1,0 +1,31 @@
+//! The exit status of a joining.
+ghost use Rattle.std.specs.Prelude.{◌≡◌};
+ghost use Rattle.ocfl_joining.specs.Status.{status_of};
+
+/// How the joining of a cycle ended, if nothing failed.
+#[derive(Clone, Copy, Debug, PartialEq, Eq)]
+pub enum CycleEnd {
+    /// The joined report is there.
+    IsJoined {
+        /// Whether it is whole.
+        whole: bool,
+    },
+    /// Parts keep it from being joined.
+    IsHindered {
+        /// Whether they were named: those of the last cycle are.
+        named: bool,
+    },
+}
+
+/// The exit status of a joining that ended so: 0, or 3 where the joined report lacks something, or
+/// parts were named that keep it from being joined.
+pub fn join_status(end: CycleEnd) -> u8
+    ensures { result ≡ status_of end }
+{
+    match end {
+        CycleEnd::IsJoined { whole: true } => 0,
+        CycleEnd::IsJoined { whole: false } => 3,
+        CycleEnd::IsHindered { named: true } => 3,
+        CycleEnd::IsHindered { named: false } => 0,
+    }
+}

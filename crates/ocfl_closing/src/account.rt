@@ -4,10 +4,10 @@ use crate::closed::CycleMade;
 use ocfl_accounts::Pair;
 use ocfl_kept::kept::{list_path, new_list_path, report_path};
 use ocfl_kept::names::Names;
+use ocfl_messages::{Closing, Counts, Gone, Shown, closing_text};
 use ocfl_reading::finding::Findings;
 use ocfl_reading::rows::Changes;
 use ocfl_report::Line;
-use ocfl_messages::{Closing, Counts, Gone, Shown, closing_text};
 use ocfl_tree::Place;
 use std::alloc::{AllocError, Global};
 

@@ -94,11 +94,7 @@ impl<R: Files<File = File> + AllocGlobal + Clone + Drop> FsState<SystemDisk<R>> 
     }
 
     /// Opens the closed report of a cycle that is whole, or the one that is not, if it is there.
-    pub fn open_closed_as(
-        &mut self,
-        cycle: u64,
-        whole: bool,
-    ) -> Result<Option<File>, FolderTrouble>
+    pub fn open_closed_as(&mut self, cycle: u64, whole: bool) -> Result<Option<File>, FolderTrouble>
         ensures kept { IfErr result (λ trouble. IsKept self.new.reason trouble) }
         ensures same { OnOk result (self.new.reason ≡ self.old.reason) }
     {

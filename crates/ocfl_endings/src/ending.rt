@@ -3,9 +3,9 @@
 use ocfl_cursor::Refused;
 use ocfl_item::Fault;
 use ocfl_kept::names::Names;
+use ocfl_messages::{RefusalMessage, StopMessage, refusal_text, stop_text};
 use ocfl_night::{Halt, Refusal, Stop};
 use ocfl_state::FolderTrouble;
-use ocfl_messages::{RefusalMessage, StopMessage, refusal_text, stop_text};
 use std::alloc::{AllocError, Global};
 
 /// The words on a checkpoint that a state folder does not take.

@@ -2,9 +2,9 @@
 
 use jiff::Error;
 use jiff::tz::{SystemTimeZone, TimeZone, TimeZoneDatabase};
+use ocfl_arguments::Until;
 use ocfl_clock::next_time;
 use ocfl_files::failing::Failure;
-use ocfl_arguments::Until;
 use std::alloc::AllocError;
 use std::env::{self, VarError};
 use std::io::ErrorKind;

@@ -2,13 +2,13 @@
 
 use crate::apart::refuse_overlap;
 use crate::ends::find_shown;
+use ocfl_arguments::NightAsked;
 use ocfl_cursor::PartEnds;
 use ocfl_files::failing::Failure;
 use ocfl_kept::names::{About, Names};
-use ocfl_arguments::NightAsked;
+use ocfl_messages::Known;
 use ocfl_reading::expected::refuse_unfit;
 use ocfl_reading::known::find_known;
-use ocfl_messages::Known;
 use ocfl_terminal::roots::{Root, find_ends, find_root, part_number};
 use ocfl_terminal::version::running_digest;
 use ocfl_tree::Place;

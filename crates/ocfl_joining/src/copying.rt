@@ -10,8 +10,8 @@ ghost use Rattle.ocfl_joining.specs.declared.copying.PartStop.TheVariants.{Chang
 ghost use Rattle.ocfl_report.specs.Line.{Line as ModelLine};
 
 use crate::reports::{KeptMark, PartReports, ReportTrouble};
-use ocfl_separators::Separators;
 use ocfl_report::{TextStop, read_line};
+use ocfl_separators::Separators;
 use ocfl_state::ReportDigests;
 use ocfl_tree::Place;
 use std::alloc::Global;

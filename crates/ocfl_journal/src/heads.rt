@@ -1,8 +1,8 @@
 //! The object that the next line of a report may be in, by the lines before it.
 
+use ocfl_messages::Heads;
 use ocfl_report::{TextStop, split_once};
 use ocfl_state::{FolderTrouble, StateFolder};
-use ocfl_messages::Heads;
 use std::alloc::Global;
 
 /// How many bytes of a report are looked at.

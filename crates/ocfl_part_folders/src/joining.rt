@@ -2,6 +2,7 @@
 
 use crate::folder_disk::{FolderDisk, find_joined};
 use crate::part_facts::{closed_parts, read_all};
+use ocfl_arguments::JoinAsked;
 use ocfl_files::failing::{Failure, say_failure};
 use ocfl_files::making::failed_file;
 use ocfl_join_disk::{ComparedReports, MakingReports};
@@ -11,13 +12,12 @@ use ocfl_joining::{
 };
 use ocfl_kept::kept::{MOST_BACK, is_packed, is_told, part_path, report_path};
 use ocfl_kept::room::Room;
-use ocfl_arguments::JoinAsked;
-use ocfl_separators::{PartsStop, Separators, read_parts};
+use ocfl_messages::{Counts, Joined, Shown, Tally, joined_text};
 use ocfl_reading::lines::line_of;
 use ocfl_reading::reading::{TakeLine, take_lines};
 use ocfl_report::{DisplayPlace, write_all_of};
 use ocfl_scope::ScopeStop;
-use ocfl_messages::{Counts, Joined, Shown, Tally, joined_text};
+use ocfl_separators::{PartsStop, Separators, read_parts};
 use std::alloc::{AllocError, Global};
 use std::fs::File;
 use std::io::{self, BufReader, ErrorKind};

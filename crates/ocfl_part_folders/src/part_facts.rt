@@ -5,8 +5,8 @@ use ocfl_files::failing::Failure;
 use ocfl_joining::{ClosedPart, Facts, facts_of, known_part};
 use ocfl_kept::kept::{is_told, part_path};
 use ocfl_kept::room::Room;
-use ocfl_state::decode_checkpoint;
 use ocfl_messages::Shown;
+use ocfl_state::decode_checkpoint;
 use std::alloc::{AllocError, Global};
 
 /// What is said of a file that is no checkpoint.

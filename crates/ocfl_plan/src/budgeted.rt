@@ -2,8 +2,8 @@
 ghost use Rattle.std.specs.Prelude.{◌≡◌, ◌↔◌, ◌≤◌, IsTrue, []};
 ghost use Rattle.ocfl_plan.specs.Budgeted.{budgeted, is_spent, spent_in};
 
-use ocfl_cursor::{Budget, FileLimit, Limits, Meter};
 use ocfl_arguments::NightAsked;
+use ocfl_cursor::{Budget, FileLimit, Limits, Meter};
 use ocfl_night::{Clock, Made};
 
 /// The most that a budget allows.

@@ -3,8 +3,8 @@ ghost use Rattle.std.specs.Prelude.{◌≡◌};
 ghost use Rattle.ocfl_plan.specs.Plan.{end_of, plan_of, slice_of};
 
 use crate::budgeted::is_spent_by;
-use ocfl_cursor::Budget;
 use ocfl_arguments::{NightAsked, NightBounds, Until};
+use ocfl_cursor::Budget;
 use ocfl_night::Plan;
 
 /// How much a run spends, if that is not said: 1 GiB.

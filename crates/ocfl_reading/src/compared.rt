@@ -2,8 +2,8 @@
 
 use crate::finding::{Counting, Findings};
 use crate::lines::copy_of;
-use ocfl_report::{Code, Line};
 use ocfl_messages::Known;
+use ocfl_report::{Code, Line};
 use ocfl_tree::Place;
 use std::alloc::{AllocError, Global};
 use std::mem;

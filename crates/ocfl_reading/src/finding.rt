@@ -2,8 +2,8 @@
 
 use crate::lines::{line_of, put_lines};
 use crate::reading::{TakeLine, take_lines};
-use ocfl_report::Line;
 use ocfl_messages::{Finding, Gathering, Gravest, Heads, Known, Tally};
+use ocfl_report::Line;
 use std::alloc::{AllocError, Global};
 use std::io::{self, BufRead};
 

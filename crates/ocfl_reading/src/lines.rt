@@ -1,7 +1,7 @@
 //! Lines of reports, and of the findings among them.
 
-use ocfl_report::{Line, TextStop, read_line};
 use ocfl_messages::Finding;
+use ocfl_report::{Line, TextStop, read_line};
 use std::alloc::{AllocError, Global};
 use std::io::{self, ErrorKind};
 

@@ -2,13 +2,13 @@
 
 use crate::saying::say_note;
 use crate::showing::show_file;
+use ocfl_arguments::Task;
 use ocfl_deed::Deed;
 use ocfl_digest::Block;
 use ocfl_files::files::put_in_place;
 use ocfl_files::reasons::{Reasons, words_on};
 use ocfl_files::saying::{STOPPED, say};
 use ocfl_folder::FsTree;
-use ocfl_arguments::Task;
 use ocfl_report::DisplayPlace;
 use ocfl_scope::Scope;
 use ocfl_scrub::{Note, Performed, perform_part};

@@ -1,9 +1,9 @@
 //! The file of a cursor that a command line names.
 
+use ocfl_arguments::Task;
 use ocfl_cursor::{Cursor, State, read_cursor, read_part_cursor};
 use ocfl_files::files::{lies_inside, open_if_there};
 use ocfl_files::saying::{USAGE, say, say_out_of_memory};
-use ocfl_arguments::Task;
 use ocfl_scope::Scope;
 use std::alloc::Global;
 use std::fs;

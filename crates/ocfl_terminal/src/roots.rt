@@ -1,11 +1,11 @@
 //! Which storage root a night reads, and which part of it.
 
 use crate::scope::read_scope;
+use ocfl_arguments::Chosen;
 use ocfl_cursor::PartEnds;
 use ocfl_files::failing::Failure;
-use ocfl_arguments::Chosen;
-use ocfl_scope::Scope;
 use ocfl_messages::{RefusalMessage, Shown, refusal_text};
+use ocfl_scope::Scope;
 use ocfl_tree::Place;
 use std::alloc::{AllocError, Global};
 use std::rt::Files;

@@ -1,10 +1,10 @@
 //! Which items of the storage root a command takes, by what its command line chooses.
 
 use crate::paths::why_no_place;
-use ocfl_files::saying::say;
 use ocfl_arguments::Chosen;
-use ocfl_separators::PartsStop;
+use ocfl_files::saying::say;
 use ocfl_scope::{Scope, ScopeStop, find_branch, find_part};
+use ocfl_separators::PartsStop;
 use std::fs::File;
 use std::io;
 use std::rt::Files;

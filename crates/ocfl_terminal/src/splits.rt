@@ -1,12 +1,12 @@
 //! Splitting a storage root: the text of the separators goes to standard output.
 
+use ocfl_arguments::Split;
 use ocfl_files::heard::Heard;
 use ocfl_files::saying::{STOPPED, USAGE, say};
 use ocfl_folder::FsTree;
 use ocfl_item::Fault;
-use ocfl_arguments::Split;
-use ocfl_separators::{MAX_BYTES, Separators, SplitStop, put_parts, split_by};
 use ocfl_report::{DisplayPlace, write_all_of};
+use ocfl_separators::{MAX_BYTES, Separators, SplitStop, put_parts, split_by};
 use ocfl_split::split;
 use ocfl_tree::Place;
 use std::fs::File;

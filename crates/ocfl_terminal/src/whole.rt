@@ -2,8 +2,8 @@
 //! elsewhere. Paths of items as reports write them.
 
 use crate::paths::write_as_reports;
-use ocfl_deed::Deed;
 use ocfl_arguments::{Asked, Chosen, NightAsked, Split, Task};
+use ocfl_deed::Deed;
 use std::alloc::Global;
 use std::rt::Env;
 use std::{env, io};

@@ -3,8 +3,8 @@
 use crate::version::print_build;
 use crate::whole::make_asked_whole;
 use clap::error::ErrorKind;
-use ocfl_files::saying::{STOPPED, USAGE, say, say_out_of_memory};
 use ocfl_arguments::{Asked, CommandStop, asked};
+use ocfl_files::saying::{STOPPED, USAGE, say, say_out_of_memory};
 use std::alloc::{AllocError, Global};
 use std::rt::{Env, Files};
 use std::{env, io};

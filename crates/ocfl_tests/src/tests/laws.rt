@@ -4,10 +4,10 @@ use ocfl_cursor::{
     no_part_is_refused, no_stored_part_is_refused, parts_and_whole_are_apart,
     text_determines_the_cursor, text_determines_the_part, text_determines_what_is_shown,
 };
-use ocfl_separators::laws::text_determines_the_separators;
-use ocfl_scope::laws::ends_are_of_the_numbered_part;
-use ocfl_state::{no_checkpoint_is_refused, text_determines_the_checkpoint};
 use ocfl_messages::laws::all_findings_are_ordered;
+use ocfl_scope::laws::ends_are_of_the_numbered_part;
+use ocfl_separators::laws::text_determines_the_separators;
+use ocfl_state::{no_checkpoint_is_refused, text_determines_the_checkpoint};
 
 #[test]
 fn laws_can_be_called(_rt: HostRuntime) {

@@ -5,9 +5,9 @@ mod sizes;
 
 use crate::tests::common::Runtime;
 use clap::error::ErrorKind;
+use ocfl_arguments::{Asked, CommandStop, Split, Task, asked};
 use ocfl_cursor::{Budget, FileLimit, Limits};
 use ocfl_deed::Deed;
-use ocfl_arguments::{Asked, CommandStop, Split, Task, asked};
 use std::alloc::{AllocError, Global};
 use std::test::Fail;
 

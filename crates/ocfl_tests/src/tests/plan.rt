@@ -6,9 +6,9 @@ use crate::tests::common::digests::lines_of;
 use crate::tests::common::output::Narrow;
 use crate::tests::common::roots::three_files;
 use crate::tests::common::store::place_of;
+use ocfl_arguments::{Chosen, NightAsked, NightBounds, Until};
 use ocfl_cursor::Budget;
 use ocfl_digest::Block;
-use ocfl_arguments::{Chosen, NightAsked, NightBounds, Until};
 use ocfl_night::{
     Clock, Flushing, Halt, Made, NightEnd, Output, OutputFailed, Refusal, Site, night,
 };

@@ -3,8 +3,8 @@ use crate::tests::common::cursors::ends_of;
 use crate::tests::common::expect_shown;
 use crate::tests::common::input::{Slow, Then, expect_failures};
 use crate::tests::common::store::place_of;
-use ocfl_separators::PartsStop;
 use ocfl_scope::{Scope, ScopeStop, find_branch, find_part};
+use ocfl_separators::PartsStop;
 use std::alloc::Global;
 use std::test::Fail;
 

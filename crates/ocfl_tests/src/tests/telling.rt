@@ -5,11 +5,11 @@ mod respelt;
 mod rows;
 
 use crate::tests::common::store::place_of;
-use ocfl_report::{Line, TextStop, read_line};
 use ocfl_messages::{
     Found, Gravest, Heads, Known, KnownEntry, KnownStop, Night, Quoted, Reach, RefusalMessage,
     StopMessage, find_shown, night_text, read_known, refusal_text, stop_text,
 };
+use ocfl_report::{Line, TextStop, read_line};
 use std::alloc::Global;
 use std::test::Fail;
 

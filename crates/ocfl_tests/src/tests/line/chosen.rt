@@ -5,8 +5,8 @@ use super::{
 };
 use crate::tests::common::Runtime;
 use clap::error::ErrorKind;
-use ocfl_deed::Deed;
 use ocfl_arguments::{Asked, Chosen, Split};
+use ocfl_deed::Deed;
 use std::alloc::{AllocError, Global};
 use std::test::Fail;
 

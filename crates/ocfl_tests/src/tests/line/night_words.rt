@@ -2,8 +2,8 @@
 
 use super::{expect_in_usage, fault, read, usage_text, words_fault};
 use clap::error::ErrorKind;
-use ocfl_cursor::Budget;
 use ocfl_arguments::{Asked, Chosen, JoinAsked, NightAsked, NightBounds, Until, asked};
+use ocfl_cursor::Budget;
 use std::alloc::{AllocError, Global};
 use std::test::Fail;
 

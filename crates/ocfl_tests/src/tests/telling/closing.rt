@@ -1,11 +1,11 @@
 //! What is said of a closed cycle.
 use crate::tests::common::store::place_of;
 use crate::tests::telling::line_of;
-use ocfl_report::Line;
 use ocfl_messages::{
     Closing, Counts, Finding, Gone, GoneKind, Gravest, Joined, SHOWN, Tally, closing_text,
     joined_text,
 };
+use ocfl_report::Line;
 use ocfl_tree::Place;
 use std::alloc::Global;
 use std::test::Fail;

@@ -1,9 +1,9 @@
 //! How many files of an object are right, as a night says it.
 use crate::tests::common::store::place_of;
-use ocfl_report::read_line;
 use ocfl_messages::{
     FileCounts, Found, Gathering, Gravest, Heads, Known, KnownEntry, Night, Reach, night_text,
 };
+use ocfl_report::read_line;
 use std::alloc::Global;
 use std::test::Fail;
 

@@ -13,8 +13,8 @@ pub returns-in-Some-clause-value : goal.returns-in-Some-clause-value
 returns-in-Some-clause-value c =
     let log = ap (λ (v : Vec MemCall Global). v.items) c.begin.ensures.log in
     let found = c.find_file.ensures
-        ∙ ap (file_named c.args.cycle c.args.whole) (c.deref.ensures.value ∙ ap (λ (s : Shown). s.names.closed) c.shown-2.view_is
-        ∙ ap (λ (n : Names). n.closed) (names_read c.args.self.now.log.items c.begin.new.self.log.items c.in_ok-shown.shown c.args.self.now.faults c.in_ok-shown.ensures.value log)) in
+    ∙ ap (file_named c.args.cycle c.args.whole) (c.deref.ensures.value ∙ ap (λ (s : Shown). s.names.closed) c.shown-2.view_is
+    ∙ ap (λ (n : Names). n.closed) (names_read c.args.self.now.log.items c.begin.new.self.log.items c.in_ok-shown.shown c.args.self.now.faults c.in_ok-shown.ensures.value log)) in
     ap Some (c.in_ok-bytes-in-Some.ensures.value ∙ ap (λ (l : List MemCall). (after_calls (calls_of l)).seen.bytes c.in-Some.file) log)
     ∙ ap (option_map (after_calls (calls_of c.args.self.now.log.items)).seen.bytes) (sym c.in-Some.is ∙ found)
 
@@ -22,6 +22,6 @@ pub returns-clause-value : goal.returns-clause-value
 returns-clause-value c =
     let log = ap (λ (v : Vec MemCall Global). v.items) c.begin.ensures.log in
     let found = c.find_file.ensures
-        ∙ ap (file_named c.args.cycle c.args.whole) (c.deref.ensures.value ∙ ap (λ (s : Shown). s.names.closed) c.shown-2.view_is
-        ∙ ap (λ (n : Names). n.closed) (names_read c.args.self.now.log.items c.begin.new.self.log.items c.in_ok-shown.shown c.args.self.now.faults c.in_ok-shown.ensures.value log)) in
+    ∙ ap (file_named c.args.cycle c.args.whole) (c.deref.ensures.value ∙ ap (λ (s : Shown). s.names.closed) c.shown-2.view_is
+    ∙ ap (λ (n : Names). n.closed) (names_read c.args.self.now.log.items c.begin.new.self.log.items c.in_ok-shown.shown c.args.self.now.faults c.in_ok-shown.ensures.value log)) in
     ap (option_map (after_calls (calls_of c.args.self.now.log.items)).seen.bytes) (sym c.in-None.is ∙ found)

@@ -101,7 +101,7 @@ impl ClosedDisk for OneCycle {
 
     fn kept_checkpoint(&mut self, _cycle: u64) -> Result<Option<Vec<u8>>, ClosingStop> {
         match &self.kept {
-            Some(bytes) => match bytes.try_clone() {
+            Some(bytes) => match bytes.to_vec(self.alloc) {
                 Ok(bytes) => Ok(Some(bytes)),
                 Err(_) => Err(ClosingStop::Memory),
             },

@@ -32,7 +32,7 @@ def read(path):
 README = read(os.path.join(common.TOP, "README.md"))
 # The kit that README names, by its logic, and how long it says that a build takes.
 LOGIC = re.search(r"`logic (\w+)`", README)[1]
-MINUTES = re.search(r"proves and builds it, in ([\w ]+ minutes)", README)[1]
+MINUTES = re.search(r"proves and builds the program, in ([\w ]+ minutes)", README)[1]
 CRATES = b"# lowest first\nlow:\nbeside: low\nmiddle: low sha2\nocfl_tests: low beside\n" \
          b"ocfl_scrub_cli: middle\n"
 NEEDED = b"low:\nmiddle: low sha2\nocfl_scrub_cli: middle\n"

@@ -33,6 +33,7 @@ import re
 import shlex
 import shutil
 import subprocess
+import time
 
 import common
 from common import PROGRAM, check
@@ -142,6 +143,8 @@ def a_word_of_a_good_night(folder):
     status, said = in_service(nights, 2)
     check("told", (status, "archive: findings repaired" in said, "repaired in cycle 2" in said),
           (0, True, True))
+    # The log names nights by the second in which they begin.
+    time.sleep(1.01 - time.time() % 1)
     status, said = in_service(nights, 3)
     check("then the word at the end of a cycle", (status, "cycle 3 of archive: all right" in said,
                                                   len(said.splitlines())), (0, True, 3))

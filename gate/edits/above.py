@@ -11,7 +11,7 @@ from gate.edits import functions
 from gate.repository import crates
 
 # The crates of such laws, by the crate whose definitions they pin.
-LAWS_OF = {"ocfl_scrub": "ocfl_laws"}
+LAWS_OF = {"ocfl_scrub": "ocfl_laws", "ocfl_night": "ocfl_night_laws"}
 # The folders that a check reads of a crate.
 PARTS = ("src", "specs", "proofs")
 

@@ -16,7 +16,7 @@ FILES = re.compile(r"`(ocfl_\w+)`: ((?:`\w+`(?:, )?)+)")
 CONTRACT = re.compile(r"`(?:(ocfl_\w+)|(?:\w+::)*(\w+))`")
 # The contracts of a cycle, and of a night and of the laws of nights.
 CYCLE = [("ocfl_scrub", "cycling", "cycle")]
-NIGHTS = [("ocfl_night", "nights", "night"), ("ocfl_night", "laws", None)]
+NIGHTS = [("ocfl_night", "nights", "night"), ("ocfl_night_laws", "nights", None)]
 # Crates of which no contract is named.
 WITHOUT_CONTRACTS = (TESTS, "ocfl_scrub_cli", "ocfl_files", "ocfl_kept", "ocfl_reading",
                      "ocfl_closing", "ocfl_part_folders", "ocfl_terminal", "ocfl_journal",

@@ -11,6 +11,8 @@ from gate.pages import definitions
 from gate.pages.lists import text_of
 
 PAGE, TITLE, CRATE, FUNCTION = "docs/RULES.md", "Nights", "ocfl_night", "night"
+# The crate of the laws of nights, and of the definitions that they alone cite.
+LAWS_CRATE = "ocfl_night_laws"
 PROVED = "docs/NIGHTS.md"
 # A file of definitions with names of them: `Steps`: `IsLost`, `IsChanged`.
 FILES = re.compile(r"`([A-Z]\w*)`: ((?:`\w+`(?:, )?)+)")
@@ -53,8 +55,8 @@ def lost(text: str, has_definitions: bool = True) -> Iterator[str]:
         if clause not in clauses_of(function):
             yield "the contract of %s has no clause %s" % (function, clause)
     for law, crate in (law for laws in LAWS.findall(text) for law in LAW.findall(laws)):
-        if (crate or CRATE) not in (it for it, _ in definitions.sources().get(law, ())):
-            yield "there is no law %s of %s" % (law, crate or CRATE)
+        if (crate or LAWS_CRATE) not in (it for it, _ in definitions.sources().get(law, ())):
+            yield "there is no law %s of %s" % (law, crate or LAWS_CRATE)
     if has_definitions and not named or not clauses:
         yield "it cites no definition, or no clause"
 

@@ -125,7 +125,7 @@ class Contracts(unittest.TestCase):
         table = [["a promise", "`ocfl_scrub`: `cycle`, `told`; law `nights_are_sound`"],
                  ["another", "all public calls of `ocfl_item`"], ["types", "`ocfl_tree`: `Tree`"]]
         self.assertEqual(lists.contracts_of(table), [
-            ("ocfl_night", "laws", "nights_are_sound"), ("ocfl_scrub", "cycling", "cycle"),
+            ("ocfl_night_laws", "nights", "nights_are_sound"), ("ocfl_scrub", "cycling", "cycle"),
             ("ocfl_tree", "tree", None)])
 
 

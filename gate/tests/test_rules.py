@@ -27,7 +27,8 @@ class Rules(unittest.TestCase):
             "Night of ocfl_messages has no definition, and no field, no_text",
             "the contract of night has no clause unheard",
             "the contract of other has no clause named",
-            "there is no law no_law of ocfl_night", "there is no law no_other of ocfl_night"])
+            "there is no law no_law of ocfl_night_laws",
+            "there is no law no_other of ocfl_night_laws"])
 
     def test_a_text_without_citations(self) -> None:
         self.assertEqual(list(rules.lost("Nothing.")), ["it cites no definition, or no clause"])

@@ -1,5 +1,5 @@
 -- What of a night may be opened again after a crash.
-use Rattle.std.proofs.Common.{◌≡◌, ◌≢◌, ◌⊎◌, ⊎_elim, inl, inr, ℕ, ◌+◌, ◌≤◌, ◌<◌, List, [], ◌∷◌, ◌++◌, Bool, true, false, Option, Some, None, Result, Ok, Err, refl, sym, ◌∙◌, ap, subst, arith, append_assoc}
+use Rattle.std.proofs.Common.{ℕ, ◌≡◌, ◌≢◌, ◌⊎◌, ⊎_elim, inl, inr, ◌+◌, ◌≤◌, ◌<◌, List, [], ◌∷◌, ◌++◌, Bool, true, false, Option, Some, None, Result, Ok, Err, refl, sym, ◌∙◌, ap, subst, arith, append_assoc}
 use Rattle.std.proofs.lemmas.List.{append-nil}
 use Rattle.std.specs.Prelude.{IfOk}
 use Rattle.ocfl_tree.specs.{Place.{Text, Place, place_cmp}, Ascending.{IsAmong, IsAscending}, StorageRoot.{StorageRoot}, Store.{Store}}
@@ -16,7 +16,7 @@ use Rattle.ocfl_night.specs.Again.{AreFew, AreLegs, GoesOn, HasDone, IsLittleAga
 use Rattle.ocfl_night.specs.Asking.{AskedFrom, GaveAll, IsMetBy, MayAskFrom, declaring}
 use Rattle.ocfl_night.specs.{Clock.{Event, Asked, Read, Heard}, Done.{Done}, Runs.{IsAllowed, Run, StopsOpen, Turn, after_end, after_made, events_of, turn_of}}
 use Rattle.ocfl_night.specs.Ending.{IsAway, IsMadeBy, IsNextBy, IsSlice, IsUnkept, KeepsTo, cycle_in, cycle_of, place_or_pause, slice_end}
-use Rattle.ocfl_night.specs.{Looks.{Counts, Rounds}, Promises.{IfThere}, Reading.{AreBeyond, AreTaken, ReadsBeyond, StaysTaken, content_since, reached, reached_in}}
+use Rattle.ocfl_night.specs.{Looks.{Counts, Rounds}, Promises.{IfThere}, Reading.{AreBeyond, AreTaken, StaysTaken, content_since, reached, reached_in}}
 use Rattle.ocfl_night.specs.{Sound.{IsAt, IsReady, Stands}, Steps.{IsNext, MayCheckpoint, begun_anew, with_all_told, with_left}}
 use Rattle.ocfl_night.specs.declared.{plan.Pause.{Pause}, plan.Plan.{Plan}, slicing.Made.{Made}, slicing.SliceEnd.{SliceEnd}, stop.Stop.{Stop}}
 use Rattle.ocfl_night.specs.declared.plan.Pause.TheVariants as pause
@@ -338,17 +338,3 @@ little_on {cycle = cycle} {c = c} {k} so at left crash = record {
   heard = so.heard;
   one = so.one;
 }
-
--- ---- what is opened again
-
--- not what the checkpoint that is there has taken
-pub not_again : (cycle : ℕ) (taken qs : List Place) (c : Content) (k : Checkpoint) → IfThere c (HasDone cycle taken) → IsAt k c → k.phase ≡ Open → cycle_of k ≡ cycle → ReadsBeyond c qs → (p : Place) → IsAmong taken p → IsAmong qs p → ⊥
-not_again cycle taken qs c k done at going same beyond p i j = by (done k at)
-  where
-    by : HasDone cycle taken k → ⊥
-    by (inl less) = omega (arith, less, same)
-    by (inr has) =
-        let there : is_taken (reached k) p ≡ true = has.1.each p i in
-        let not_there : is_taken (begun k.cursor).state p ≡ false = (beyond k at).each p j in
-        let both : true ≡ false = sym there ∙ ap (λ ph. is_taken (reached_in ph k.cursor) p) going ∙ not_there in
-        absurd (cc both)

@@ -1,12 +1,11 @@
 -- Where nights leave the checkpoint, and the next one begins.
-use Rattle.std.proofs.Common.{◌≡◌, ◌∙◌, Bool, Result, Ok, Err, ap, refl, subst, sym}
+use Rattle.std.proofs.Common.{◌≡◌, Result, Ok, Err, ap, refl, subst, sym}
 use Rattle.std.specs.Prelude.{IfOk}
 use Rattle.ocfl_state.specs.{Checkpoint.{Checkpoint}, Content.{Content}}
 use Rattle.ocfl_state.specs.declared.checkpoint_parts.{Phase.{Phase}, Phase.TheVariants.{Open, Closing}}
-use Rattle.ocfl_night.specs.Beginning.{BeginsAt, Position, StandsAt, first, further, goes_on_at, goes_on_in, position}
+use Rattle.ocfl_night.specs.Beginning.{StandsAt, goes_on_at, goes_on_in, position}
 use Rattle.ocfl_night.specs.{Ending.{IsUnkept}, Sound.{IsAt}, Steps.{IsCheckpointPut, IsFinished, begun_anew}}
 use Rattle.ocfl_night.specs.declared.{slicing.Made.{Made}, stop.Stop.{Stop}}
-use Rattle.ocfl_night.proofs.Foreigners.{at_once}
 
 pub put_at : (k : Checkpoint) (old new : Content) → IsCheckpointPut k old new → IsAt k new
 put_at k old new put = record { bytes = put.bytes; is = ap (λ (x : Content). x.checkpoint) put.put; text = put.text }
@@ -22,10 +21,3 @@ open_stands k c going at = (k, (at, subst (λ (p : Phase). position k ≡ goes_o
 
 pub closed_stands : (k : Checkpoint) (old new : Content) → k.phase ≡ Closing → IsFinished k old new → StandsAt new (goes_on_at k)
 closed_stands k old new ends done = (begun_anew k, (put_at (begun_anew k) done.between new done.next, subst (λ (p : Phase). position (begun_anew k) ≡ goes_on_in p k) (sym ends) refl))
-
--- the next night begins there
-pub begins_there : (create : Bool) (d e : Content) (start : Checkpoint) (p : Position) → BeginsAt create e start → e.checkpoint ≡ d.checkpoint → StandsAt d p → position start ≡ p
-begins_there create d e start p (first is at) same stands = let there = stands.1.0.is in let none = is.none in absurd (cc (none, same, there))
-begins_there create d e start p (further k found at) same stands =
-    let there : IsAt stands.0 e = record { bytes = stands.1.0.bytes; is = same ∙ stands.1.0.is; text = stands.1.0.text } in
-    at ∙ ap position (at_once found there) ∙ stands.1.1

@@ -1,31 +1,26 @@
 mod Moments
 mod Looks
-mod Chains
+pub mod Chains
 mod Sound
-mod Heard
+pub mod Heard
 mod KeptWalks
-mod AnyNights
 mod TakingUp
-mod Foreigners
+pub mod Foreigners
 mod Pieces
 mod Extending
-mod Clocks
-mod Runs
+pub mod Runs
 mod Compared
 mod Lost
-mod Around
 mod Branches
 mod Stopped
-mod Missing
 mod Newest
 mod Whole
 mod Beginnings
 mod Flushed
-mod Refusals
 mod Reasons
 mod Lasting
 mod RunsRead
-mod Reading
-mod Halting
+pub mod Reading
+pub mod Halting
 mod Asking
 mod Again

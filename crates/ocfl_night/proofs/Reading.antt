@@ -1,6 +1,6 @@
 -- What slices, runs and nights read, one after the other.
-use Rattle.std.proofs.Common.{◌≡◌, ◌≢◌, ◌⊎◌, ⊎_elim, inl, inr, ℕ, List, [], ◌∷◌, ◌++◌, refl, sym, ◌∙◌, ap, subst, true, false, Bool, Some, None, Option, Result, Ok, Err, arith, append-nil, filter, map, not}
-use Rattle.std.specs.Prelude.{cond, flat_map, IfOk, ◌||◌}
+use Rattle.std.proofs.Common.{ℕ, ◌≡◌, ◌≢◌, ◌⊎◌, ⊎_elim, inl, inr, List, [], ◌∷◌, ◌++◌, refl, sym, ◌∙◌, ap, subst, true, false, Bool, Some, None, Option, Result, Ok, Err, arith, append-nil, filter, map, not}
+use Rattle.std.specs.Prelude.{cond, IfOk, ◌||◌}
 use Rattle.std.specs.Ordering.{is_lt}
 use Rattle.std.specs.declared.cmp.Ordering.{Ordering}
 use Rattle.std.specs.declared.cmp.Ordering.TheVariants.{Less, Equal, Greater}
@@ -30,7 +30,7 @@ use Rattle.ocfl_state.specs.declared.checkpoint_parts.ReportMark.{ReportMark}
 use Rattle.ocfl_night.specs.Beginning.{BeginsAt, Position, StandsAt, first, further, goes_on_at, goes_on_in}
 use Rattle.ocfl_night.specs.{Done.{Done}, Leaving.{done_by, remedy_at}, Looks.{Counts, opened_since}}
 use Rattle.ocfl_night.specs.Ending.{IsAway, IsMadeBy, IsSlice, IsUnkept, KeepsTo, cycle_ended, ended_by, halt_after, place_or_pause, slice_end}
-use Rattle.ocfl_night.specs.Reading.{AreBeyond, AreDeclarations, AreOfOneCycle, AreReadOnce, EndsInOrder, HasRead, HaveRead, IsRead, IsReadBy, IsReadTo, IsReading, Reading, ReadsBeyond, StaysTaken, came_to, content_since, reached, reached_in}
+use Rattle.ocfl_night.specs.Reading.{AreBeyond, AreDeclarations, AreReadOnce, EndsInOrder, HasRead, HaveRead, IsRead, IsReadBy, IsReadTo, ReadsBeyond, StaysTaken, came_to, content_since, reached, reached_in}
 use Rattle.ocfl_night.specs.{Runs.{StopsOpen, Turn, after_end, after_made, turn_of}, Sound.{IsAt}}
 use Rattle.ocfl_night.specs.Steps.{IsNext, IsNotBegun, with_all_told}
 use Rattle.ocfl_night.specs.declared.{plan.Halt.{Halt}, plan.Pause.{Pause}, slicing.Made.{Made}, slicing.SliceEnd.{SliceEnd}, stop.Stop.{Stop}, tally.Remedy.{Remedy}}
@@ -410,50 +410,3 @@ unbegun_order (halt.Troubled why) un order = order
 pub in_order : (P : Halt → Type 0) (r : Result Halt Stop) {end : Halt} → end ≡ ended_by r → IfOk r (λ h. EndsInOrder h → P h) → EndsInOrder end → P end
 in_order P (Ok h) is then order = subst P (sym is) (then (subst EndsInOrder is order))
 in_order P (Err why) is then order = absurd (subst EndsInOrder is order)
-
--- ---- several nights
-
--- one that does not end the cycle
-came_on : (end : Halt) (c : Cursor) → ((cycle : ℕ) → end ≢ halt.CycleEnded cycle) → came_to end c ≡ (begun c).state
-came_on (halt.CycleEnded cycle) c other = absurd (other cycle refl)
-came_on halt.TimeUp c other = refl
-came_on halt.Spent c other = refl
-came_on halt.Asked c other = refl
-came_on (halt.Stopped why) c other = refl
-came_on halt.RootChanged c other = refl
-came_on (halt.Refused why) c other = refl
-came_on (halt.Troubled why) c other = refl
-
--- of two such lists of places the second comes after the first
-pub read_on : {there next : State} {ps qs : List Place} → there ≡ next → AreReadOnce there ps → AreBeyond next qs → IsAscending place_cmp qs → IsAscending place_cmp (ps ++ qs)
-read_on {there} {next} {ps} {qs} same one after up =
-    ascends_append place_cmp ps qs one.once up (λ p q i j. taken_below there p q (one.taken.each p i) (subst (λ (s : State). is_taken s q ≡ false) (sym same) (after.each q j)))
-
-abbrev all_opened : List Reading → List Place
-all_opened readings = flat_map (λ (x : Reading). x.opened) readings
-
-module _ (r q : Reading) (are : IsReading r) (next : q.old.checkpoint ≡ r.new.checkpoint) (other : (cycle : ℕ) → r.end ≢ halt.CycleEnded cycle) where
-  -- the next one begins with its checkpoint
-  left_to : IsAt are.read.last q.old
-  left_to = record { bytes = are.read.at.bytes; is = next ∙ are.read.at.is; text = are.read.at.text }
-
-  came : came_to r.end are.read.last.cursor ≡ (begun are.read.last.cursor).state
-  came = came_on r.end are.read.last.cursor other
-
--- what is opened from a night on comes after the checkpoint with which it begins
-later_beyond : (r : Reading) (readings : List Reading) → AreOfOneCycle (r ∷ readings) → (k : Checkpoint) → IsAt k r.old → AreBeyond (begun k.cursor).state (all_opened (r ∷ readings))
-later_beyond r [] are k here = beyond_by (append-nil r.opened) (are.beyond k here)
-later_beyond r (q ∷ readings) are k here =
-    let rest = later_beyond q readings are.3 are.0.read.last (left_to r q are.0 are.1 are.2) in
-    beyond_both (are.0.beyond k here) (beyond_from (are.0.read.stays k here) (subst (λ (s : State). AreBeyond s (all_opened (q ∷ readings))) (sym (came r q are.0 are.1 are.2)) rest))
-
-pub read_once : (readings : List Reading) → AreOfOneCycle readings → IsAscending place_cmp (flat_map (λ (x : Reading). x.opened) readings)
-read_once [] are = tt
-read_once (r ∷ []) are = subst (IsAscending place_cmp) (sym (append-nil r.opened)) (are.read.once are.unfailing).once
-read_once (r ∷ q ∷ readings) are =
-    read_on (came r q are.0 are.1 are.2) (are.0.read.once are.0.unfailing) (later_beyond q readings are.3 are.0.read.last (left_to r q are.0 are.1 are.2)) (read_once (q ∷ readings) are.3)
-
--- two of them
-pub two_read : {s1 t1 s2 t2 : Store} {old mid new : Content} {one two : Halt} {ps qs : List Place} → IsRead s1 t1 one old mid ps → ReadsBeyond mid qs → IsRead s2 t2 two mid new qs → ((cycle : ℕ) → one ≢ halt.CycleEnded cycle) → t1.failures ≡ s1.failures → t2.failures ≡ s2.failures
-    → IsAscending place_cmp (ps ++ qs)
-two_read {one = one} read beyond then other well1 well2 = read_on (came_on one read.last.cursor other) (read.once well1) (beyond read.last read.at) (then.once well2).once

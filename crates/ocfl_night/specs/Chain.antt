@@ -1,10 +1,9 @@
 -- Chains of runs: what nights write of one cycle, each run from the cursor that the one before it
 -- answered, also around branches that are left out; and what a closed report is.
-use Rattle.std.specs.Prelude.{◌≡◌, ◌≢◌, ◌⊎◌, ℕ, ◌+◌, List, [], ◌∷◌, ◌++◌, true, false, not, Option, Some, None, filter, flat_map, ⊤}
+use Rattle.std.specs.Prelude.{⊤, ℕ, ◌≡◌, ◌≢◌, ◌⊎◌, ◌+◌, List, [], ◌∷◌, ◌++◌, true, false, Option, Some, None, flat_map}
 use Rattle.std.specs.{List.{AllByRecursion}, Ordering.{is_lt}}
-use Rattle.ocfl_tree.specs.{Place.{Text, Place, begins, place_cmp}, Ascending.{IsAmong}, StorageRoot.{StorageRoot}}
-use Rattle.ocfl_report.specs.Line.{Item}
-use Rattle.ocfl_rules.specs.{Audit.{after}, Parts.{Part, within}, Trail.{unread_of}}
+use Rattle.ocfl_tree.specs.{Place.{Text, Place, place_cmp}, Ascending.{IsAmong}, StorageRoot.{StorageRoot}}
+use Rattle.ocfl_rules.specs.{Audit.{after}, Parts.{Part}, Trail.{unread_of}}
 use Rattle.ocfl_cursor.specs.Cursor.{Cursor}
 use Rattle.ocfl_scrub.specs.{Running.{place_in}, Joining.{PartRun, Ran}, Starting.{due_within}}
 use Rattle.ocfl_scrub.specs.declared.running.RunStatus.TheVariants as status
@@ -80,32 +79,11 @@ LedToEnd part c runs left d = LedBy EndAt part c runs left d
 abbrev pub NoneBefore : StorageRoot → Part → Option Place → Place → Type 0
 NoneBefore root part from branch = (p : Place) → IsAmong (due_within root part from) p → is_lt (place_cmp p branch) ≡ false
 
--- So between where each of some branches was left out and that branch there was no item: what was
--- lost with it is its own.
-abbrev pub AreNext : StorageRoot → Part → List Left → Type 0
-AreNext root part [] = ⊤
-AreNext root part (l ∷ left) = NoneBefore root part l.after l.place × AreNext root (past_branch part l) left
-
--- the same, each over the storage root of one of these looks
+-- So between where each of some branches was left out and that branch there was no item, over the
+-- storage root of one of these looks: what was lost with it is its own.
 abbrev pub AreNextIn : Option Known → Part → List Left → Type 0
 AreNextIn known part [] = ⊤
 AreNextIn known part (l ∷ left) = ((root : StorageRoot) × (IsRootOf known root × NoneBefore root part l.after l.place)) × AreNextIn known (past_branch part l) left
-
--- a place is in one of some branches
-abbrev pub IsInBranch : List Left → Place → Type 0
-IsInBranch [] p = ⊥
-IsInBranch (l ∷ left) p = (begins l.place p ≡ true) ⊎ IsInBranch left p
-
--- items that are not above a place
-abbrev pub up_to : Option Place → List Item → List Item
-up_to None items = []
-up_to (Some p) items = filter (λ i. not (is_lt (place_cmp p i.place))) items
-
--- Of some items those of a part, above a place, without what was left out: those up to where the
--- first branch was left out, and from there on those that come after the branch.
-abbrev pub around : Part → Option Place → List Left → List Item → List Item
-around part from [] items = after (within part items) from
-around part from (l ∷ left) items = up_to l.after (after (within part items) from) ++ around (past_branch part l) l.after left items
 
 -- ---- closed reports
 

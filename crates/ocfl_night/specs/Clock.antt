@@ -1,5 +1,5 @@
 -- What a clock was asked, what it answered, and what it heard.
-use Rattle.std.specs.Prelude.{◌≡◌, ℕ, ◌+◌, ◌≤◌, List, [], ◌∷◌, ◌++◌, Bool, true, Option, Some, None, nat_lt, if◌then◌else◌, ⊤}
+use Rattle.std.specs.Prelude.{ℕ, Bool, true, Option, Some, None, nat_lt}
 use Rattle.ocfl_night.specs.declared.slicing.Made.{Made}
 
 -- one thing that happened to a clock: it answered whether the night is asked to stop, or the time, or
@@ -13,26 +13,3 @@ pub data Event : Type 0 where
 abbrev pub is_before : ℕ → Option ℕ → Bool
 is_before now None = true
 is_before now (Some end) = nat_lt now end
-
--- the times that it answered
-abbrev pub times : List Event → List ℕ
-times [] = []
-times (Asked stops ∷ events) = times events
-times (Read now ∷ events) = now ∷ times events
-times (Heard made ∷ events) = times events
-
--- how many of some times are before an end
-abbrev pub times_before : ℕ → List ℕ → ℕ
-times_before end [] = 0
-times_before end (t ∷ times) = (if nat_lt t end then 1 else 0) + times_before end times
-
--- no more runs than the clock answered that the end had not come; any number where there is no end
-abbrev pub MayBegin : Option ℕ → List ℕ → ℕ → Type 0
-MayBegin None times runs = ⊤
-MayBegin (Some end) times runs = runs ≤ times_before end times
-
--- so many runs, by what the clock answered meanwhile
-pub record BeginsInTime (end : Option ℕ) (old new : List Event) (runs : ℕ) : Type 0 where
-  pub events : List Event
-  pub are : new ≡ old ++ events
-  pub few : MayBegin end (times events) runs

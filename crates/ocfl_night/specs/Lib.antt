@@ -5,7 +5,6 @@ pub mod Chain
 pub mod Sound
 pub mod Steps
 pub mod Promises
-pub mod Nights
 pub mod Clock
 pub mod Status
 pub mod Leaving

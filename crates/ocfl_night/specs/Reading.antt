@@ -1,5 +1,5 @@
 -- Which content files the runs of nights open, and what of a cycle has been taken.
-use Rattle.std.specs.Prelude.{◌≡◌, ◌≢◌, ℕ, List, [], ◌∷◌, true, false, Option, Some, None, Result, Ok, Err, ⊤}
+use Rattle.std.specs.Prelude.{⊤, ◌≡◌, List, true, false, Option, Some, None, Result, Ok, Err}
 use Rattle.ocfl_tree.specs.{Place.{Place, place_cmp}, Ascending.{IsAmong, IsAscending}}
 use Rattle.ocfl_tree.specs.{StorageRoot.{StorageRoot}, Store.{Store}}
 use Rattle.ocfl_rules.specs.Trail.{content_trail}
@@ -108,28 +108,3 @@ pub record IsRead (s t : Store) (end : Halt) (old new : Content) (ps : List Plac
   pub at : IsAt last new
   pub stays : IfThere old (λ k. StaysTaken (begun k.cursor).state (came_to end last.cursor))
   pub once : t.failures ≡ s.failures → AreReadOnce (came_to end last.cursor) ps
-
--- ---- what several nights read
-
--- a night over a folder that showed this before and after it: how it ended, and which content files it
--- opened
-pub record Reading : Type 0 where
-  pub old : Content
-  pub new : Content
-  pub before : Store
-  pub after : Store
-  pub end : Halt
-  pub opened : List Place
-
--- one that ended in order, and in which no failure was counted
-pub record IsReading (r : Reading) : Type 0 where
-  pub beyond : ReadsBeyond r.old r.opened
-  pub read : IsRead r.before r.after r.end r.old r.new r.opened
-  pub unfailing : r.after.failures ≡ r.before.failures
-
--- one after the other, in one cycle: each begins with the checkpoint that the one before it left, and
--- none but the last ended the cycle
-abbrev pub AreOfOneCycle : List Reading → Type 0
-AreOfOneCycle [] = ⊤
-AreOfOneCycle (r ∷ []) = IsReading r
-AreOfOneCycle (r ∷ q ∷ readings) = IsReading r × (q.old.checkpoint ≡ r.new.checkpoint) × ((cycle : ℕ) → r.end ≢ halt.CycleEnded cycle) × AreOfOneCycle (q ∷ readings)

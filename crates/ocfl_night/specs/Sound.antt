@@ -1,14 +1,15 @@
 -- What nights keep true of a state folder's bytes, at every moment.
-use Rattle.std.specs.Prelude.{◌≡◌, ◌≢◌, ◌⊎◌, ℕ, ◌+◌, ◌≤◌, List, [], ◌∷◌, ◌++◌, length, take, true, IsTrue, Some, MatchOption, flat_map}
+use Rattle.std.specs.Prelude.{ℕ, ◌≡◌, ◌≢◌, ◌⊎◌, ◌+◌, ◌≤◌, List, [], ◌∷◌, ◌++◌, length, take, true, IsTrue, Some, MatchOption, flat_map}
 use Rattle.std.specs.Io.KnownBytes.{Appends}
 use Rattle.ocfl_tree.specs.Place.{Text}
 use Rattle.ocfl_cursor.specs.Cursor.{ended}
 use Rattle.ocfl_scrub.specs.Running.{begun}
 use Rattle.ocfl_state.specs.{Checkpoint.{Checkpoint, IsCheckpointText}, Content.{Content, Closed, is_closed}}
-use Rattle.ocfl_state.specs.{Crash.{Outcomes, Begins, Only}, Pieces.{summary_of}}
+use Rattle.ocfl_state.specs.{Crash.{Outcomes, Begins, LeavesOnly, Only}, Pieces.{summary_of}}
 use Rattle.ocfl_state.specs.declared.folder.StateFolder as state
 use Rattle.ocfl_state.specs.declared.checkpoint_parts.{Phase.TheVariants.{Open, Closing}}
-use Rattle.ocfl_night.specs.{Looks.{IfGiven, Rounds}, Output.{HasTaken, Said}, Chain.{EndAt, HasClosed, HasRuns, LeadTo, joined}}
+use Rattle.ocfl_rules.specs.Parts.{Part}
+use Rattle.ocfl_night.specs.{Looks.{IfGiven, Look, Rounds, WithLook}, Output.{HasTaken, Said}, Chain.{EndAt, HasClosed, HasRuns, LeadTo, joined}}
 
 -- the closed reports, joined
 abbrev pub closed_text : List Closed → Text
@@ -162,3 +163,10 @@ pub record IsOneMore (rounds : Rounds) (cycle : ℕ) (old new : Content) : Type 
   pub now : HasClosed rounds (cycle + 1) new.closed
   pub there : IsTrue (is_closed new.closed cycle)
   pub before : ((d : Closed) × (new.closed ≡ old.closed ++ d ∷ [])) ⊎ ((new.closed ≡ old.closed) × IsShut cycle old)
+
+-- What a night promises: if each crash before it leaves a sound content, so does each since then, and
+-- more than was told is told only if the output has committed it. That holds whatever looks the runs are
+-- within, if that of this night is within one of them.
+abbrev pub IsSafeNight : {F : Type 0} → state.Ghosts F → Part → Look → F → F → Said → Said → Type 0
+IsSafeNight S part look began ended old new =
+    WithLook part look (λ rounds. (kept : IsKept S rounds began) → LeavesOnly S.moment S.left_since began ended (IsHeardSince rounds (S.may_leave began) kept old new))

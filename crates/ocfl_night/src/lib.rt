@@ -1,7 +1,7 @@
 //! A night as one call, and its steps: looking at the root, taking up what the last night left,
 //! ended or crashed, one run and another look at the root, saying what was not said, and closing
 //! the report of a cycle that has ended. What nights keep true of a state folder whenever they
-//! crash, and what follows of any nights.
+//! crash.
 //!
 //! # What is proved
 //!
@@ -11,12 +11,8 @@
 //! - If each crash before it leaves a sound content, so does a crash at any moment of it. At no
 //!   moment does a checkpoint count more as said than before and what the output has committed
 //!   since.
-//! - All that it keeps was written by runs over the root that its store tells. Of any nights over one
-//!   root, from an empty folder on, each ended or crashed at any moment: a closed report that is
-//!   called whole is the audit, in which only files are called unreadable that one of the nights
-//!   could not read; any other is the audit around branches that were left out, if all was read.
-//!   Between two nights closed reports may be taken away, but not that of a checkpoint's cycle
-//!   while the checkpoint says that it is to be closed.
+//! - All that it keeps was written by runs over the root that its store tells. What follows of any
+//!   nights, each ended or crashed at any moment, are the laws of `ocfl_night_laws`.
 //! - At its end all of the report is said, also what earlier nights left, unless its end is
 //!   `Refused` or `Troubled`.
 //! - A folder whose checkpoint is of another root or part stays as it was, whenever a crash comes.
@@ -68,7 +64,6 @@
 
 mod checkpoint;
 mod closing;
-mod laws;
 mod leaving;
 mod looking;
 mod nights;
@@ -79,37 +74,24 @@ mod owning;
 mod pace;
 mod plan;
 mod refusal;
-mod refusal_laws;
 mod reports;
 mod saying;
 mod site;
 mod slicing;
 mod status;
 mod stop;
-mod stop_laws;
 mod tally;
 
 pub use checkpoint::{look, put_checkpoint};
 pub use closing::finish;
-pub use laws::{
-    a_whole_report_is_the_audit, each_other_report_is_the_audit_around_what_was_left_out,
-    each_whole_report_is_the_audit, nights_are_sound, nothing_is_read_twice,
-    runs_begin_before_the_end, the_next_night_goes_on, two_nights,
-    what_is_left_out_is_missing_alone, what_is_opened_again_is_one_runs, what_was_told_was_taken,
-    where_nothing_failed_all_was_read,
-};
 pub use leaving::leave_out;
 pub use nights::night;
 pub use opening::{Opened, open};
 pub use output::{Flushing, Output, OutputFailed};
 pub use plan::{Clock, Halt, NightEnd, Plan};
 pub use refusal::{NotOpened, Refusal};
-pub use refusal_laws::{
-    each_refusal_of_a_folder_is_for_its_reason, each_refusal_of_a_root_is_for_its_reason,
-};
 pub use saying::speak;
 pub use site::Site;
 pub use slicing::{Made, SliceEnd, slice};
 pub use status::{status_found, status_of};
 pub use stop::Stop;
-pub use stop_laws::{a_night_stops_where_nothing_helps, a_night_stops_where_the_store_failed};

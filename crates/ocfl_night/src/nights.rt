@@ -20,7 +20,7 @@ ghost use Rattle.ocfl_night.specs.Asking.{HasLooked, IsDeclaredBy, IsMetBy, Look
 ghost use Rattle.ocfl_night.specs.Halting.{AreFailed};
 ghost use Rattle.ocfl_night.specs.Runs.{AreMade, EndsBy, IsAllowed, IsEndedBy, IsNight, MayHaveLeft, StopsOpen, after_made, turn_of};
 ghost use Rattle.ocfl_night.specs.Ending.{cycle_ended, cycle_of, ended_by, halt_after, halt_of, place_or_pause, unbegun_by};
-ghost use Rattle.ocfl_night.specs.{Pace.{budget_at, files_at}, Nights.{IsSafeNight}};
+ghost use Rattle.ocfl_night.specs.{Pace.{budget_at, files_at}, Sound.{IsSafeNight}};
 ghost use Rattle.ocfl_night.specs.Stopping.{ForNight, ForPut, ForRuns, IsGiven, IsPassedBy, IsReason, IsUnlooked, OpensFor, StopsFor, TellsKept, course};
 ghost use Rattle.ocfl_night.specs.declared.stop.Stop.{Stop as ModelStop};
 ghost use Rattle.ocfl_night.specs.declared.refusal.NotOpened.TheVariants.{Refused};

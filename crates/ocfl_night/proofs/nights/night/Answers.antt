@@ -4,7 +4,7 @@ use Rattle.ocfl_tree.specs.{Place.{Place, Text}, StorageRoot.{StorageRoot}}
 use Rattle.ocfl_item.specs.Judging.{HasShortFiles}
 use Rattle.ocfl_rules.specs.Parts.{Part}
 use Rattle.ocfl_state.specs.Content.{Closed, Content}
-use Rattle.ocfl_night.specs.{Again.{IsLittleAgain}, Done.{Done, done_of}, Leaving.{has_end}, Nights.{IsSafeNight}, Site.{IsOfStore, part_at}}
+use Rattle.ocfl_night.specs.{Again.{IsLittleAgain}, Done.{Done, done_of}, Leaving.{has_end}, Sound.{IsSafeNight}, Site.{IsOfStore, part_at}}
 use Rattle.ocfl_night.specs.Looks.{Counts, Known, Rounds, look_between, of_any}
 use Rattle.ocfl_scrub.specs.Starting.{part_of}
 use Rattle.ocfl_night.specs.{Beginning.{Position, StandsAt}, Output.{HasFailed}, Ending.{cycle_of, ended_by}, Sound.{IsAt, IsKept, IsOneMore, IsReady}, Steps.{IsNotBegun}}

@@ -1,5 +1,0 @@
-use Rattle.ocfl_night.proofs.Clocks.{begins_in_time}
-use Rattle.ocfl_night.proofs.laws.runs_begin_before_the_end.Goals as goal
-
-pub returns : goal.returns
-returns c = begins_in_time

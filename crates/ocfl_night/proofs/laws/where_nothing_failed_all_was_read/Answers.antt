@@ -1,5 +1,0 @@
-use Rattle.ocfl_night.proofs.AnyNights.{all_read}
-use Rattle.ocfl_night.proofs.laws.where_nothing_failed_all_was_read.Goals as goal
-
-pub returns : goal.returns
-returns c = all_read

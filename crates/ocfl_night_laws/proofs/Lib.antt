@@ -1,0 +1,7 @@
+mod AnyNights
+mod Around
+mod Clocks
+mod Halts
+mod Missing
+mod Readings
+mod Refusals

@@ -4,7 +4,7 @@ use ocfl_cursor::Refused;
 use ocfl_item::Fault;
 use ocfl_kept::names::Names;
 use ocfl_messages::{RefusalMessage, StopMessage, refusal_text, stop_text};
-use ocfl_night::{Halt, Refusal, Stop};
+use ocfl_terms::{Halt, Refusal, Stop};
 use ocfl_state::FolderTrouble;
 use std::alloc::{AllocError, Global};
 

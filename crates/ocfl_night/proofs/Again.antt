@@ -14,15 +14,17 @@ use Rattle.ocfl_state.specs.declared.folder.StateFolder as state
 use Rattle.ocfl_state.specs.declared.checkpoint_parts.{Phase.TheVariants.{Open, Closing}, ReportMark.{ReportMark}}
 use Rattle.ocfl_night.specs.Again.{AreFew, AreLegs, GoesOn, HasDone, IsLittleAgain, IsMetAfter, IsOpened, Leg, heard_in, made_by, took_by}
 use Rattle.ocfl_night.specs.Asking.{AskedFrom, GaveAll, IsMetBy, MayAskFrom, declaring}
-use Rattle.ocfl_night.specs.{Clock.{Event, Asked, Read, Heard}, Done.{Done}, Runs.{IsAllowed, Run, StopsOpen, Turn, after_end, after_made, events_of, turn_of}}
+use Rattle.ocfl_terms.specs.Clock.{Event, Asked, Read, Heard}
+use Rattle.ocfl_night.specs.{Done.{Done}, Runs.{IsAllowed, Run, StopsOpen, Turn, after_end, after_made, events_of, turn_of}}
 use Rattle.ocfl_night.specs.Ending.{IsAway, IsMadeBy, IsNextBy, IsSlice, IsUnkept, KeepsTo, cycle_in, cycle_of, place_or_pause, slice_end}
 use Rattle.ocfl_night.specs.{Looks.{Counts, Rounds}, Promises.{IfThere}, Reading.{AreBeyond, AreTaken, StaysTaken, content_since, reached, reached_in}}
 use Rattle.ocfl_night.specs.{Sound.{IsAt, IsReady, Stands}, Steps.{IsNext, MayCheckpoint, begun_anew, with_all_told, with_left}}
-use Rattle.ocfl_night.specs.declared.{plan.Pause.{Pause}, plan.Plan.{Plan}, slicing.Made.{Made}, slicing.SliceEnd.{SliceEnd}, stop.Stop.{Stop}}
-use Rattle.ocfl_night.specs.declared.plan.Pause.TheVariants as pause
+use Rattle.ocfl_night.specs.declared.pause.Pause.{Pause}
+use Rattle.ocfl_terms.specs.{declared.plan.Plan.{Plan}, declared.made.Made.{Made}, declared.made.SliceEnd.{SliceEnd}, declared.stop.Stop.{Stop}}
+use Rattle.ocfl_night.specs.declared.pause.Pause.TheVariants as pause
 use Rattle.ocfl_night.specs.{Leaving.{done_by, remedy_at}, declared.tally.Remedy.{Remedy}}
 use Rattle.ocfl_night.specs.declared.tally.Remedy.TheVariants as remedy
-use Rattle.ocfl_night.specs.declared.slicing.SliceEnd.TheVariants as slice
+use Rattle.ocfl_terms.specs.declared.made.SliceEnd.TheVariants as slice
 use Rattle.ocfl_tree.proofs.Stores.{among_either}
 use Rattle.ocfl_rules.proofs.BelowLaws.{ascends_append}
 use Rattle.ocfl_scrub.proofs.Lists.{ascends_left}

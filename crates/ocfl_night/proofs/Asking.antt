@@ -18,9 +18,10 @@ use Rattle.ocfl_scrub.specs.declared.stop.ReportStop.TheVariants as report
 use Rattle.ocfl_state.specs.Checkpoint.{Checkpoint}
 use Rattle.ocfl_night.specs.Asking.{AskedFrom, GaveAll, IsMetBy, IsRunAndLook, IsUntroubled, LooksOnly, MayAskFrom, OrTroubled}
 use Rattle.ocfl_night.specs.{Chain.{part_after}, Ending.{IsAway, IsMadeBy, IsUnkept, place_or_pause, slice_end}}
-use Rattle.ocfl_night.specs.declared.{looking.NotKept.{NotKept}, slicing.Made.{Made}, slicing.SliceEnd.{SliceEnd}, stop.Stop.{Stop}}
+use Rattle.ocfl_night.specs.declared.looking.NotKept.{NotKept}
+use Rattle.ocfl_terms.specs.{declared.made.Made.{Made}, declared.made.SliceEnd.{SliceEnd}, declared.stop.Stop.{Stop}}
 use Rattle.ocfl_night.specs.declared.looking.NotKept.TheVariants as unkept
-use Rattle.ocfl_night.specs.declared.slicing.SliceEnd.TheVariants as slice
+use Rattle.ocfl_terms.specs.declared.made.SliceEnd.TheVariants as slice
 use Rattle.ocfl_night.proofs.Looks.{leaf_there}
 
 -- ---- looks

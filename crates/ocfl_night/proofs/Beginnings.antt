@@ -16,10 +16,12 @@ use Rattle.ocfl_night.specs.Runs.{StopsOpen, Turn, after_end, after_made, turn_o
 use Rattle.ocfl_night.specs.Sound.{IsAt, IsOneMore, IsShut, Stands}
 use Rattle.ocfl_identity.specs.declared.identity.Identity.{Identity}
 use Rattle.ocfl_night.specs.{Site.{with_root}, Steps.{IsNext, IsTakenUp, fitted}, Stopping.{IsFirst, IsToOpen}}
-use Rattle.ocfl_night.specs.declared.{opening.Opened.{Opened}, refusal.NotOpened.{NotOpened}, refusal.Refusal.{Refusal}, site.Site.{Site}, stop.Stop.{Stop}}
-use Rattle.ocfl_night.specs.declared.refusal.NotOpened.TheVariants as unopened
-use Rattle.ocfl_night.specs.declared.{plan.Halt.{Halt}, plan.Pause.{Pause}, slicing.Made.{Made}, tally.Remedy.{Remedy}}
-use Rattle.ocfl_night.specs.declared.plan.Halt.TheVariants as halt
+use Rattle.ocfl_night.specs.{declared.opening.Opened.{Opened}, declared.not_opened.NotOpened.{NotOpened}, declared.site.Site.{Site}}
+use Rattle.ocfl_terms.specs.{declared.refusal.Refusal.{Refusal}, declared.stop.Stop.{Stop}}
+use Rattle.ocfl_night.specs.declared.not_opened.NotOpened.TheVariants as unopened
+use Rattle.ocfl_terms.specs.{declared.plan.Halt.{Halt}, declared.made.Made.{Made}}
+use Rattle.ocfl_night.specs.{declared.pause.Pause.{Pause}, declared.tally.Remedy.{Remedy}}
+use Rattle.ocfl_terms.specs.declared.plan.Halt.TheVariants as halt
 use Rattle.ocfl_night.specs.declared.tally.Remedy.TheVariants as remedy
 use Rattle.ocfl_night.proofs.{Chains.{cycle_after, not_there}, Foreigners.{at_once, first_own}, Runs.{stops_open}}
 

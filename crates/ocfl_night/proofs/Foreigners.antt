@@ -10,10 +10,13 @@ use Rattle.ocfl_state.specs.declared.checkpoint_parts.{ReportMark.{ReportMark}, 
 use Rattle.ocfl_cursor.specs.declared.limits.Limits.{Limits}
 use Rattle.ocfl_scrub.specs.declared.running.RunEnd.{RunEnd}
 use Rattle.ocfl_night.specs.Site.{IsAlike, IsForeign, IsOfSite, IsOfStore, IsOther, IsOtherThan, IsOwn, IsSameRoot, first_checkpoint, with_root}
-use Rattle.ocfl_night.specs.{Steps.{IsTakenUp, fitted}, declared.slicing.Made.{Made}}
+use Rattle.ocfl_night.specs.Steps.{IsTakenUp, fitted}
+use Rattle.ocfl_terms.specs.declared.made.Made.{Made}
 use Rattle.ocfl_night.specs.{Ending.{IsNextBy, IsSlice, unopened_by}, Older.{IfOlder}, Refusing.{IfForeign, IsBarred, IsRefused, another, no_root, older, other_root, undeclared}}
-use Rattle.ocfl_night.specs.declared.refusal.{NotOpened.TheVariants.{Refused}, Refusal.{Refusal}}
-use Rattle.ocfl_night.specs.{Sound.{IsAt}, declared.plan.Plan.{Plan}, declared.site.Site.{Site}}
+use Rattle.ocfl_night.specs.declared.not_opened.NotOpened.TheVariants.{Refused}
+use Rattle.ocfl_terms.specs.declared.refusal.Refusal.{Refusal}
+use Rattle.ocfl_night.specs.{Sound.{IsAt}, declared.site.Site.{Site}}
+use Rattle.ocfl_terms.specs.declared.plan.Plan.{Plan}
 
 -- a folder is at one checkpoint
 pub at_once : {c : Content} {k found : Checkpoint} → IsAt found c → IsAt k c → found ≡ k

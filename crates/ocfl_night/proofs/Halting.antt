@@ -4,15 +4,17 @@ use Rattle.std.proofs.lemmas.List.{append-nil}
 use Rattle.std.specs.Prelude.{IfErr, IfOk, if◌then◌else◌}
 use Rattle.ocfl_tree.specs.{Place.{Place, place_eq}, Store.{Store}}
 use Rattle.ocfl_tree.proofs.Places.{place_eq-Decides}
-use Rattle.ocfl_night.specs.{Clock.{Event, Asked, Read, Heard}, Done.{Done}}
+use Rattle.ocfl_terms.specs.Clock.{Event, Asked, Read, Heard}
+use Rattle.ocfl_night.specs.Done.{Done}
 use Rattle.ocfl_night.specs.Halting.{AreFailed, FailedMore, stopped_at, stops_at, unread_at}
 use Rattle.ocfl_night.specs.{Leaving.{is_at}, Looks.{Counts, failed_at}}
 use Rattle.ocfl_night.specs.Runs.{Run, IsAllowed, events_of}
-use Rattle.ocfl_night.specs.{declared.looking.NotKept.{NotKept}, declared.plan.Pause.{Pause}, declared.plan.Plan.{Plan}, declared.stop.Stop.{Stop}}
-use Rattle.ocfl_night.specs.declared.slicing.{Made.{Made}, SliceEnd.{SliceEnd}}
+use Rattle.ocfl_night.specs.{declared.looking.NotKept.{NotKept}, declared.pause.Pause.{Pause}}
+use Rattle.ocfl_terms.specs.{declared.plan.Plan.{Plan}, declared.stop.Stop.{Stop}}
+use Rattle.ocfl_terms.specs.{declared.made.Made.{Made}, declared.made.SliceEnd.{SliceEnd}}
 use Rattle.ocfl_night.specs.Ending.{IsMadeBy, slice_end}
 use Rattle.ocfl_scrub.specs.declared.running.RunEnd.{RunEnd}
-use Rattle.ocfl_night.specs.declared.plan.Pause.TheVariants as pause
+use Rattle.ocfl_night.specs.declared.pause.Pause.TheVariants as pause
 
 -- ---- the store failed
 

@@ -3,7 +3,8 @@ use Rattle.std.proofs.Common.{◌≡◌, inr, inl, ◌≢◌, refl, ℕ, [], ◌
 use Rattle.std.proofs.{KnownBytes.{Appends-kept, Appends-nil, Appends-trans}, lemmas.List.{append-nil}}
 use Rattle.std.specs.{Result.{IsErr, IsErrAnd, IsOk, OnErr, OnOk}, Io.KnownBytes.{Appends, Keeps}}
 use Rattle.ocfl_tree.specs.Place.{Text}
-use Rattle.ocfl_night.specs.{Looks.{Rounds}, Output.{Grew, Grows, HasCommitted, HasTaken, Said}}
+use Rattle.ocfl_night.specs.Looks.{Rounds}
+use Rattle.ocfl_terms.specs.Output.{Grew, Grows, HasCommitted, HasTaken, Said}
 use Rattle.ocfl_state.specs.{Checkpoint.{Checkpoint}, Content.{Content}}
 use Rattle.ocfl_state.specs.declared.folder.StateFolder as state
 use Rattle.ocfl_state.specs.Crash.{Outcomes, Only, Same, Passes, LeavesOnly}
@@ -12,8 +13,6 @@ use Rattle.ocfl_night.specs.Steps.{MayCheckpoint, IsCheckpointPut, unsaid}
 use Rattle.ocfl_night.proofs.Moments.{OnlyNow, leaves, unchanged, unmoved, leaves_weaker, joined_moments}
 use Rattle.ocfl_night.proofs.Sound.{sound_holds, marked_put, ready_sound, ready_on, put_on}
 
-pub grew_none : (s : Option Text) → Grew s s
-grew_none s = ([], Appends-nil s)
 
 pub grew_on : (s0 s1 s2 : Option Text) → Grew s0 s1 → Grew s1 s2 → Grew s0 s2
 grew_on s0 s1 s2 a b = (a.0 ++ b.0, Appends-trans s0 s1 s2 a.0 b.0 a.1 b.1)

@@ -10,7 +10,7 @@ use Rattle.ocfl_scrub.specs.declared.running.RunEnd.{RunEnd}
 use Rattle.ocfl_state.specs.{Checkpoint.{Checkpoint}, declared.checkpoint_parts.Left.{Left}}
 use Rattle.ocfl_state.specs.declared.checkpoint_parts.ReportMark.{ReportMark}
 use Rattle.ocfl_night.specs.{Chain.{part_after}, Steps.{IsNext, IsWalkAt}}
-use Rattle.ocfl_night.specs.{declared.slicing.Made.{Made}, declared.stop.Stop.{Stop}}
+use Rattle.ocfl_terms.specs.{declared.made.Made.{Made}, declared.stop.Stop.{Stop}}
 
 -- if none is kept, the next run begins one
 pub walk_none : (root : StorageRoot) (part : Part) (k : Checkpoint) (kept : KeptWalk) → kept.met ≡ None → IsWalkAt root part k kept

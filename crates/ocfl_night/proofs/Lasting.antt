@@ -5,7 +5,7 @@ use Rattle.ocfl_state.specs.{Checkpoint.{Checkpoint}, Content.{Content}}
 use Rattle.ocfl_state.specs.declared.checkpoint_parts.{Phase.{Phase}, Phase.TheVariants.{Open, Closing}}
 use Rattle.ocfl_night.specs.Beginning.{StandsAt, goes_on_at, goes_on_in, position}
 use Rattle.ocfl_night.specs.{Ending.{IsUnkept}, Sound.{IsAt}, Steps.{IsCheckpointPut, IsFinished, begun_anew}}
-use Rattle.ocfl_night.specs.declared.{slicing.Made.{Made}, stop.Stop.{Stop}}
+use Rattle.ocfl_terms.specs.{declared.made.Made.{Made}, declared.stop.Stop.{Stop}}
 
 pub put_at : (k : Checkpoint) (old new : Content) → IsCheckpointPut k old new → IsAt k new
 put_at k old new put = record { bytes = put.bytes; is = ap (λ (x : Content). x.checkpoint) put.put; text = put.text }

@@ -16,7 +16,6 @@ mod Stopped
 mod Newest
 mod Whole
 mod Beginnings
-mod Flushed
 mod Reasons
 mod Lasting
 mod RunsRead

@@ -6,8 +6,9 @@ use Rattle.ocfl_state.specs.{Checkpoint.{Checkpoint}, Content.{Content, is_close
 use Rattle.ocfl_night.specs.{Chain.{HasClosed}, Looks.{Rounds}, Sound.{Stands, IsSound}}
 use Rattle.ocfl_state.specs.declared.checkpoint_parts.Phase.TheVariants.{Closing}
 use Rattle.ocfl_night.specs.{Older.{IsBesides, IsOlder, IsToCome, open_cycle}, Refusing.{IsRefused, no_root, in_folder, none, unread, not_own, outdated}}
-use Rattle.ocfl_night.specs.{declared.plan.Plan.{Plan}, declared.site.Site.{Site}}
-use Rattle.ocfl_night.specs.declared.refusal.Refusal.TheVariants.{Older}
+use Rattle.ocfl_terms.specs.declared.plan.Plan.{Plan}
+use Rattle.ocfl_night.specs.declared.site.Site.{Site}
+use Rattle.ocfl_terms.specs.declared.refusal.Refusal.TheVariants.{Older}
 use Rattle.ocfl_night.proofs.{Chains.{next_cycle_begun, not_there}, Sound.{holds_sound, not_shut}}
 
 -- no closed report is of a cycle from that one on

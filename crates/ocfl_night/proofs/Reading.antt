@@ -33,10 +33,11 @@ use Rattle.ocfl_night.specs.Ending.{IsAway, IsMadeBy, IsSlice, IsUnkept, KeepsTo
 use Rattle.ocfl_night.specs.Reading.{AreBeyond, AreDeclarations, AreReadOnce, EndsInOrder, HasRead, HaveRead, IsRead, IsReadBy, IsReadTo, ReadsBeyond, StaysTaken, came_to, content_since, reached, reached_in}
 use Rattle.ocfl_night.specs.{Runs.{StopsOpen, Turn, after_end, after_made, turn_of}, Sound.{IsAt}}
 use Rattle.ocfl_night.specs.Steps.{IsNext, IsNotBegun, with_all_told}
-use Rattle.ocfl_night.specs.declared.{plan.Halt.{Halt}, plan.Pause.{Pause}, slicing.Made.{Made}, slicing.SliceEnd.{SliceEnd}, stop.Stop.{Stop}, tally.Remedy.{Remedy}}
-use Rattle.ocfl_night.specs.declared.plan.Halt.TheVariants as halt
-use Rattle.ocfl_night.specs.declared.plan.Pause.TheVariants as pause
-use Rattle.ocfl_night.specs.declared.slicing.SliceEnd.TheVariants as slice
+use Rattle.ocfl_terms.specs.{declared.plan.Halt.{Halt}, declared.made.Made.{Made}, declared.made.SliceEnd.{SliceEnd}, declared.stop.Stop.{Stop}}
+use Rattle.ocfl_night.specs.{declared.pause.Pause.{Pause}, declared.tally.Remedy.{Remedy}}
+use Rattle.ocfl_terms.specs.declared.plan.Halt.TheVariants as halt
+use Rattle.ocfl_night.specs.declared.pause.Pause.TheVariants as pause
+use Rattle.ocfl_terms.specs.declared.made.SliceEnd.TheVariants as slice
 use Rattle.ocfl_night.specs.declared.tally.Remedy.TheVariants as remedy
 use Rattle.ocfl_night.proofs.{Foreigners.{at_once}, Looks.{leaf_there, since_both, since_is}, Runs.{made_open, stops_open}}
 

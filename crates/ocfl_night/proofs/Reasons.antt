@@ -11,16 +11,19 @@ use Rattle.ocfl_state.specs.declared.checkpoint_parts.ReportMark.{ReportMark}
 use Rattle.ocfl_state.specs.{Pieces.{summary_of}, declared.checkpoint_parts.Left.{Left}}
 use Rattle.ocfl_state.specs.declared.checkpoint_parts.{Phase.{Phase}, Phase.TheVariants.{Open, Closing}}
 use Rattle.ocfl_state.specs.declared.folder.FolderTrouble.TheVariants.{Failed, Full, Taken, Memory}
-use Rattle.ocfl_night.specs.{Beginning.{BeginsAt}, Done.{Done, counted}, Ending.{IsSlice, cycle_in, cycle_of, ended_by, place_or_pause, unbegun_by}, Leaving.{LeadsOn, done_by, end_of, has_end, remedy_at}}
-use Rattle.ocfl_night.specs.{Chain.{past}, Looks.{Rounds}, Output.{HasFailed, Said}, Site.{IsAlike}, Sound.{Stands}, Steps.{IsNext, begun_anew, with_all_told}}
+use Rattle.ocfl_night.specs.{Beginning.{BeginsAt}, Done.{Done}, Ending.{IsSlice, cycle_in, cycle_of, ended_by, place_or_pause, unbegun_by}, Leaving.{LeadsOn, done_by, end_of, has_end, remedy_at}}
+use Rattle.ocfl_terms.specs.Counting.{counted}
+use Rattle.ocfl_night.specs.{Chain.{past}, Looks.{Rounds}, Site.{IsAlike}, Sound.{Stands}, Steps.{IsNext, begun_anew, with_all_told}}
+use Rattle.ocfl_terms.specs.Output.{HasFailed, Said}
 use Rattle.ocfl_scrub.specs.declared.running.RunEnd.{RunEnd}
 use Rattle.ocfl_night.specs.Runs.{StopsOpen, Turn, after_end, after_made, turn_of}
 use Rattle.ocfl_identity.specs.declared.identity.Identity.{Identity}
-use Rattle.ocfl_night.specs.declared.{plan.Halt.{Halt}, plan.Pause.{Pause}, refusal.NotOpened.{NotOpened}, site.Site.{Site}, slicing.Made.{Made}, stop.Stop.{Stop}, tally.Remedy.{Remedy}}
-use Rattle.ocfl_night.specs.declared.refusal.NotOpened.TheVariants as unopened
-use Rattle.ocfl_night.specs.declared.plan.Halt.TheVariants as halt
+use Rattle.ocfl_terms.specs.{declared.plan.Halt.{Halt}, declared.made.Made.{Made}, declared.stop.Stop.{Stop}}
+use Rattle.ocfl_night.specs.{declared.pause.Pause.{Pause}, declared.not_opened.NotOpened.{NotOpened}, declared.site.Site.{Site}, declared.tally.Remedy.{Remedy}}
+use Rattle.ocfl_night.specs.declared.not_opened.NotOpened.TheVariants as unopened
+use Rattle.ocfl_terms.specs.declared.plan.Halt.TheVariants as halt
 use Rattle.ocfl_night.specs.declared.tally.Remedy.TheVariants as remedy
-use Rattle.ocfl_night.specs.declared.stop.Stop.TheVariants.{Folder, TooLong, Unread, Worn, Endless, Unsaid, Overtold, Short, Output}
+use Rattle.ocfl_terms.specs.declared.stop.Stop.TheVariants.{Folder, TooLong, Unread, Worn, Endless, Unsaid, Overtold, Short, Output}
 use Rattle.ocfl_night.specs.Stopping.{Course, ForClose, ForFirst, IsFirst, ForKeep, ForNight, ForOpen, ForPut, ForRuns, ForSay, ForSlice, ForSpeak, IsEndless, IsPassedBy, IsPutFrom, IsPutIn, IsReadStop, IsReason, IsRunBy, IsTooLong, IsWornAfter, OpensFor, StopsFor, course}
 use Rattle.ocfl_night.proofs.{Beginnings.{cycle_next, made_in}, Foreigners.{alike_as, alike_on, alike_self, made_alike, next_alike}, Runs.{stops_open}, Sound.{long}}
 

@@ -7,14 +7,16 @@ use Rattle.ocfl_item.specs.declared.fault.Fault.TheVariants as fault
 use Rattle.ocfl_cursor.specs.declared.limits.Limits.{Limits}
 use Rattle.ocfl_state.specs.{Checkpoint.{Checkpoint}, declared.checkpoint_parts.Phase.{Phase}}
 use Rattle.ocfl_state.specs.declared.checkpoint_parts.Phase.TheVariants.{Open, Closing}
-use Rattle.ocfl_night.specs.{Beginning.{Position, goes_on_at, goes_on_in, position}, Clock.{Event, Asked, Read}, Done.{Done, with_begun, with_made}, Leaving.{MayHaveLeftAt, done_by, remedy_at}, Steps.{begun_anew, with_all_told}}
+use Rattle.ocfl_night.specs.{Beginning.{Position, goes_on_at, goes_on_in, position}, Done.{Done, with_begun, with_made}, Leaving.{MayHaveLeftAt, done_by, remedy_at}, Steps.{begun_anew, with_all_told}}
+use Rattle.ocfl_terms.specs.Clock.{Event, Asked, Read}
 use Rattle.ocfl_night.specs.Ending.{IsSlice, cycle_ended, ended_by, halt_after, halt_of, place_or_pause, slice_end}
 use Rattle.ocfl_night.specs.Runs.{Run, Turn, AreMade, AreRunsOf, EndsBy, IsAllowed, IsEndedBy, IsFailed, IsHalted, IsPaused, IsRunOf, MayHaveLeft, StopsOpen, after_end, after_made, events_of, turn, turn_of}
-use Rattle.ocfl_night.specs.declared.{plan.Halt.{Halt}, plan.Pause.{Pause}, plan.Plan.{Plan}, stop.Stop.{Stop}, tally.Remedy.{Remedy}}
-use Rattle.ocfl_night.specs.declared.slicing.{Made.{Made}, SliceEnd.{SliceEnd}}
-use Rattle.ocfl_night.specs.declared.plan.Halt.TheVariants as halt
-use Rattle.ocfl_night.specs.declared.plan.Pause.TheVariants as pause
-use Rattle.ocfl_night.specs.declared.slicing.SliceEnd.TheVariants as slice
+use Rattle.ocfl_terms.specs.{declared.plan.Halt.{Halt}, declared.plan.Plan.{Plan}, declared.stop.Stop.{Stop}}
+use Rattle.ocfl_night.specs.{declared.pause.Pause.{Pause}, declared.tally.Remedy.{Remedy}}
+use Rattle.ocfl_terms.specs.{declared.made.Made.{Made}, declared.made.SliceEnd.{SliceEnd}}
+use Rattle.ocfl_terms.specs.declared.plan.Halt.TheVariants as halt
+use Rattle.ocfl_night.specs.declared.pause.Pause.TheVariants as pause
+use Rattle.ocfl_terms.specs.declared.made.SliceEnd.TheVariants as slice
 use Rattle.ocfl_night.specs.declared.tally.Remedy.TheVariants as remedy
 
 -- ---- one more run

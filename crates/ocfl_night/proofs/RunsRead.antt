@@ -24,7 +24,7 @@ use Rattle.ocfl_item.specs.Looking.{IsFront}
 use Rattle.ocfl_item.specs.declared.fault.Fault.{Fault}
 use Rattle.ocfl_scrub.specs.declared.stop.ReportStop.TheVariants as report
 use Rattle.ocfl_night.specs.{Again.{AreFew, IsOpened}, Ending.{slice_end}, Reading.{AreReadOnce, StaysTaken}}
-use Rattle.ocfl_night.specs.declared.slicing.SliceEnd.TheVariants as slice
+use Rattle.ocfl_terms.specs.declared.made.SliceEnd.TheVariants as slice
 
 -- ---- lists
 

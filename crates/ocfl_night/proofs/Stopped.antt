@@ -29,8 +29,8 @@ use Rattle.ocfl_state.specs.{Checkpoint.{Checkpoint}, declared.checkpoint_parts.
 use Rattle.ocfl_state.specs.declared.checkpoint_parts.ReportMark.{ReportMark}
 use Rattle.ocfl_night.specs.{Chain.{NoneBefore, part_after}, Ending.{IsAway, IsMadeBy, IsUnkept, place_or_pause, slice_end}}
 use Rattle.ocfl_night.specs.{Looks.{Look}, Promises.{StopsNextOver}, Steps.{IsNext, IsRun}}
-use Rattle.ocfl_night.specs.{declared.slicing.Made.{Made}, declared.slicing.SliceEnd.{SliceEnd}, declared.stop.Stop.{Stop}}
-use Rattle.ocfl_night.specs.declared.slicing.SliceEnd.TheVariants as slice
+use Rattle.ocfl_terms.specs.{declared.made.Made.{Made}, declared.made.SliceEnd.{SliceEnd}, declared.stop.Stop.{Stop}}
+use Rattle.ocfl_terms.specs.declared.made.SliceEnd.TheVariants as slice
 use Rattle.ocfl_night.specs.Leaving.{branch_at, is_of_inventory, last_name, speaks_for_object}
 use Rattle.ocfl_night.proofs.Branches.{last_of}
 

@@ -14,7 +14,8 @@ use Rattle.ocfl_night.specs.{Done.{Done, with_begun, with_made}, Ending.{IsSlice
 use Rattle.ocfl_night.specs.{Promises.{HasCome, IsUncut}, Site.{IsAlike, with_root}, Sound.{IsAt, IsReady}}
 use Rattle.ocfl_night.specs.Steps.{IsComplete, IsFinished, IsOpened, closes_whole, fitted, left_at, what_is_left, with_all_told}
 use Rattle.ocfl_night.specs.Runs.{Run, Turn, after_end, remedied, turn, turn_of}
-use Rattle.ocfl_night.specs.declared.{opening.Opened.{Opened}, plan.Pause.{Pause}, plan.Plan.{Plan}, slicing.Made.{Made}}
+use Rattle.ocfl_night.specs.{declared.opening.Opened.{Opened}, declared.pause.Pause.{Pause}}
+use Rattle.ocfl_terms.specs.{declared.plan.Plan.{Plan}, declared.made.Made.{Made}}
 use Rattle.ocfl_night.specs.declared.tally.Remedy.{Remedy}
 use Rattle.ocfl_night.specs.declared.tally.Remedy.TheVariants as remedy
 use Rattle.ocfl_night.proofs.{Compared.{ready_to_close}, Foreigners.{alike_on, alike_self, at_once, made_alike}}

@@ -7,10 +7,12 @@ use Rattle.ocfl_cursor.specs.Cursor.{State}
 use Rattle.ocfl_state.specs.declared.folder.StateFolder as state
 use Rattle.ocfl_state.specs.{Checkpoint.{Checkpoint}, Content.{Content}, Crash.{LeavesOnly}}
 use Rattle.ocfl_night.specs.Asking.{AskedFrom, AskedLast, GaveAll, HasLooked, IsMetBy, declaring}
-use Rattle.ocfl_night.specs.{Beginning.{BeginsAt}, Clock.{Event, Asked, Read, Heard}, Ending.{cycle_of, place_or_pause}, Promises.{IfReady, IfThere}}
+use Rattle.ocfl_night.specs.{Beginning.{BeginsAt}, Ending.{cycle_of, place_or_pause}, Promises.{IfReady, IfThere}}
+use Rattle.ocfl_terms.specs.Clock.{Event, Asked, Read, Heard}
 use Rattle.ocfl_night.specs.{Reading.{AreTaken, StaysTaken, content_since, reached}, Sound.{IsAt}}
-use Rattle.ocfl_night.specs.declared.{plan.Pause.{Pause}, slicing.Made.{Made}, slicing.SliceEnd.{SliceEnd}}
-use Rattle.ocfl_night.specs.declared.slicing.SliceEnd.TheVariants as slice
+use Rattle.ocfl_night.specs.declared.pause.Pause.{Pause}
+use Rattle.ocfl_terms.specs.{declared.made.Made.{Made}, declared.made.SliceEnd.{SliceEnd}}
+use Rattle.ocfl_terms.specs.declared.made.SliceEnd.TheVariants as slice
 
 -- ---- checkpoints
 

@@ -11,9 +11,10 @@ use Rattle.ocfl_cursor.specs.Cursor.{Cursor}
 use Rattle.ocfl_scrub.specs.{Call.{known_call}, Keeping.{RunsOn}, declared.running.RunEnd.{RunEnd}}
 use Rattle.ocfl_state.specs.Checkpoint.{Checkpoint}
 use Rattle.ocfl_night.specs.{Chain.{part_after}, Ending.{IsMadeBy, IsUnkept}, Looks.{Counts}, Reading.{content_since}}
-use Rattle.ocfl_night.specs.declared.{looking.NotKept.{NotKept}, slicing.Made.{Made}, slicing.SliceEnd.{SliceEnd}}
+use Rattle.ocfl_night.specs.declared.looking.NotKept.{NotKept}
+use Rattle.ocfl_terms.specs.{declared.made.Made.{Made}, declared.made.SliceEnd.{SliceEnd}}
 use Rattle.ocfl_night.specs.declared.looking.NotKept.TheVariants as unkept
-use Rattle.ocfl_night.specs.declared.slicing.SliceEnd.TheVariants as slice
+use Rattle.ocfl_terms.specs.declared.made.SliceEnd.TheVariants as slice
 
 -- ---- the files that declare the root
 

@@ -1,7 +1,8 @@
 -- What a night has done so far.
-use Rattle.std.specs.Prelude.{ℕ, ◌+◌, ◌^◌, ◌-◌, List, [], Option, Some, None, min, unwrap_or}
+use Rattle.std.specs.Prelude.{ℕ, List, [], Option, Some, None, unwrap_or}
 use Rattle.ocfl_tree.specs.Place.{Place}
-use Rattle.ocfl_night.specs.declared.{slicing.Made.{Made}, tally.Tally.{Tally}}
+use Rattle.ocfl_terms.specs.{Counting.{counted}, declared.made.Made.{Made}}
+use Rattle.ocfl_night.specs.declared.tally.Tally.{Tally}
 
 -- How many runs it began, and when the first; what their items cost, and how many of them are files
 -- that were read; how many runs stopped at a place, which place is tried once more, and which branches
@@ -20,10 +21,6 @@ done_of t = record { runs = t.runs; began = t.began; spent = t.spent; files = t.
 
 abbrev pub nothing_done : Done
 nothing_done = record { runs = 0; began = None; spent = 0; files = 0; stops = 0; tried = None; left = [] }
-
--- counts end at 2^64 - 1
-abbrev pub counted : ℕ → ℕ → ℕ
-counted old more = min (old + more) (2 ^ 64 - 1)
 
 -- a run is begun at this time
 abbrev pub with_begun : ℕ → Done → Done

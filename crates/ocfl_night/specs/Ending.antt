@@ -14,15 +14,17 @@ use Rattle.ocfl_state.specs.{Checkpoint.{Checkpoint}, declared.folder.FolderTrou
 use Rattle.ocfl_identity.specs.declared.identity.NoIdentity.{NoIdentity}
 use Rattle.ocfl_identity.specs.declared.identity.NoIdentity.TheVariants as none
 use Rattle.ocfl_state.specs.declared.checkpoint_parts.ReportMark.{ReportMark}
-use Rattle.ocfl_night.specs.{Steps.{IsNext}, declared.plan.Halt.{Halt}, declared.plan.Pause.{Pause}}
-use Rattle.ocfl_night.specs.{declared.refusal.NotOpened.{NotOpened}, declared.slicing.Made.{Made}}
-use Rattle.ocfl_night.specs.{declared.slicing.SliceEnd.{SliceEnd}, declared.stop.Stop.{Stop}}
-use Rattle.ocfl_night.specs.declared.plan.Halt.TheVariants as halt
-use Rattle.ocfl_night.specs.declared.plan.Pause.TheVariants as pause
-use Rattle.ocfl_night.specs.declared.refusal.NotOpened.TheVariants as unopened
-use Rattle.ocfl_night.specs.declared.refusal.Refusal.TheVariants.{NoRoot}
-use Rattle.ocfl_night.specs.declared.slicing.SliceEnd.TheVariants as slice
-use Rattle.ocfl_night.specs.declared.stop.Stop.TheVariants as stop
+use Rattle.ocfl_night.specs.{Steps.{IsNext}, declared.pause.Pause.{Pause}}
+use Rattle.ocfl_terms.specs.declared.plan.Halt.{Halt}
+use Rattle.ocfl_night.specs.declared.not_opened.NotOpened.{NotOpened}
+use Rattle.ocfl_terms.specs.declared.made.Made.{Made}
+use Rattle.ocfl_terms.specs.{declared.made.SliceEnd.{SliceEnd}, declared.stop.Stop.{Stop}}
+use Rattle.ocfl_terms.specs.declared.plan.Halt.TheVariants as halt
+use Rattle.ocfl_night.specs.declared.pause.Pause.TheVariants as pause
+use Rattle.ocfl_night.specs.declared.not_opened.NotOpened.TheVariants as unopened
+use Rattle.ocfl_terms.specs.declared.refusal.Refusal.TheVariants.{NoRoot}
+use Rattle.ocfl_terms.specs.declared.made.SliceEnd.TheVariants as slice
+use Rattle.ocfl_terms.specs.declared.stop.Stop.TheVariants as stop
 
 -- ---- ends
 

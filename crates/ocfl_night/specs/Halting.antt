@@ -2,11 +2,13 @@
 use Rattle.std.specs.Prelude.{⊤, ℕ, ◌≡◌, ◌+◌, ◌≤◌, List, [], ◌∷◌, ◌++◌, if◌then◌else◌, Option, Some, None}
 use Rattle.ocfl_tree.specs.{Place.{Place}, Store.{Store}}
 use Rattle.ocfl_item.specs.declared.fault.Fault.TheVariants as fault
-use Rattle.ocfl_night.specs.{Clock.{Event, Asked, Read, Heard}, Leaving.{is_at}}
+use Rattle.ocfl_terms.specs.Clock.{Event, Asked, Read, Heard}
+use Rattle.ocfl_night.specs.Leaving.{is_at}
 use Rattle.ocfl_night.specs.Looks.{failed_at}
-use Rattle.ocfl_night.specs.{declared.looking.NotKept.{NotKept}, declared.slicing.SliceEnd.{SliceEnd}}
+use Rattle.ocfl_night.specs.declared.looking.NotKept.{NotKept}
+use Rattle.ocfl_terms.specs.declared.made.SliceEnd.{SliceEnd}
 use Rattle.ocfl_night.specs.declared.looking.NotKept.TheVariants as unkept
-use Rattle.ocfl_night.specs.declared.slicing.SliceEnd.TheVariants as slice
+use Rattle.ocfl_terms.specs.declared.made.SliceEnd.TheVariants as slice
 
 -- ---- where
 

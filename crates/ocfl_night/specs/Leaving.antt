@@ -7,11 +7,12 @@ use Rattle.ocfl_inventory.specs.declared.declaration.Level.TheVariants.{Object}
 use Rattle.ocfl_rules.specs.{Trail.{is_root_meta}, Zone.{inventory_name}}
 use Rattle.ocfl_item.specs.declared.fault.Fault.TheVariants as fault
 use Rattle.ocfl_state.specs.{Checkpoint.{Checkpoint}, declared.checkpoint_parts.Left.{Left}}
-use Rattle.ocfl_night.specs.{Chain.{past}, Done.{Done, counted}, Site.{IsAlike}, Steps.{with_left}, declared.plan.Pause.{Pause}}
+use Rattle.ocfl_night.specs.{Chain.{past}, Done.{Done}, Site.{IsAlike}, Steps.{with_left}, declared.pause.Pause.{Pause}}
+use Rattle.ocfl_terms.specs.Counting.{counted}
 use Rattle.ocfl_night.specs.declared.tally.Remedy.{Remedy}
 use Rattle.ocfl_night.specs.declared.tally.Remedy.TheVariants.{TryAgain, LeaveOut, Halt}
 use Rattle.ocfl_night.specs.declared.tally.Tally.{Tally}
-use Rattle.ocfl_night.specs.declared.plan.Pause.TheVariants as pause
+use Rattle.ocfl_night.specs.declared.pause.Pause.TheVariants as pause
 
 -- ---- the branch of a place
 

@@ -1,12 +1,9 @@
 pub mod Site
 pub mod Looks
-pub mod Output
 pub mod Chain
 pub mod Sound
 pub mod Steps
 pub mod Promises
-pub mod Clock
-pub mod Status
 pub mod Leaving
 pub mod Ending
 pub mod Pace

@@ -1,6 +1,12 @@
--- What the next run may spend, by what the runs before it did.
-use Rattle.std.specs.Prelude.{ℕ, ◌-◌, ◌*◌, ◌/◌, ◌^◌, ◌==◌, ◌||◌, Option, Some, None, if◌then◌else◌, max, min, unwrap_or}
-use Rattle.ocfl_night.specs.{Done.{Done}, declared.plan.Plan.{Plan}}
+-- Whether a next run may begin, and what it may spend, by what the runs before it did.
+use Rattle.std.specs.Prelude.{ℕ, ◌-◌, ◌*◌, ◌/◌, ◌^◌, ◌==◌, ◌||◌, Bool, true, Option, Some, None, if◌then◌else◌, max, min, nat_lt, unwrap_or}
+use Rattle.ocfl_night.specs.Done.{Done}
+use Rattle.ocfl_terms.specs.declared.plan.Plan.{Plan}
+
+-- whether an end has not come
+abbrev pub is_before : ℕ → Option ℕ → Bool
+is_before now None = true
+is_before now (Some end) = nat_lt now end
 
 -- a minute, or what is left until the end
 abbrev pub seconds_left : Option ℕ → ℕ → ℕ

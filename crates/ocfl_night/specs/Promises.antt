@@ -7,8 +7,9 @@ use Rattle.ocfl_scrub.specs.{Running.{place_in}, declared.kept.KeptWalk.{KeptWal
 use Rattle.ocfl_state.specs.declared.folder.StateFolder as state
 use Rattle.ocfl_state.specs.{Checkpoint.{Checkpoint}, Content.{Closed, Content}, Crash.{LeavesOnly}}
 use Rattle.ocfl_night.specs.{Chain.{NoneBefore, part_after}, Ending.{place_or_pause}, Leaving.{branch_at}, Looks.{IsRootOf, Rounds}}
-use Rattle.ocfl_night.specs.{Sound.{IsAt, IsSoundAt, IsReady}, Steps.{IsLost, IsWalkAt, closes_whole}, declared.plan.NightEnd.{NightEnd}}
-use Rattle.ocfl_night.specs.declared.slicing.Made.{Made}
+use Rattle.ocfl_night.specs.{Sound.{IsAt, IsSoundAt, IsReady}, Steps.{IsLost, IsWalkAt, closes_whole}}
+use Rattle.ocfl_terms.specs.declared.plan.NightEnd.{NightEnd}
+use Rattle.ocfl_terms.specs.declared.made.Made.{Made}
 
 -- ---- when
 

@@ -12,8 +12,9 @@ use Rattle.ocfl_state.specs.{Checkpoint.{Checkpoint}, Content.{Content}}
 use Rattle.ocfl_state.specs.declared.checkpoint_parts.{Phase.{Phase}, Phase.TheVariants.{Open, Closing}}
 use Rattle.ocfl_tree.specs.Place.{Text}
 use Rattle.ocfl_night.specs.{Looks.{opened_since}, Promises.{IfThere}, Sound.{IsAt}}
-use Rattle.ocfl_night.specs.declared.{plan.Halt.{Halt}, plan.Pause.{Pause}}
-use Rattle.ocfl_night.specs.declared.plan.Halt.TheVariants as halt
+use Rattle.ocfl_terms.specs.declared.plan.Halt.{Halt}
+use Rattle.ocfl_night.specs.declared.pause.Pause.{Pause}
+use Rattle.ocfl_terms.specs.declared.plan.Halt.TheVariants as halt
 
 -- the content files that were opened from one moment to another, in order
 abbrev pub content_since : StorageRoot → Store → Store → List Place

@@ -9,9 +9,11 @@ use Rattle.ocfl_state.specs.declared.folder.StateFolder as state
 use Rattle.ocfl_state.specs.{Content.{Content, is_closed}}
 use Rattle.ocfl_night.specs.Older.{IsOlder}
 use Rattle.ocfl_night.specs.{Site.{AreMostGone, IsAnothers, IsForeign, IsOtherThan, IsOwn}, Sound.{IsAt}, Steps.{IsUntouched}}
-use Rattle.ocfl_night.specs.{declared.plan.Plan.{Plan}, declared.site.Site.{Site}}
-use Rattle.ocfl_night.specs.declared.refusal.{NotOpened.{NotOpened}, NotOpened.TheVariants.{Refused}, Refusal.{Refusal}}
-use Rattle.ocfl_night.specs.declared.refusal.Refusal.TheVariants.{NoCheckpoint, HasReports, Unread, NoRoot, OtherRoot, OtherPart, OtherDeclaration, NamesGone, Older}
+use Rattle.ocfl_terms.specs.declared.plan.Plan.{Plan}
+use Rattle.ocfl_night.specs.declared.site.Site.{Site}
+use Rattle.ocfl_night.specs.{declared.not_opened.NotOpened.{NotOpened}, declared.not_opened.NotOpened.TheVariants.{Refused}}
+use Rattle.ocfl_terms.specs.declared.refusal.Refusal.{Refusal}
+use Rattle.ocfl_terms.specs.declared.refusal.Refusal.TheVariants.{NoCheckpoint, HasReports, Unread, NoRoot, OtherRoot, OtherPart, OtherDeclaration, NamesGone, Older}
 
 -- if a night is refused, this holds of the reason
 abbrev pub IfRefused : {A : Type 0} → Result A NotOpened → (Refusal → Type 0) → Type 0

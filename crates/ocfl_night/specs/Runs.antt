@@ -5,13 +5,16 @@ use Rattle.ocfl_cursor.specs.Limits.{IsLimit}
 use Rattle.ocfl_cursor.specs.declared.limits.Limits.{Limits}
 use Rattle.ocfl_state.specs.{Checkpoint.{Checkpoint}, Content.{Content}}
 use Rattle.ocfl_state.specs.declared.checkpoint_parts.Phase.TheVariants.{Open, Closing}
-use Rattle.ocfl_night.specs.{Beginning.{BeginsAt, Position, StandsAt, position}, Clock.{Event, Asked, Read, Heard, is_before}, Done.{Done, nothing_done, with_begun, with_made, with_none_tried}}
+use Rattle.ocfl_night.specs.{Beginning.{BeginsAt, Position, StandsAt, position}, Pace.{is_before}, Done.{Done, nothing_done, with_begun, with_made, with_none_tried}}
+use Rattle.ocfl_terms.specs.Clock.{Event, Asked, Read, Heard}
 use Rattle.ocfl_night.specs.{Ending.{IsSlice, place_or_pause}, Leaving.{done_by, remedy_at, with_remedy}}
 use Rattle.ocfl_night.specs.{Pace.{budget_at, files_at}, Steps.{IsNotBegun, begun_anew}}
-use Rattle.ocfl_night.specs.declared.{plan.Halt.{Halt}, plan.NightEnd.{NightEnd}, plan.Pause.{Pause}, plan.Plan.{Plan}}
-use Rattle.ocfl_night.specs.declared.{slicing.Made.{Made}, stop.Stop.{Stop}, tally.Remedy.{Remedy}}
-use Rattle.ocfl_night.specs.declared.plan.Halt.TheVariants as halt
-use Rattle.ocfl_night.specs.declared.plan.Pause.TheVariants as pause
+use Rattle.ocfl_terms.specs.{declared.plan.Halt.{Halt}, declared.plan.NightEnd.{NightEnd}, declared.plan.Plan.{Plan}}
+use Rattle.ocfl_night.specs.declared.pause.Pause.{Pause}
+use Rattle.ocfl_terms.specs.{declared.made.Made.{Made}, declared.stop.Stop.{Stop}}
+use Rattle.ocfl_night.specs.declared.tally.Remedy.{Remedy}
+use Rattle.ocfl_terms.specs.declared.plan.Halt.TheVariants as halt
+use Rattle.ocfl_night.specs.declared.pause.Pause.TheVariants as pause
 
 -- ---- one run
 

@@ -9,7 +9,8 @@ use Rattle.ocfl_state.specs.{Crash.{Outcomes, Begins, LeavesOnly, Only}, Pieces.
 use Rattle.ocfl_state.specs.declared.folder.StateFolder as state
 use Rattle.ocfl_state.specs.declared.checkpoint_parts.{Phase.TheVariants.{Open, Closing}}
 use Rattle.ocfl_rules.specs.Parts.{Part}
-use Rattle.ocfl_night.specs.{Looks.{IfGiven, Look, Rounds, WithLook}, Output.{HasTaken, Said}, Chain.{EndAt, HasClosed, HasRuns, LeadTo, joined}}
+use Rattle.ocfl_night.specs.{Looks.{IfGiven, Look, Rounds, WithLook}, Chain.{EndAt, HasClosed, HasRuns, LeadTo, joined}}
+use Rattle.ocfl_terms.specs.Output.{HasTaken, Said}
 
 -- the closed reports, joined
 abbrev pub closed_text : List Closed → Text

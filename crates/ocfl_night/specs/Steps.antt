@@ -16,8 +16,9 @@ use Rattle.ocfl_state.specs.declared.folder.StateFolder as state
 use Rattle.ocfl_state.specs.declared.checkpoint_parts.{Phase.{Phase}, Phase.TheVariants.{Open, Closing}}
 use Rattle.ocfl_identity.specs.declared.identity.Identity.{Identity}
 use Rattle.ocfl_night.specs.{Chain.{part_after}, Looks.{Look, IsNoMore}, Site.{first_checkpoint, no_report, with_root}}
-use Rattle.ocfl_night.specs.declared.{opening.Opened.{Opened}, plan.Halt.{Halt}, site.Site.{Site}}
-use Rattle.ocfl_night.specs.declared.plan.Halt.TheVariants as halt
+use Rattle.ocfl_night.specs.{declared.opening.Opened.{Opened}, declared.site.Site.{Site}}
+use Rattle.ocfl_terms.specs.declared.plan.Halt.{Halt}
+use Rattle.ocfl_terms.specs.declared.plan.Halt.TheVariants as halt
 
 -- ---- what is made of a checkpoint
 

@@ -12,11 +12,13 @@ use Rattle.ocfl_state.specs.declared.checkpoint_parts.ReportMark.{ReportMark}
 use Rattle.ocfl_state.specs.declared.folder.StateFolder as state
 use Rattle.ocfl_state.specs.declared.folder.FolderTrouble.TheVariants.{Failed, Full, Taken, Memory}
 use Rattle.ocfl_night.specs.{Beginning.{BeginsAt}, Ending.{IsNextBy, KeepsTo, cycle_of, place_or_pause}, Leaving.{branch_at, has_end}}
-use Rattle.ocfl_night.specs.{Looks.{Rounds}, Output.{HasFailed, Said}, Site.{IsAlike, IsOfSite, first_checkpoint}, Sound.{IsKept}, Steps.{begun_anew, with_all_told, with_left}}
-use Rattle.ocfl_night.specs.declared.{looking.NotKept.{NotKept}, refusal.NotOpened.{NotOpened}, site.Site.{Site}, slicing.Made.{Made}, stop.Stop.{Stop}}
+use Rattle.ocfl_night.specs.{Looks.{Rounds}, Site.{IsAlike, IsOfSite, first_checkpoint}, Sound.{IsKept}, Steps.{begun_anew, with_all_told, with_left}}
+use Rattle.ocfl_terms.specs.Output.{HasFailed, Said}
+use Rattle.ocfl_night.specs.{declared.looking.NotKept.{NotKept}, declared.not_opened.NotOpened.{NotOpened}, declared.site.Site.{Site}}
+use Rattle.ocfl_terms.specs.{declared.made.Made.{Made}, declared.stop.Stop.{Stop}}
 use Rattle.ocfl_night.specs.declared.looking.NotKept.TheVariants as unkept
-use Rattle.ocfl_night.specs.declared.refusal.NotOpened.TheVariants as unopened
-use Rattle.ocfl_night.specs.declared.stop.Stop.TheVariants.{Folder, TooLong, Unread, Worn, Endless, Unsaid, Overtold, Short, Output}
+use Rattle.ocfl_night.specs.declared.not_opened.NotOpened.TheVariants as unopened
+use Rattle.ocfl_terms.specs.declared.stop.Stop.TheVariants.{Folder, TooLong, Unread, Worn, Endless, Unsaid, Overtold, Short, Output}
 
 -- ---- of any step
 

@@ -6,16 +6,16 @@ ghost use Rattle.ocfl_state.specs.{Checkpoint.{IsCheckpointText}, Crash.{Same, O
 ghost use Rattle.ocfl_night.specs.Older.{IsNumber, open_cycle};
 ghost use Rattle.ocfl_night.specs.{Refusing.{HasUnread, IfRefused, IsUnread}, Site.{no_report}, Sound.{IsAt}};
 ghost use Rattle.ocfl_night.specs.Stopping.{ForLook, ForPut, IsReadStop, IsTextStop, OpensFor, StopsFor};
-ghost use Rattle.ocfl_night.specs.declared.refusal.Refusal.{Refusal as ModelRefusal};
+ghost use Rattle.ocfl_terms.specs.declared.refusal.Refusal.{Refusal as ModelRefusal};
 ghost use Rattle.ocfl_night.specs.Steps.{IsCheckpointPut, MayCheckpoint, begun_anew, closes_whole, with_all_told};
 
-use crate::refusal::{NotOpened, Refusal};
-use crate::stop::Stop;
+use crate::not_opened::NotOpened;
 use ocfl_cursor::{Cursor, Refused, State};
 use ocfl_state::{
     Checkpoint, FolderTrouble, MOST_CHECKPOINT, Phase, ReportDigests, ReportMark, StateFolder,
     decode_checkpoint, encode_checkpoint, every_checkpoint_fits,
 };
+use ocfl_terms::{Refusal, Stop};
 use std::alloc::{AllocError, Global};
 
 // ---- what one says

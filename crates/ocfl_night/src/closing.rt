@@ -12,8 +12,8 @@ ghost use Rattle.ocfl_night.specs.Stopping.{ForClose, ForNoOther, StopsFor};
 use crate::checkpoint::{
     begun_anew, cycle_of, is_all_told, phase_of, put_checkpoint, report_of, whole_of,
 };
-use crate::stop::Stop;
 use ocfl_state::{Checkpoint, Phase, StateFolder, may_close_whole};
+use ocfl_terms::Stop;
 use std::alloc::Global;
 
 /// Closes the report as that of a cycle, unless one of that cycle is closed.

@@ -14,11 +14,11 @@ ghost use Rattle.ocfl_night.specs.Stopping.{ForPut, IsPastStop, StopsFor};
 
 use crate::checkpoint::put_checkpoint;
 use crate::site::end_again;
-use crate::stop::Stop;
 use ocfl_cursor::State;
 use ocfl_inventory::{Level, is_declaration_name};
 use ocfl_scrub::Part;
 use ocfl_state::{Checkpoint, Left, StateFolder};
+use ocfl_terms::Stop;
 use ocfl_tree::{Name, NameStop, Place};
 use ocfl_walk::End;
 use std::alloc::{AllocError, Global};

@@ -6,11 +6,11 @@ ghost use Rattle.ocfl_night.specs.{Ending.{unopened_by}, Halting.{FailedMore, un
 ghost use Rattle.ocfl_night.specs.Reading.{AreDeclarations, content_since};
 ghost use Rattle.ocfl_night.specs.{Promises.{OverShort}, Site.{IsStill}, Stopping.{IsRunStop}};
 
-use crate::refusal::{NotOpened, Refusal};
-use crate::stop::Stop;
+use crate::not_opened::NotOpened;
 use ocfl_digest::Block;
 use ocfl_identity::{Identity, NoIdentity, is_still_declared};
 use ocfl_state::FolderTrouble;
+use ocfl_terms::{Refusal, Stop};
 use ocfl_tree::{Place, Tree};
 use std::alloc::Global;
 

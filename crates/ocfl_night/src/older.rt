@@ -6,9 +6,9 @@ ghost use Rattle.ocfl_night.specs.Older.{IsBesides, IsNumber, IsOlder, IsToCome}
 ghost use Rattle.ocfl_night.specs.{Refusing.{IfRefused, IsOutdated}, Stopping.{ForNoOther, OpensFor, StopsFor}};
 
 use crate::checkpoint::{cycle_of, open_cycle_of, phase_of};
-use crate::refusal::{NotOpened, Refusal};
-use crate::stop::Stop;
+use crate::not_opened::NotOpened;
 use ocfl_state::{Checkpoint, Phase, StateFolder};
+use ocfl_terms::{Refusal, Stop};
 
 /// The cycle after one, if it has a number.
 fn cycle_after(cycle: Option<u64>) -> Option<u64>

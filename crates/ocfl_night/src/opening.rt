@@ -15,13 +15,12 @@ ghost use Rattle.ocfl_night.specs.{Site.{IsOfSite}, Stopping.{ForFirst, ForNoOth
 use crate::checkpoint::{bytes_of, cycle_of, look, phase_of, put_checkpoint, report_of};
 use crate::older::refuse_older;
 use crate::owning::{first_checkpoint, own, with_root};
-use crate::plan::Plan;
-use crate::refusal::{NotOpened, Refusal};
+use crate::not_opened::NotOpened;
 use crate::reports::{cut_report, find_lost};
 use crate::site::Site;
-use crate::stop::Stop;
 use ocfl_identity::Identity;
 use ocfl_state::{Checkpoint, Phase, ReportMark, StateFolder};
+use ocfl_terms::{Plan, Refusal, Stop};
 use std::alloc::Global;
 
 /// What a night begins with.

@@ -5,11 +5,11 @@ ghost use Rattle.ocfl_night.specs.Refusing.{IsChangedRoot, IsDisowned};
 ghost use Rattle.ocfl_night.specs.Site.{AreMostGone, IsOwn, IsSameRoot, are_renewed, first_checkpoint, names_now, with_root};
 
 use crate::checkpoint::no_report;
-use crate::refusal::Refusal;
 use crate::site::{Site, ends_again};
 use ocfl_cursor::{Cursor, PartEnds, State, is_same_part};
 use ocfl_identity::Identity;
 use ocfl_state::{Checkpoint, Phase, RootIdentity, TopNames};
+use ocfl_terms::Refusal;
 use ocfl_tree::Place;
 use std::alloc::{AllocError, Global};
 

@@ -3,16 +3,16 @@ ghost use Rattle.std.specs.Prelude.{◌≡◌, ◌+◌, ◌-◌, ◌≤◌, IfOk
 ghost use Rattle.std.specs.Io.KnownBytes.{Appends};
 ghost use Rattle.ocfl_state.specs.Crash.{LeavesOnly, Passes, Same};
 ghost use Rattle.ocfl_night.specs.Again.{OnlyGoesOn};
-ghost use Rattle.ocfl_night.specs.{Output.{Grows, HasCommitted}, Promises.{IfReady, SameClosed}, Sound.{IsAt, IsHeard, IsHeardReady}};
+ghost use Rattle.ocfl_terms.specs.Output.{Grows, HasCommitted};
+ghost use Rattle.ocfl_night.specs.{Promises.{IfReady, SameClosed}, Sound.{IsAt, IsHeard, IsHeardReady}};
 ghost use Rattle.ocfl_night.specs.Steps.{unsaid, with_all_told};
 ghost use Rattle.ocfl_night.specs.Stopping.{ForSay, ForSpeak, StopsFor};
 
 use crate::checkpoint::{
     bytes_of, is_all_told, put_checkpoint, tells_within, told_of, with_all_told,
 };
-use crate::output::Output;
-use crate::stop::Stop;
 use ocfl_state::{Checkpoint, StateFolder};
+use ocfl_terms::{Output, Stop};
 use std::alloc::Global;
 
 // How many bytes are read at once.

@@ -26,14 +26,13 @@ ghost use Rattle.ocfl_night.specs.Stopping.{ForExtend, ForKeep, ForSlice, IsRunS
 use crate::checkpoint::{cursor_of, put_checkpoint, report_of};
 use crate::leaving::part_past;
 use crate::looking::{NotKept, look_again};
-use crate::stop::Stop;
 use ocfl_cursor::{Cursor, Limits};
 use ocfl_digest::Block;
 use ocfl_identity::Identity;
 use ocfl_scrub::{KeptWalk, Part, ReportStop, RunEnd, RunStatus, run_on};
 use ocfl_state::{Checkpoint, FolderTrouble, Phase, ReportMark, StateFolder, append_marked};
-use ocfl_tree::{Place, Tree};
-use ocfl_walk::Fault;
+use ocfl_terms::{Made, SliceEnd, Stop};
+use ocfl_tree::Tree;
 use std::alloc::Global;
 
 /// Why a run leaves nothing: its lines did not go out whole, or it was not made.
@@ -145,35 +144,6 @@ fn extend<S: StateFolder>(
     let next = append_marked(folder, mark, lines)?;
     folder.sync()?;
     Ok(next)
-}
-
-/// How a slice ended.
-#[derive(Debug, Drop)]
-pub enum SliceEnd {
-    /// No item is left: the cycle has ended.
-    Ended,
-    /// The next item is a file that the limits do not allow to start.
-    Spent,
-    /// The run stopped; what went out whole is kept.
-    Stopped(Fault),
-    /// After the run the root is gone, or another one. Nothing of the run is kept.
-    RootChanged,
-    /// After the run the root could not be looked at. Nothing of the run is kept.
-    Unread(Place),
-}
-
-/// What a slice made.
-#[derive(Debug, Drop)]
-pub struct Made {
-    /// The checkpoint after it.
-    pub checkpoint: Checkpoint,
-    /// What its items cost.
-    pub spent: u64,
-    /// How many of them are files that were read.
-    pub files: u64,
-    /// Whether a line of one of them is a finding.
-    pub found: bool,
-    pub end: SliceEnd,
 }
 
 /// How a slice ended whose run is kept.

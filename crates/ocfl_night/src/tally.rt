@@ -4,7 +4,7 @@ ghost use Rattle.ocfl_night.specs.Done.{done_of, nothing_done, with_begun, with_
 ghost use Rattle.ocfl_night.specs.Leaving.{MayLeave, branch_for, is_at, left_by, remedy_at, remedy_by, tried_by, with_remedy};
 
 use crate::leaving::{branch_at, end_of};
-use crate::slicing::Made;
+use ocfl_terms::{Made, counted};
 use ocfl_tree::Place;
 use std::alloc::{AllocError, Global};
 
@@ -62,7 +62,7 @@ impl Tally {
     pub(crate) fn begin(&mut self, now: u64)
         ensures done { done_of self.new ≡ with_begun now (done_of self.old) }
     {
-        self.runs = self.runs.saturating_add(1);
+        self.runs = counted(self.runs, 1);
         self.began = Some(self.began.unwrap_or(now));
     }
 
@@ -70,8 +70,8 @@ impl Tally {
     pub(crate) fn count(&mut self, made: &Made)
         ensures done { done_of self.new ≡ with_made made.now (done_of self.old) }
     {
-        self.spent = self.spent.saturating_add(made.spent);
-        self.files = self.files.saturating_add(made.files);
+        self.spent = counted(self.spent, made.spent);
+        self.files = counted(self.files, made.files);
     }
 
     /// The last run did not stop at a place.

@@ -4,14 +4,17 @@ use Rattle.std.proofs.lemmas.List.{append-nil}
 use Rattle.std.specs.Prelude.{IsTrue, flat_map, if◌then◌else◌, nat_lt}
 use Rattle.ocfl_tree.specs.Place.{Place}
 use Rattle.ocfl_state.specs.{Checkpoint.{Checkpoint}, Content.{Content}}
-use Rattle.ocfl_night.specs.Clock.{Event, Asked, Read, Heard, is_before}
+use Rattle.ocfl_terms.specs.Clock.{Event, Asked, Read, Heard}
+use Rattle.ocfl_night.specs.Pace.{is_before}
 use Rattle.ocfl_night_laws.specs.Times.{times, times_before, MayBegin, BeginsInTime}
-use Rattle.ocfl_night.specs.Done.{Done, counted, nothing_done}
+use Rattle.ocfl_night.specs.Done.{Done, nothing_done}
+use Rattle.ocfl_terms.specs.Counting.{counted}
 use Rattle.ocfl_night.specs.Beginning.{Position, StandsAt}
 use Rattle.ocfl_night.specs.Runs.{Run, Turn, AreRunsOf, EndsBy, IsFailed, IsNight, IsPaused, IsRunOf, after_end, after_it, events_of, in_it, turn, turn_of}
-use Rattle.ocfl_night.specs.declared.{plan.Halt.{Halt}, plan.NightEnd.{NightEnd}, plan.Pause.{Pause}, plan.Plan.{Plan}}
-use Rattle.ocfl_night.specs.declared.plan.Halt.TheVariants as halt
-use Rattle.ocfl_night.specs.declared.plan.Pause.TheVariants as pause
+use Rattle.ocfl_terms.specs.{declared.plan.Halt.{Halt}, declared.plan.NightEnd.{NightEnd}, declared.plan.Plan.{Plan}}
+use Rattle.ocfl_night.specs.declared.pause.Pause.{Pause}
+use Rattle.ocfl_terms.specs.declared.plan.Halt.TheVariants as halt
+use Rattle.ocfl_night.specs.declared.pause.Pause.TheVariants as pause
 
 times_append : (a b : List Event) → times (a ++ b) ≡ times a ++ times b
 times_append [] b = refl

@@ -6,17 +6,19 @@ use Rattle.ocfl_tree.specs.{Place.{Place, place_eq}, Store.{Store}}
 use Rattle.ocfl_tree.proofs.Places.{place_eq-Decides, place_eq-same}
 use Rattle.ocfl_item.specs.declared.fault.Fault.TheVariants as fault
 use Rattle.ocfl_state.specs.{Checkpoint.{Checkpoint}, Content.{Content}}
-use Rattle.ocfl_night.specs.{Beginning.{Position, StandsAt}, Clock.{Event, Asked, Heard}, Done.{Done, nothing_done, with_begun, with_made}}
+use Rattle.ocfl_night.specs.{Beginning.{Position, StandsAt}, Done.{Done, nothing_done, with_begun, with_made}}
+use Rattle.ocfl_terms.specs.Clock.{Event, Asked, Heard}
 use Rattle.ocfl_night.specs.Halting.{AreFailed, stopped_at, stops_at}
 use Rattle.ocfl_night_laws.specs.Halts.{HaltsAt, IsHaltedAt, NothingHelps, again, asked, often, stopped, unread}
 use Rattle.ocfl_night.specs.{Leaving.{branch_at, branch_for, done_by, has_end, is_at, remedy_at, remedy_by, tried_by}, Looks.{failed_at}}
 use Rattle.ocfl_night.specs.Runs.{Run, Turn, AreRunsOf, EndsBy, IsBegunNight, IsHalted, after_end, after_made, events_of, turn}
-use Rattle.ocfl_night.specs.{declared.plan.Halt.{Halt}, declared.plan.NightEnd.{NightEnd}, declared.plan.Pause.{Pause}, declared.plan.Plan.{Plan}, declared.stop.Stop.{Stop}, declared.tally.Remedy.{Remedy}}
-use Rattle.ocfl_night.specs.declared.slicing.{Made.{Made}, SliceEnd.{SliceEnd}}
+use Rattle.ocfl_terms.specs.{declared.plan.Halt.{Halt}, declared.plan.NightEnd.{NightEnd}, declared.plan.Plan.{Plan}, declared.stop.Stop.{Stop}}
+use Rattle.ocfl_night.specs.{declared.pause.Pause.{Pause}, declared.tally.Remedy.{Remedy}}
+use Rattle.ocfl_terms.specs.{declared.made.Made.{Made}, declared.made.SliceEnd.{SliceEnd}}
 use Rattle.ocfl_night.specs.Ending.{place_or_pause}
-use Rattle.ocfl_night.specs.declared.plan.Halt.TheVariants as halt
-use Rattle.ocfl_night.specs.declared.plan.Pause.TheVariants as pause
-use Rattle.ocfl_night.specs.declared.slicing.SliceEnd.TheVariants as slice
+use Rattle.ocfl_terms.specs.declared.plan.Halt.TheVariants as halt
+use Rattle.ocfl_night.specs.declared.pause.Pause.TheVariants as pause
+use Rattle.ocfl_terms.specs.declared.made.SliceEnd.TheVariants as slice
 use Rattle.ocfl_night.specs.declared.tally.Remedy.TheVariants as remedy
 use Rattle.ocfl_night.proofs.Halting.{stops_append}
 

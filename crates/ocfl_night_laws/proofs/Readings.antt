@@ -10,8 +10,8 @@ use Rattle.ocfl_state.specs.{Checkpoint.{Checkpoint}, Content.{Content}}
 use Rattle.ocfl_state.specs.declared.checkpoint_parts.Phase.TheVariants.{Open}
 use Rattle.ocfl_night.specs.{Again.{HasDone}, Beginning.{BeginsAt, Position, StandsAt, first, further, position}, Ending.{cycle_of}, Promises.{IfThere}, Sound.{IsAt}}
 use Rattle.ocfl_night.specs.Reading.{AreBeyond, AreReadOnce, IsRead, ReadsBeyond, came_to, reached, reached_in}
-use Rattle.ocfl_night.specs.declared.plan.Halt.{Halt}
-use Rattle.ocfl_night.specs.declared.plan.Halt.TheVariants as halt
+use Rattle.ocfl_terms.specs.declared.plan.Halt.{Halt}
+use Rattle.ocfl_terms.specs.declared.plan.Halt.TheVariants as halt
 use Rattle.ocfl_night.proofs.{Foreigners.{at_once}, Reading.{beyond_both, beyond_by, beyond_from, taken_below}}
 use Rattle.ocfl_night_laws.specs.Readings.{AreOfOneCycle, IsReading, Reading}
 

@@ -6,8 +6,9 @@ use Rattle.ocfl_cursor.specs.declared.refused.Refused.{Refused}
 use Rattle.ocfl_state.specs.{Checkpoint.{Checkpoint}, CheckpointRefusal.{RefusedRightly}, Content.{Content, is_closed}}
 use Rattle.ocfl_night.specs.{Older.{IsOlder}, Promises.{IfThere}}
 use Rattle.ocfl_night.specs.Refusing.{IsRefused, no_root, in_folder, none, unread, not_own, outdated}
-use Rattle.ocfl_night.specs.{declared.plan.Plan.{Plan}, declared.site.Site.{Site}}
-use Rattle.ocfl_night.specs.declared.refusal.Refusal.TheVariants as refusal
+use Rattle.ocfl_terms.specs.declared.plan.Plan.{Plan}
+use Rattle.ocfl_night.specs.declared.site.Site.{Site}
+use Rattle.ocfl_terms.specs.declared.refusal.Refusal.TheVariants as refusal
 use Rattle.ocfl_night.proofs.Foreigners.{at_once}
 
 module _ {tells : Bool} {s : Store} {site : Site} {plan : Plan} {c : Content} where

@@ -3,10 +3,11 @@ use Rattle.std.specs.Prelude.{◌≡◌, ◌⊎◌, ◌≤◌, List, Bool, true,
 use Rattle.ocfl_tree.specs.{Place.{Place}, Store.{Store}}
 use Rattle.ocfl_item.specs.declared.fault.Fault.TheVariants as fault
 use Rattle.ocfl_state.specs.Checkpoint.{Checkpoint}
-use Rattle.ocfl_night.specs.{Clock.{Event}, Done.{Done, with_begun, with_made}, Leaving.{branch_at, has_end}}
+use Rattle.ocfl_terms.specs.Clock.{Event}
+use Rattle.ocfl_night.specs.{Done.{Done, with_begun, with_made}, Leaving.{branch_at, has_end}}
 use Rattle.ocfl_night.specs.Runs.{Run, IsRunOf, events_of}
-use Rattle.ocfl_night.specs.{declared.plan.Plan.{Plan}, declared.slicing.Made.{Made}}
-use Rattle.ocfl_night.specs.declared.slicing.SliceEnd.TheVariants as slice
+use Rattle.ocfl_terms.specs.{declared.plan.Plan.{Plan}, declared.made.Made.{Made}}
+use Rattle.ocfl_terms.specs.declared.made.SliceEnd.TheVariants as slice
 
 -- nothing is done any more about a place at which a run stopped: the night is to stop at faults; or 64
 -- runs had stopped before; or the run before it had stopped there too, and 16 branches are left out, or

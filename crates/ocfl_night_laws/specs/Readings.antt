@@ -3,8 +3,8 @@ use Rattle.std.specs.Prelude.{⊤, ℕ, ◌≡◌, ◌≢◌, List, [], ◌∷�
 use Rattle.ocfl_tree.specs.Place.{Place}
 use Rattle.ocfl_tree.specs.Store.{Store}
 use Rattle.ocfl_state.specs.Content.{Content}
-use Rattle.ocfl_night.specs.declared.plan.Halt.{Halt}
-use Rattle.ocfl_night.specs.declared.plan.Halt.TheVariants as halt
+use Rattle.ocfl_terms.specs.declared.plan.Halt.{Halt}
+use Rattle.ocfl_terms.specs.declared.plan.Halt.TheVariants as halt
 use Rattle.ocfl_night.specs.Reading.{IsRead, ReadsBeyond}
 
 -- a night over a folder that showed this before and after it: how it ended, and which content files it

@@ -1,6 +1,6 @@
 -- The times that a clock answered, and how many runs of a night began before an end.
 use Rattle.std.specs.Prelude.{⊤, ℕ, ◌≡◌, ◌+◌, ◌≤◌, List, [], ◌∷◌, ◌++◌, Option, Some, None, nat_lt, if◌then◌else◌}
-use Rattle.ocfl_night.specs.Clock.{Event, Asked, Read, Heard}
+use Rattle.ocfl_terms.specs.Clock.{Event, Asked, Read, Heard}
 
 -- the times that it answered
 abbrev pub times : List Event → List ℕ

@@ -12,26 +12,28 @@ ghost use Rattle.ocfl_state.specs.declared.checkpoint_parts.{Left.{Left}, Phase.
 ghost use Rattle.ocfl_night_laws.specs.Around.{AreNext, IsInBranch, around};
 ghost use Rattle.ocfl_night.specs.Chain.{IsReportOf, LedToEnd, RootRun, joined};
 ghost use Rattle.ocfl_night.specs.Runs.{AreMade, EndsBy, IsBegunNight, IsNight};
-ghost use Rattle.ocfl_night.specs.{Beginning.{position}, Clock.{Event}, Done.{nothing_done}};
+ghost use Rattle.ocfl_night.specs.{Beginning.{position}, Done.{nothing_done}};
+ghost use Rattle.ocfl_terms.specs.Clock.{Event};
 ghost use Rattle.ocfl_night_laws.specs.Times.{BeginsInTime};
-ghost use Rattle.ocfl_night.specs.declared.plan.{NightEnd.{NightEnd as ModelEnd}, Plan.{Plan as ModelPlan}};
+ghost use Rattle.ocfl_terms.specs.{declared.plan.NightEnd.{NightEnd as ModelEnd}, declared.plan.Plan.{Plan as ModelPlan}};
 ghost use Rattle.ocfl_night.specs.{Looks.{Counts, Rounds, look_between, of_any}};
 ghost use Rattle.ocfl_night.specs.Again.{IsLeg, IsLittleAgain, Leg, took_by};
 ghost use Rattle.ocfl_cursor.specs.declared.limits.Limits.{Limits as ModelLimits};
 ghost use Rattle.ocfl_item.specs.declared.fault.Fault.{Fault as ModelFault};
 ghost use Rattle.ocfl_night.specs.Ending.{IsRunKept, IsSlice, cycle_of};
-ghost use Rattle.ocfl_night.specs.declared.slicing.Made.{Made as ModelMade};
-ghost use Rattle.ocfl_night.specs.declared.slicing.SliceEnd.TheVariants as slice;
+ghost use Rattle.ocfl_terms.specs.declared.made.Made.{Made as ModelMade};
+ghost use Rattle.ocfl_terms.specs.declared.made.SliceEnd.TheVariants as slice;
 ghost use Rattle.ocfl_night_laws.specs.Readings.{AreOfOneCycle, Reading};
 ghost use Rattle.ocfl_night.specs.Reading.{EndsInOrder, ReadsBeyond, content_since};
-ghost use Rattle.ocfl_night.specs.declared.plan.Halt.TheVariants as halt;
+ghost use Rattle.ocfl_terms.specs.declared.plan.Halt.TheVariants as halt;
 ghost use Rattle.ocfl_night.specs.{Site.{part_at}, Sound.{IsAt, IsSound}};
 ghost use Rattle.ocfl_night_laws.specs.Nights.{AllTaken, AreNights, AreOver, AreWhole, AtAnyMoment, EachOther, EachWhole, HaveReadAll, IsAround, IsAuditBut, Night, rounds_of};
 
 use ocfl_digest::Block;
-use ocfl_night::{Clock, NightEnd, Output, Plan, Site, night};
+use ocfl_night::{Site, night};
 use ocfl_scrub::parts::runs_that_stop_join;
 use ocfl_state::StateFolder;
+use ocfl_terms::{Clock, NightEnd, Output, Plan};
 use ocfl_tree::Tree;
 use std::alloc::Global;
 

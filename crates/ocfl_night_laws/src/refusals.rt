@@ -5,8 +5,9 @@ ghost use Rattle.ocfl_identity.specs.Identity.{declarations_among, declared_by};
 ghost use Rattle.ocfl_cursor.specs.declared.refused.Refused.{Refused};
 ghost use Rattle.ocfl_state.specs.{Content.{Content, is_closed}, CheckpointRefusal.{RefusedRightly}};
 ghost use Rattle.ocfl_night.specs.{Older.{IsOlder}, Promises.{IfThere}, Refusing.{IsRefused}};
-ghost use Rattle.ocfl_night.specs.declared.{plan.Plan.{Plan}, site.Site.{Site}};
-ghost use Rattle.ocfl_night.specs.declared.refusal.Refusal.TheVariants as refusal;
+ghost use Rattle.ocfl_terms.specs.declared.plan.Plan.{Plan};
+ghost use Rattle.ocfl_night.specs.declared.site.Site.{Site};
+ghost use Rattle.ocfl_terms.specs.declared.refusal.Refusal.TheVariants as refusal;
 
 /// A night that is refused since its folder has no checkpoint, or something else in its place, was
 /// over such a folder: each reason holds, and no other one is given for it.

@@ -3,15 +3,16 @@ ghost use Rattle.std.specs.Prelude.{◌≡◌, ◌≢◌, ◌+◌, ◌<◌, ◌�
 ghost use Rattle.ocfl_tree.specs.{Place.{Place}, Store.{Store}};
 ghost use Rattle.ocfl_item.specs.declared.fault.Fault.TheVariants as fault;
 ghost use Rattle.ocfl_state.specs.Content.{Content};
-ghost use Rattle.ocfl_night.specs.{Clock.{Event}, Done.{Done}, Looks.{failed_at}};
+ghost use Rattle.ocfl_terms.specs.Clock.{Event};
+ghost use Rattle.ocfl_night.specs.{Done.{Done}, Looks.{failed_at}};
 ghost use Rattle.ocfl_night.specs.Halting.{AreFailed};
 ghost use Rattle.ocfl_night_laws.specs.Halts.{HaltsAt, IsHaltedAt};
 ghost use Rattle.ocfl_night.specs.Runs.{IsBegunNight, after_made};
-ghost use Rattle.ocfl_night.specs.declared.plan.{NightEnd.{NightEnd}, Plan.{Plan}};
-ghost use Rattle.ocfl_night.specs.declared.{slicing.Made.{Made}, stop.Stop.{Stop}};
-ghost use Rattle.ocfl_night.specs.declared.plan.Halt.TheVariants as halt;
-ghost use Rattle.ocfl_night.specs.declared.plan.Pause.TheVariants as pause;
-ghost use Rattle.ocfl_night.specs.declared.slicing.SliceEnd.TheVariants as slice;
+ghost use Rattle.ocfl_terms.specs.{declared.plan.NightEnd.{NightEnd}, declared.plan.Plan.{Plan}};
+ghost use Rattle.ocfl_terms.specs.{declared.made.Made.{Made}, declared.stop.Stop.{Stop}};
+ghost use Rattle.ocfl_terms.specs.declared.plan.Halt.TheVariants as halt;
+ghost use Rattle.ocfl_night.specs.declared.pause.Pause.TheVariants as pause;
+ghost use Rattle.ocfl_terms.specs.declared.made.SliceEnd.TheVariants as slice;
 
 /// A night that is not troubled stops at a place exactly if its last run halts it there: after that
 /// run the root could not be looked at, or it stopped, and nothing helps.

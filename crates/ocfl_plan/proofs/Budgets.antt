@@ -1,7 +1,7 @@
 -- What happens to a clock that asks a night to stop once its budget is spent.
 use Rattle.std.proofs.Common.{◌≡◌, ℕ, ◌<◌, Bool, true, false, not, ◌||◌, List, [], ◌∷◌, ◌++◌, Option, Some, refl, ap, ◌∙◌, sym, arith}
 use Rattle.std.specs.Prelude.{nat_lt}
-use Rattle.ocfl_night.specs.Clock.{Event, Asked, Read, Heard}
+use Rattle.ocfl_terms.specs.Clock.{Event, Asked, Read, Heard}
 use Rattle.ocfl_plan.specs.Budgeted.{budgeted, is_spent, spent_after, spent_in, with_budget}
 
 -- one thing more

@@ -1,7 +1,7 @@
 -- What a clock answers that also asks a night to stop once its budget is spent.
 use Rattle.std.specs.Prelude.{ℕ, ◌||◌, List, [], ◌∷◌, Bool, false, not, nat_lt, Option, Some, None}
-use Rattle.ocfl_night.specs.Clock.{Event, Asked, Read, Heard}
-use Rattle.ocfl_night.specs.Done.{counted}
+use Rattle.ocfl_terms.specs.Clock.{Event, Asked, Read, Heard}
+use Rattle.ocfl_terms.specs.Counting.{counted}
 
 -- whether this much spends a budget
 abbrev pub is_spent : Option ℕ → ℕ → Bool

@@ -2,7 +2,7 @@
 use Rattle.std.specs.Prelude.{ℕ, ◌+◌, ◌*◌, ◌-◌, ◌^◌, Bool, Option, Some, None, if◌then◌else◌, min, unwrap_or}
 use Rattle.ocfl_arguments.specs.declared.night.{NightAsked.{NightAsked}, Until.{Until}}
 use Rattle.ocfl_arguments.specs.declared.night.Until.TheVariants.{Never, Hours, TimeOfDay, At}
-use Rattle.ocfl_night.specs.declared.plan.Plan.{Plan}
+use Rattle.ocfl_terms.specs.declared.plan.Plan.{Plan}
 
 -- a run spends as much as `--slice` says; without it 1 GiB, and no more than the budget of the night
 abbrev pub slice_of : Option ℕ → Option ℕ → ℕ

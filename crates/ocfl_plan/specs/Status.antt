@@ -1,12 +1,12 @@
 -- The exit status of a night and of each of its runs, and what is kept of them.
 use Rattle.std.specs.Prelude.{ℕ, ◌==◌, ◌||◌, Bool, true, false, not, if◌then◌else◌, nat_lt, max, length, Option, Some, None}
-use Rattle.ocfl_night.specs.Status.{found_status, halt_status}
-use Rattle.ocfl_night.specs.declared.plan.{Halt.{Halt}, NightEnd.{NightEnd}}
-use Rattle.ocfl_night.specs.declared.plan.Halt.TheVariants as halt
-use Rattle.ocfl_night.specs.declared.refusal.Refusal.{Refusal}
-use Rattle.ocfl_night.specs.declared.refusal.Refusal.TheVariants as refusal
-use Rattle.ocfl_night.specs.declared.slicing.SliceEnd.{SliceEnd}
-use Rattle.ocfl_night.specs.declared.slicing.SliceEnd.TheVariants as slice
+use Rattle.ocfl_terms.specs.Status.{found_status, halt_status}
+use Rattle.ocfl_terms.specs.{declared.plan.Halt.{Halt}, declared.plan.NightEnd.{NightEnd}}
+use Rattle.ocfl_terms.specs.declared.plan.Halt.TheVariants as halt
+use Rattle.ocfl_terms.specs.declared.refusal.Refusal.{Refusal}
+use Rattle.ocfl_terms.specs.declared.refusal.Refusal.TheVariants as refusal
+use Rattle.ocfl_terms.specs.declared.made.SliceEnd.{SliceEnd}
+use Rattle.ocfl_terms.specs.declared.made.SliceEnd.TheVariants as slice
 
 -- 3 for a run that stopped, 1 for one that found something
 abbrev pub run_status : SliceEnd → Bool → ℕ

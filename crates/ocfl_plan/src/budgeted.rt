@@ -4,7 +4,7 @@ ghost use Rattle.ocfl_plan.specs.Budgeted.{budgeted, is_spent, spent_in};
 
 use ocfl_arguments::NightAsked;
 use ocfl_cursor::{Budget, FileLimit, Limits, Meter};
-use ocfl_night::{Clock, Made};
+use ocfl_terms::{Clock, Made, counted};
 
 /// The most that a budget allows.
 const MOST_COST: u64 = 1 << 62;
@@ -81,6 +81,6 @@ impl<C: Clock + Drop> Clock for Budgeted<C> {
 
     fn hears(&mut self, made: &Made) {
         self.clock.hears(made);
-        self.spent = self.spent.saturating_add(made.spent);
+        self.spent = counted(self.spent, made.spent);
     }
 }

@@ -1,6 +1,6 @@
 //! A clock whose answers and runs something else hears of.
 
-use ocfl_night::{Clock, Made};
+use ocfl_terms::{Clock, Made};
 
 /// What hears of the runs of a night.
 pub trait Listener {

@@ -1,6 +1,6 @@
 //! What a clock with a budget keeps to.
 ghost use Rattle.std.specs.Prelude.{◌≡◌, ◌++◌, ◌∷◌, ◌<◌, List, Some, false, ℕ};
-ghost use Rattle.ocfl_night.specs.Clock.{Asked, Event};
+ghost use Rattle.ocfl_terms.specs.Clock.{Asked, Event};
 ghost use Rattle.ocfl_plan.specs.Budgeted.{budgeted, spent_in};
 
 /// A clock with a budget answers that a night is not asked to stop, as it does before each run, only

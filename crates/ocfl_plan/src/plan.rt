@@ -5,7 +5,7 @@ ghost use Rattle.ocfl_plan.specs.Plan.{end_of, plan_of, slice_of};
 use crate::budgeted::is_spent_by;
 use ocfl_arguments::{NightAsked, NightBounds, Until};
 use ocfl_cursor::Budget;
-use ocfl_night::Plan;
+use ocfl_terms::Plan;
 
 /// How much a run spends, if that is not said: 1 GiB.
 const SLICE: u64 = 1 << 30;

@@ -3,7 +3,7 @@ ghost use Rattle.std.specs.Prelude.{◌≡◌};
 ghost use Rattle.ocfl_plan.specs.Status.{closed_by, is_kept, is_logged, is_own, lacks};
 ghost use Rattle.ocfl_plan.specs.Status.{night_status, run_status};
 
-use ocfl_night::{Halt, Made, NightEnd, Refusal, SliceEnd, status_found, status_of};
+use ocfl_terms::{Halt, Made, NightEnd, Refusal, SliceEnd, status_found, status_of};
 
 /// The status of a run: 3 if it stopped, 1 if it found something, else 0.
 pub fn run_status(made: &Made) -> u8

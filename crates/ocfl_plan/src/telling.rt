@@ -2,10 +2,10 @@
 ghost use Rattle.std.specs.Prelude.{◌≡◌, IfOk, OnOk, Option};
 ghost use Rattle.std.specs.Io.KnownBytes.{Appends, Keeps};
 ghost use Rattle.ocfl_tree.specs.Place.{Text};
-ghost use Rattle.ocfl_night.specs.Output.{CountsFailure, Grew, HasFailed};
+ghost use Rattle.ocfl_terms.specs.Output.{CountsFailure, Grew, HasFailed};
 ghost use Rattle.ocfl_plan.specs.Telling.{Went};
 
-use ocfl_night::{Output, OutputFailed};
+use ocfl_terms::{Output, OutputFailed};
 use ocfl_report::write_all_of;
 use std::io::Write;
 

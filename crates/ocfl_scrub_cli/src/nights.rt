@@ -21,11 +21,12 @@ use ocfl_journal::{NightLog, SystemLog};
 use ocfl_kept::room::Room;
 use ocfl_kept::stand::Standing;
 use ocfl_kept::state_dir::Folder;
-use ocfl_night::{NightEnd, Output, Plan, Site, night};
+use ocfl_night::{Site, night};
 use ocfl_plan::{Budgeted, Hearing, Telling, plan_of};
 use ocfl_state::StateFolder;
 use ocfl_terminal::progress::{Clearing, Reasoned, Sight, Terminals, Watched, clear};
 use ocfl_terminal::streams::take_streams;
+use ocfl_terms::{NightEnd, Output, Plan};
 use ocfl_tree::Tree;
 use std::alloc::{AllocError, Global};
 use std::cell::Cell;
@@ -108,7 +109,7 @@ where
     R: Sight,
     S: StateFolder,
     T: Tree + Reasoned,
-    C: ocfl_night::Clock,
+    C: ocfl_terms::Clock,
     O: Output,
 {
     let mut tree = Watched::over(rt, tree, shown.is_shown, reasons, shown.last_cost);
@@ -150,7 +151,7 @@ where
     F: Folder + StateFolder + Drop,
     L: NightLog + Drop,
     T: Tree + Reasoned,
-    C: ocfl_night::Clock + Drop,
+    C: ocfl_terms::Clock + Drop,
     W: Write + Drop,
 {
     let Beside {

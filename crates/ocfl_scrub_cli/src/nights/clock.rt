@@ -3,8 +3,8 @@ ghost use Rattle.std.specs.Prelude.{[], false};
 
 use ocfl_journal::clock::StopFile;
 use ocfl_journal::{Journal, NightLog, RunMade};
-use ocfl_night::Made;
 use ocfl_plan::{Listener, is_kept, run_status};
+use ocfl_terms::Made;
 use std::rt::Files;
 use std::time::Clock;
 
@@ -15,7 +15,7 @@ pub(crate) struct System<'a, R> {
 }
 
 /// What the system does is not told.
-impl<R: Files + Clock> ocfl_night::Clock for System<'_, R> {
+impl<R: Files + Clock> ocfl_terms::Clock for System<'_, R> {
     ghost told = { false };
 
     ghost events = { λ _. [] };

@@ -7,8 +7,8 @@ use ocfl_journal::ending::Ended;
 use ocfl_journal::noting::Told;
 use ocfl_kept::names::Names;
 use ocfl_kept::state::words_of;
-use ocfl_night::NightEnd;
 use ocfl_plan::{closed_by, is_logged, night_status};
+use ocfl_terms::NightEnd;
 use std::alloc::{AllocError, Global};
 
 /// What the runs of a night came to.

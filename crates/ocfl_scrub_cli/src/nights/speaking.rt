@@ -2,8 +2,8 @@
 ghost use Rattle.std.specs.Prelude.{None, ⊤};
 
 use ocfl_journal::speaking::Speaker;
-use ocfl_night::OutputFailed;
 use ocfl_plan::Message;
+use ocfl_terms::OutputFailed;
 
 /// What makes the messages of a night.
 #[derive(Drop)]

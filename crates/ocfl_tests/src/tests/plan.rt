@@ -9,14 +9,13 @@ use crate::tests::common::store::place_of;
 use ocfl_arguments::{Chosen, NightAsked, NightBounds, Until};
 use ocfl_cursor::Budget;
 use ocfl_digest::Block;
-use ocfl_night::{
-    Clock, Flushing, Halt, Made, NightEnd, Output, OutputFailed, Refusal, Site, night,
-};
+use ocfl_night::{Site, night};
 use ocfl_plan::{
     Budgeted, Hearing, Listener, Message, Telling, closed_by, is_kept, is_logged, night_status,
     plan_of, run_status,
 };
 use ocfl_state::MemState;
+use ocfl_terms::{Clock, Flushing, Halt, Made, NightEnd, Output, OutputFailed, Refusal};
 use ocfl_tree::Place;
 use std::alloc::Global;
 use std::io::Write;

@@ -1,6 +1,6 @@
-//! The exit status after a night.
+//! The exit status after a night, and its counts.
 use ocfl_cursor::Refused;
-use ocfl_night::{Halt, Refusal, status_found, status_of};
+use ocfl_terms::{Halt, Refusal, counted, status_found, status_of};
 use std::test::Fail;
 
 #[test]
@@ -23,6 +23,14 @@ fn ends_have_statuses(rt: HostRuntime) -> Result<(), Fail> {
 fn findings_have_statuses(rt: HostRuntime) -> Result<(), Fail> {
     for (lost, findings, status) in [(false, 0, 0), (false, 5, 1), (true, 5, 3)] {
         assert_eq!(rt; status_found(lost, findings), status, "{lost} {findings}");
+    }
+    Ok(())
+}
+
+#[test]
+fn counts_have_an_end(rt: HostRuntime) -> Result<(), Fail> {
+    for (old, more, count) in [(2, 3, 5), (u64::MAX - 1, 1, u64::MAX), (u64::MAX, 9, u64::MAX)] {
+        assert_eq!(rt; counted(old, more), count, "{old} {more}");
     }
     Ok(())
 }

@@ -5,7 +5,8 @@ use Rattle.ocfl_scrub.specs.Starting.{part_of}
 use Rattle.ocfl_state.specs.{Checkpoint.{Checkpoint}, Content.{Closed, is_closed}}
 use Rattle.ocfl_night.specs.{Beginning.{Position, StandsAt}, Looks.{Rounds, of_any}}
 use Rattle.ocfl_tree.specs.Place.{Text}
-use Rattle.ocfl_night.specs.{Done.{done_of}, Ending.{cycle_of}, Output.{HasFailed}, Sound.{IsAt, IsOneMore, IsReady}, Stopping.{ForRuns, IsGiven}}
+use Rattle.ocfl_night.specs.{Done.{done_of}, Ending.{cycle_of}, Sound.{IsAt, IsOneMore, IsReady}, Stopping.{ForRuns, IsGiven}}
+use Rattle.ocfl_terms.specs.Output.{HasFailed}
 use Rattle.ocfl_night.proofs.Beginnings.{ended_in, none_ended, one_more_since, shut_before}
 use Rattle.ocfl_night.proofs.Runs.{halted_so, made_so, troubled_after, troubled_in}
 use Rattle.ocfl_night.proofs.{Moments.{joined_moments}, Heard.{grows_none, said_on, silent}}

@@ -7,7 +7,8 @@ use Rattle.ocfl_state.specs.Content.{Closed, Content}
 use Rattle.ocfl_night.specs.{Again.{IsLittleAgain}, Done.{Done, done_of}, Leaving.{has_end}, Sound.{IsSafeNight}, Site.{IsOfStore, part_at}}
 use Rattle.ocfl_night.specs.Looks.{Counts, Known, Rounds, look_between, of_any}
 use Rattle.ocfl_scrub.specs.Starting.{part_of}
-use Rattle.ocfl_night.specs.{Beginning.{Position, StandsAt}, Output.{HasFailed}, Ending.{cycle_of, ended_by}, Sound.{IsAt, IsKept, IsOneMore, IsReady}, Steps.{IsNotBegun}}
+use Rattle.ocfl_night.specs.{Beginning.{Position, StandsAt}, Ending.{cycle_of, ended_by}, Sound.{IsAt, IsKept, IsOneMore, IsReady}, Steps.{IsNotBegun}}
+use Rattle.ocfl_terms.specs.Output.{HasFailed}
 use Rattle.ocfl_night.specs.declared.nights.Begun.{Begun}
 use Rattle.ocfl_night.specs.Stopping.{ForNight, ForRuns, IsGiven, IsUnlooked, TellsKept, course}
 use Rattle.ocfl_night.proofs.Beginnings.{one_more_since, refused_still, shut_since, still_on}
@@ -17,7 +18,8 @@ use Rattle.ocfl_night.proofs.Heard.{heard_through, on_ok, ready_since, since_sou
 use Rattle.ocfl_night.proofs.Halting.{counts_failed, failed_first}
 use Rattle.ocfl_night.proofs.{Foreigners.{of_store}, Newest.{newest}}
 use Rattle.ocfl_night.proofs.Reasons.{ended_troubled, failed_since, night_reason, opened_reason, stopped_reason, unbegun_reason, unbegun_troubled}
-use Rattle.ocfl_night.specs.{Reading.{IsReadTo, content_since, reached}, declared.plan.Halt.{Halt}}
+use Rattle.ocfl_night.specs.Reading.{IsReadTo, content_since, reached}
+use Rattle.ocfl_terms.specs.declared.plan.Halt.{Halt}
 use Rattle.ocfl_night.proofs.Reading.{in_order, night_beyond, night_read, none_beyond, unbegun_order}
 use Rattle.ocfl_night.proofs.nights.night.Given as given
 use Rattle.ocfl_night.proofs.nights.night.Goals.{After-make_runs-through}

@@ -4,10 +4,11 @@ use Rattle.std.specs.Prelude.{IsTrue}
 use Rattle.ocfl_tree.specs.{Place.{Text}, StorageRoot.{StorageRoot}}
 use Rattle.ocfl_item.specs.Judging.{HasShortFiles}
 use Rattle.ocfl_scrub.specs.{Keeping.{met_at}, Starting.{part_of}}
-use Rattle.ocfl_night.specs.{Clock.{Event, Asked, Read, Heard}, Done.{Done, counted, done_of, with_made}, Leaving.{LeadsOn, MayLeave}}
+use Rattle.ocfl_terms.specs.{Clock.{Event, Asked, Read, Heard}, Counting.{counted}}
+use Rattle.ocfl_night.specs.{Done.{Done, done_of, with_made}, Leaving.{LeadsOn, MayLeave}}
 use Rattle.ocfl_state.specs.declared.checkpoint_parts.Phase.TheVariants.{Open}
 use Rattle.ocfl_night.specs.Runs.{Run, IsRunOf, MayBeginAt, MayHaveLeft, StopsOpen, after_it, after_made, events_of, in_it, turn_of}
-use Rattle.ocfl_night.specs.declared.plan.Pause.{Pause}
+use Rattle.ocfl_night.specs.declared.pause.Pause.{Pause}
 use Rattle.ocfl_night.specs.Looks.{Counts, IsOneOf, Known, look_between, of_any}
 use Rattle.ocfl_night.specs.Stopping.{ForRuns, IsGiven, IsPassedBy}
 use Rattle.ocfl_night.specs.{Promises.{IsSafeIn, StopsNext}, Sound.{IsReady}}

@@ -4,7 +4,8 @@ use Rattle.std.specs.Prelude.{IsTrue}
 use Rattle.ocfl_night.specs.Stopping.{ForFirst}
 use Rattle.ocfl_night.proofs.Reasons.{opens_at, put_by, too_long}
 use Rattle.ocfl_state.specs.{Checkpoint.{Checkpoint}, Content.{Content}}
-use Rattle.ocfl_night.specs.{Beginning.{position}, Refusing.{IsUnbegun}, Sound.{IsNew}, declared.refusal.Refusal.TheVariants.{HasReports}}
+use Rattle.ocfl_night.specs.{Beginning.{position}, Refusing.{IsUnbegun}, Sound.{IsNew}}
+use Rattle.ocfl_terms.specs.declared.refusal.Refusal.TheVariants.{HasReports}
 use Rattle.ocfl_night.proofs.{Moments.{unmoved}, Sound.{first_stands, mark_moments, put_ready}}
 use Rattle.ocfl_night.proofs.TakingUp.{begun_moments, new_here}
 use Rattle.ocfl_night.proofs.opening.begin.Goals as goal

@@ -1,7 +1,7 @@
 use Rattle.std.proofs.Common.{◌≡◌, ◌≤◌, ◌-◌, take, drop}
 use Rattle.std.specs.{Prelude.{IsTrue}, Io.KnownBytes.{Appends}}
 use Rattle.ocfl_state.specs.Crash.{Same, Passes}
-use Rattle.ocfl_night.specs.Output.{Grows}
+use Rattle.ocfl_terms.specs.Output.{Grows}
 use Rattle.ocfl_night.proofs.saying.say_between.Given as goal
 
 abbrev pub invariant-loop-at : goal.invariant-loop-at

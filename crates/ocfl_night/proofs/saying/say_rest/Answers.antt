@@ -1,6 +1,6 @@
 use Rattle.std.proofs.Common.{subst, arith}
 use Rattle.ocfl_tree.specs.Place.{Text}
-use Rattle.ocfl_night.specs.Output.{HasCommitted}
+use Rattle.ocfl_terms.specs.Output.{HasCommitted}
 use Rattle.ocfl_night.proofs.Heard.{committed_grows, grows_on, has_committed, unsaid_as}
 use Rattle.ocfl_night.proofs.saying.say_rest.Goals as goal
 

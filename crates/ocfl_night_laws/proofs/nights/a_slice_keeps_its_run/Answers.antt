@@ -1,7 +1,8 @@
 use Rattle.std.proofs.Common.{◌≡◌, inl, inr, subst}
 use Rattle.ocfl_cursor.specs.declared.limits.Limits.{Limits}
 use Rattle.ocfl_state.specs.Checkpoint.{Checkpoint}
-use Rattle.ocfl_night.specs.{Ending.{IsAway, IsRunKept, IsSlice}, declared.slicing.{Made.{Made}, SliceEnd.{SliceEnd}}}
+use Rattle.ocfl_night.specs.Ending.{IsAway, IsRunKept, IsSlice}
+use Rattle.ocfl_terms.specs.{declared.made.Made.{Made}, declared.made.SliceEnd.{SliceEnd}}
 use Rattle.ocfl_night_laws.proofs.nights.a_slice_keeps_its_run.Goals as goal
 
 -- after another end than these the root was that of before

@@ -2,8 +2,8 @@
 use super::{FIRST, Nights, ending, night_of, plan};
 use crate::tests::common::Runtime;
 use crate::tests::common::digests::lines_of;
-use ocfl_night::{Halt, Refusal};
 use ocfl_state::{MemState, Phase, StateFolder, decode_checkpoint};
+use ocfl_terms::{Halt, Refusal};
 use std::alloc::Global;
 use std::test::Fail;
 

@@ -8,8 +8,9 @@ use crate::tests::common::store::times_opened;
 use ocfl_cursor::Budget;
 use ocfl_digest::Block;
 use ocfl_memory::MemTree;
-use ocfl_night::{Clock, Flushing, Made, night};
+use ocfl_night::night;
 use ocfl_state::MemState;
+use ocfl_terms::{Clock, Flushing, Made};
 use std::test::Fail;
 
 /// The audit of the root with the right objects `p`, `q` and `r`.

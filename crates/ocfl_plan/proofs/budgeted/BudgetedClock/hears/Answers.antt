@@ -1,5 +1,5 @@
 use Rattle.std.proofs.Common.{◌∙◌}
-use Rattle.ocfl_night.specs.Clock.{Heard}
+use Rattle.ocfl_terms.specs.Clock.{Heard}
 use Rattle.ocfl_plan.proofs.Budgets.{now_happened, now_spent}
 use Rattle.ocfl_plan.proofs.budgeted.BudgetedClock.hears.Goals as goal
 

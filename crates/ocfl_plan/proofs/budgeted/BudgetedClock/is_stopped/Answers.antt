@@ -1,4 +1,4 @@
-use Rattle.ocfl_night.specs.Clock.{Asked}
+use Rattle.ocfl_terms.specs.Clock.{Asked}
 use Rattle.ocfl_plan.proofs.Budgets.{now_spent, spent_so, stops_so}
 use Rattle.ocfl_plan.proofs.budgeted.BudgetedClock.is_stopped.Goals as goal
 

@@ -1,4 +1,4 @@
-use Rattle.ocfl_night.specs.Clock.{Read}
+use Rattle.ocfl_terms.specs.Clock.{Read}
 use Rattle.ocfl_plan.proofs.Budgets.{now_happened, now_spent}
 use Rattle.ocfl_plan.proofs.budgeted.BudgetedClock.now.Goals as goal
 

@@ -1,7 +1,7 @@
 //! Why a night ended early.
 ghost use Rattle.std.specs.Prelude.{◌≡◌};
 ghost use Rattle.ocfl_state.specs.declared.folder.FolderTrouble.TheVariants.{Memory};
-ghost use Rattle.ocfl_night.specs.declared.stop.Stop.TheVariants.{Folder, Output};
+ghost use Rattle.ocfl_terms.specs.declared.stop.Stop.TheVariants.{Folder, Output};
 
 use crate::output::OutputFailed;
 use ocfl_state::FolderTrouble;

@@ -1,13 +1,13 @@
 //! What a night may do, and what it did.
 ghost use Rattle.std.specs.Prelude.{◌≡◌, ◌++◌, ◌∷◌, [], Bool, IsTrue, List};
-ghost use Rattle.ocfl_night.specs.Clock.{Asked, Event, Heard, Read};
+ghost use Rattle.ocfl_terms.specs.Clock.{Asked, Event, Heard, Read};
 
+use crate::made::Made;
 use crate::refusal::Refusal;
-use crate::slicing::Made;
 use crate::stop::Stop;
 use ocfl_cursor::Budget;
+use ocfl_item::Fault;
 use ocfl_tree::Place;
-use ocfl_walk::Fault;
 
 /// A clock, which also knows whether the night is asked to stop, and hears of its runs. It may
 /// answer anything.
@@ -71,18 +71,6 @@ pub enum Halt {
     Refused(Refusal),
     /// Something else failed.
     Troubled(Stop),
-}
-
-/// Why a night makes no further run.
-#[derive(Debug, Drop)]
-pub(crate) enum Pause {
-    TimeUp,
-    Spent,
-    Asked,
-    Stopped(Fault),
-    RootChanged,
-    /// The cycle has ended.
-    Closing,
 }
 
 /// What a night did.

@@ -1,6 +1,6 @@
 //! The exit status of a program after a night.
 ghost use Rattle.std.specs.Prelude.{◌≡◌};
-ghost use Rattle.ocfl_night.specs.Status.{found_status, halt_status, refusal_status};
+ghost use Rattle.ocfl_terms.specs.Status.{found_status, halt_status, refusal_status};
 
 use crate::plan::Halt;
 use crate::refusal::Refusal;

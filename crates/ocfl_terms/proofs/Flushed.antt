@@ -3,7 +3,10 @@ use Rattle.std.proofs.Common.{◌≡◌, ℕ, ◌+◌, ◌-◌, ◌<◌, [], Opt
 use Rattle.std.proofs.lemmas.List.{length-take, take_all, take-append-le}
 use Rattle.std.specs.{Io.KnownBytes.{Appends, Keeps}, Option.{option_map}}
 use Rattle.ocfl_tree.specs.Place.{Text}
-use Rattle.ocfl_night.specs.Output.{Grew, flushed}
+use Rattle.ocfl_terms.specs.Output.{Grew, flushed}
+
+pub grew_none : (s : Option Text) → Grew s s
+grew_none s = ([], Appends-nil s)
 
 pub grew_by : (old new : Option Text) (more : Text) → Appends old new more → Grew old new
 grew_by old new more on = (more, on)

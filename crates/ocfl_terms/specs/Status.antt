@@ -1,8 +1,8 @@
 -- The exit status of a program after a night.
 use Rattle.std.specs.Prelude.{ℕ, ◌==◌, Bool, if◌then◌else◌}
-use Rattle.ocfl_night.specs.{declared.plan.Halt.{Halt}, declared.refusal.Refusal.{Refusal}}
-use Rattle.ocfl_night.specs.declared.plan.Halt.TheVariants as halt
-use Rattle.ocfl_night.specs.declared.refusal.Refusal.TheVariants as refusal
+use Rattle.ocfl_terms.specs.{declared.plan.Halt.{Halt}, declared.refusal.Refusal.{Refusal}}
+use Rattle.ocfl_terms.specs.declared.plan.Halt.TheVariants as halt
+use Rattle.ocfl_terms.specs.declared.refusal.Refusal.TheVariants as refusal
 
 -- 4 if the checkpoint cannot be read
 abbrev pub refusal_status : Refusal → ℕ

@@ -1,7 +1,7 @@
 //! What a night says goes out by an output.
 ghost use Rattle.std.specs.Prelude.{◌≡◌, OnOk};
 ghost use Rattle.std.specs.Io.KnownBytes.{Appends, Keeps};
-ghost use Rattle.ocfl_night.specs.Output.{CountsFailure, Grew, HasFailed, Said, said_by};
+ghost use Rattle.ocfl_terms.specs.Output.{CountsFailure, Grew, HasFailed, Said, said_by};
 
 use ocfl_report::write_all_of;
 use std::io::Write;
@@ -76,7 +76,7 @@ impl<W: Write + Drop> Output for Flushing<W> {
     ghost said = { λ output. said_by (W.contents output.out) output.unflushed output.failures };
 
     /// Fails too if 2^64 bytes or more would be unflushed.
-    #[tactic(auto, using(crate::proofs::Flushed::grew_by, crate::proofs::Flushed::kept_all, crate::proofs::Flushed::kept_on, crate::proofs::Flushed::kept_short, crate::proofs::Heard::grew_none))]
+    #[tactic(auto, using(crate::proofs::Flushed::grew_by, crate::proofs::Flushed::kept_all, crate::proofs::Flushed::kept_on, crate::proofs::Flushed::kept_short, crate::proofs::Flushed::grew_none))]
     fn give(&mut self, text: &[u8]) -> Result<(), OutputFailed> {
         let Some(unflushed) = self.unflushed.checked_add(text.len() as u64) else {
             self.failures = failed_again(self.failures);

@@ -1,0 +1,4 @@
+pub mod Clock
+pub mod Counting
+pub mod Output
+pub mod Status

@@ -5,6 +5,7 @@ use Rattle.std.specs.{Result.{IsErr, IsErrAnd, IsOk, OnErr, OnOk}, Io.KnownBytes
 use Rattle.ocfl_tree.specs.Place.{Text}
 use Rattle.ocfl_night.specs.Looks.{Rounds}
 use Rattle.ocfl_terms.specs.Output.{Grew, Grows, HasCommitted, HasTaken, Said}
+use Rattle.ocfl_terms.proofs.Flushed.{grew_none}
 use Rattle.ocfl_state.specs.{Checkpoint.{Checkpoint}, Content.{Content}}
 use Rattle.ocfl_state.specs.declared.folder.StateFolder as state
 use Rattle.ocfl_state.specs.Crash.{Outcomes, Only, Same, Passes, LeavesOnly}
@@ -12,7 +13,6 @@ use Rattle.ocfl_night.specs.Sound.{Stands, IsSoundAt, IsSound, AreSound, IsReady
 use Rattle.ocfl_night.specs.Steps.{MayCheckpoint, IsCheckpointPut, unsaid}
 use Rattle.ocfl_night.proofs.Moments.{OnlyNow, leaves, unchanged, unmoved, leaves_weaker, joined_moments}
 use Rattle.ocfl_night.proofs.Sound.{sound_holds, marked_put, ready_sound, ready_on, put_on}
-
 
 pub grew_on : (s0 s1 s2 : Option Text) → Grew s0 s1 → Grew s1 s2 → Grew s0 s2
 grew_on s0 s1 s2 a b = (a.0 ++ b.0, Appends-trans s0 s1 s2 a.0 b.0 a.1 b.1)

@@ -3,7 +3,7 @@
 use Rattle.std.specs.Prelude.{⊤, ℕ, ◌≡◌, ◌≢◌, ◌⊎◌, ◌+◌, List, [], ◌∷◌, ◌++◌, true, false, Option, Some, None, flat_map}
 use Rattle.std.specs.{List.{AllByRecursion}, Ordering.{is_lt}}
 use Rattle.ocfl_tree.specs.{Place.{Text, Place, place_cmp}, Ascending.{IsAmong}, StorageRoot.{StorageRoot}}
-use Rattle.ocfl_rules.specs.{Audit.{after}, Parts.{Part}, Trail.{unread_of}}
+use Rattle.ocfl_rules.specs.{Parts.{Part}, Trail.{unread_of}}
 use Rattle.ocfl_cursor.specs.Cursor.{Cursor}
 use Rattle.ocfl_scrub.specs.{Running.{place_in}, Joining.{PartRun, Ran}, Starting.{due_within}}
 use Rattle.ocfl_scrub.specs.declared.running.RunStatus.TheVariants as status

@@ -169,5 +169,5 @@ pub record IsOneMore (rounds : Rounds) (cycle : ℕ) (old new : Content) : Type 
 -- more than was told is told only if the output has committed it. That holds whatever looks the runs are
 -- within, if that of this night is within one of them.
 abbrev pub IsSafeNight : {F : Type 0} → state.Ghosts F → Part → Look → F → F → Said → Said → Type 0
-IsSafeNight S part look began ended old new =
-    WithLook part look (λ rounds. (kept : IsKept S rounds began) → LeavesOnly S.moment S.left_since began ended (IsHeardSince rounds (S.may_leave began) kept old new))
+IsSafeNight S part look from to old new =
+    WithLook part look (λ rounds. (kept : IsKept S rounds from) → LeavesOnly S.moment S.left_since from to (IsHeardSince rounds (S.may_leave from) kept old new))

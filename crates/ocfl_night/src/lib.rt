@@ -85,6 +85,8 @@ pub use leaving::leave_out;
 pub use nights::night;
 pub use not_opened::NotOpened;
 pub use opening::{Opened, open};
+pub use pause::Pause;
 pub use saying::speak;
 pub use site::Site;
 pub use slicing::slice;
+pub use tally::Remedy;

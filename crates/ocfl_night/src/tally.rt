@@ -16,7 +16,7 @@ const MOST_LEFT: usize = 16;
 const MOST_STOPS: u64 = 64;
 
 /// What was done so far.
-#[derive(Debug, Drop)]
+#[derive(Drop)]
 pub(crate) struct Tally {
     pub(crate) runs: u64,
     /// When the first run began.
@@ -32,8 +32,8 @@ pub(crate) struct Tally {
 }
 
 /// What a night does about a run that stopped at a place.
-#[derive(Debug, Drop)]
-pub(crate) enum Remedy {
+#[derive(Drop)]
+pub enum Remedy {
     /// The place is tried once more.
     TryAgain,
     /// This branch is left out.

@@ -7,7 +7,7 @@ use Rattle.ocfl_tree.proofs.Places.{place_eq-Decides, place_eq-same}
 use Rattle.ocfl_item.specs.declared.fault.Fault.TheVariants as fault
 use Rattle.ocfl_state.specs.{Checkpoint.{Checkpoint}, Content.{Content}}
 use Rattle.ocfl_night.specs.{Beginning.{Position, StandsAt}, Done.{Done, nothing_done, with_begun, with_made}}
-use Rattle.ocfl_terms.specs.Clock.{Event, Asked, Heard}
+use Rattle.ocfl_terms.specs.Clock.{Event, Heard}
 use Rattle.ocfl_night.specs.Halting.{AreFailed, stopped_at, stops_at}
 use Rattle.ocfl_night_laws.specs.Halts.{HaltsAt, IsHaltedAt, NothingHelps, again, asked, often, stopped, unread}
 use Rattle.ocfl_night.specs.{Leaving.{branch_at, branch_for, done_by, has_end, is_at, remedy_at, remedy_by, tried_by}, Looks.{failed_at}}

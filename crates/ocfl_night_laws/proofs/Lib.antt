@@ -4,4 +4,4 @@ mod Clocks
 mod Halts
 mod Missing
 mod Readings
-mod Refusals
+mod Reasons

@@ -1,6 +1,6 @@
 -- When a place at which a run stopped ends the night.
 use Rattle.std.specs.Prelude.{◌≡◌, ◌⊎◌, ◌≤◌, List, Bool, true, false, Some, length}
-use Rattle.ocfl_tree.specs.{Place.{Place}, Store.{Store}}
+use Rattle.ocfl_tree.specs.{Place.{Place}}
 use Rattle.ocfl_item.specs.declared.fault.Fault.TheVariants as fault
 use Rattle.ocfl_state.specs.Checkpoint.{Checkpoint}
 use Rattle.ocfl_terms.specs.Clock.{Event}

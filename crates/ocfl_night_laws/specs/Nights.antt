@@ -9,7 +9,7 @@ use Rattle.ocfl_state.specs.Checkpoint.{Checkpoint}
 use Rattle.ocfl_state.specs.declared.folder.StateFolder as state
 use Rattle.ocfl_state.specs.declared.checkpoint_parts.{Left.{Left}, Phase.TheVariants.{Closing}}
 use Rattle.ocfl_night_laws.specs.Around.{AreNext, around}
-use Rattle.ocfl_night.specs.{Chain.{AreLeft, HasClosed}, Looks.{Known, Look, Rounds}, Sound.{IsAt, IsSoundAt}}
+use Rattle.ocfl_night.specs.{Chain.{AreLeft, HasClosed}, Looks.{Known, Look, Rounds}, Sound.{IsAt, IsSafeNight, IsSoundAt}}
 use Rattle.ocfl_terms.specs.Output.{HasTaken, Said}
 
 -- A night: of which cycles closed reports may have been taken away before it, the folder when it began

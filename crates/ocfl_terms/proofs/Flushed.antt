@@ -1,6 +1,6 @@
 -- What an output over a writer has committed.
 use Rattle.std.proofs.Common.{◌≡◌, ℕ, ◌+◌, ◌-◌, ◌<◌, [], Option, Some, None, refl, sym, ◌∙◌, ap, arith, length, length-append, take, drop, take-append-drop, append-nil}
-use Rattle.std.proofs.lemmas.List.{length-take, take_all, take-append-le}
+use Rattle.std.proofs.{KnownBytes.{Appends-nil}, lemmas.List.{length-take, take_all, take-append-le}}
 use Rattle.std.specs.{Io.KnownBytes.{Appends, Keeps}, Option.{option_map}}
 use Rattle.ocfl_tree.specs.Place.{Text}
 use Rattle.ocfl_terms.specs.Output.{Grew, flushed}

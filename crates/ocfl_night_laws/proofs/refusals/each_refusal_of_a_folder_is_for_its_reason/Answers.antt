@@ -1,4 +1,4 @@
-use Rattle.ocfl_night_laws.proofs.Refusals.{has_reports_is, no_checkpoint_is, older_is, unread_is}
+use Rattle.ocfl_night_laws.proofs.Reasons.{has_reports_is, no_checkpoint_is, older_is, unread_is}
 use Rattle.ocfl_night_laws.proofs.refusals.each_refusal_of_a_folder_is_for_its_reason.Goals as goal
 
 pub returns-clause-no_checkpoint : goal.returns-clause-no_checkpoint

@@ -1,4 +1,4 @@
-use Rattle.ocfl_night_laws.proofs.Refusals.{names_gone_is, no_root_is, other_declaration_is, other_part_is, other_root_is}
+use Rattle.ocfl_night_laws.proofs.Reasons.{names_gone_is, no_root_is, other_declaration_is, other_part_is, other_root_is}
 use Rattle.ocfl_night_laws.proofs.refusals.each_refusal_of_a_root_is_for_its_reason.Goals as goal
 
 pub returns-clause-no_root : goal.returns-clause-no_root

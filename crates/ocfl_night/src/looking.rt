@@ -27,7 +27,7 @@ impl From<NoIdentity> for NotOpened {
 }
 
 /// Why nothing of a run is kept.
-#[derive(Debug, Drop)]
+#[derive(Drop)]
 pub(crate) enum NotKept {
     /// After it the root is gone, or another one.
     RootChanged,

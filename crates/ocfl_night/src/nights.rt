@@ -456,7 +456,7 @@ fn make_runs<S: StateFolder, T: Tree, C: Clock, O: Output>(
 }
 
 /// What a night has once it is begun.
-#[derive(Debug, Drop)]
+#[derive(Drop)]
 struct Begun {
     part: Part,
     identity: Identity,

@@ -9,7 +9,7 @@ use ocfl_terms::{Refusal, Stop};
 use std::alloc::AllocError;
 
 /// Why a night was not begun: it was refused, or something failed.
-#[derive(Debug, Drop)]
+#[derive(Drop)]
 pub enum NotOpened {
     /// Nothing in the folder was changed.
     Refused(Refusal),

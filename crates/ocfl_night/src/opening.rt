@@ -13,9 +13,9 @@ ghost use Rattle.ocfl_night.specs.Steps.{IsLost, IsOpened, IsTakenUp, KeepsFront
 ghost use Rattle.ocfl_night.specs.{Site.{IsOfSite}, Stopping.{ForFirst, ForNoOther, ForOpen, ForPut, IsToOpen, OpensFor, StopsFor}};
 
 use crate::checkpoint::{bytes_of, cycle_of, look, phase_of, put_checkpoint, report_of};
+use crate::not_opened::NotOpened;
 use crate::older::refuse_older;
 use crate::owning::{first_checkpoint, own, with_root};
-use crate::not_opened::NotOpened;
 use crate::reports::{cut_report, find_lost};
 use crate::site::Site;
 use ocfl_identity::Identity;
@@ -24,7 +24,7 @@ use ocfl_terms::{Plan, Refusal, Stop};
 use std::alloc::Global;
 
 /// What a night begins with.
-#[derive(Debug, Drop)]
+#[derive(Drop)]
 pub struct Opened {
     pub checkpoint: Checkpoint,
     /// Whether the report was shorter than the checkpoint said, or had another tail.

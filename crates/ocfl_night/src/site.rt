@@ -9,7 +9,7 @@ use ocfl_tree::Place;
 use std::alloc::{AllocError, Global};
 
 /// What nights over one state folder read: a storage root, or a part of it.
-#[derive(Debug, Drop)]
+#[derive(Drop)]
 pub struct Site {
     /// The path of the storage root, as the system resolves it: the names on the way from `/`.
     pub path: Place,

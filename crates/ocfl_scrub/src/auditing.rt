@@ -15,7 +15,7 @@ use std::alloc::Global;
 use std::io::Write;
 
 /// What an audit did.
-#[derive(Debug, Drop)]
+#[derive(Drop)]
 pub struct AuditEnd {
     /// Whether a line of an item that went out whole is a finding.
     pub found: bool,

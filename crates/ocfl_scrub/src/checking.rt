@@ -11,14 +11,14 @@ use std::alloc::Global;
 use std::io::Write;
 
 /// How an audit or a check ended.
-#[derive(Debug, Drop)]
+#[derive(Drop)]
 pub enum AuditStatus {
     Ended,
     Stopped(ReportStop),
 }
 
 /// What a check did.
-#[derive(Debug, Drop)]
+#[derive(Drop)]
 pub struct CheckEnd {
     /// Whether a line that was written is a finding.
     pub found: bool,

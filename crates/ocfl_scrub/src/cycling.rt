@@ -17,7 +17,7 @@ use std::alloc::Global;
 use std::io::Write;
 
 /// How a cycle ended.
-#[derive(Debug, Drop)]
+#[derive(Drop)]
 pub enum CycleStatus {
     /// No item is left.
     Ended,
@@ -28,7 +28,7 @@ pub enum CycleStatus {
 }
 
 /// What a cycle did.
-#[derive(Debug, Drop)]
+#[derive(Drop)]
 pub struct CycleEnd {
     /// The cursor of the last run.
     pub cursor: Cursor,

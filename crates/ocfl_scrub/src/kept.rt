@@ -4,7 +4,7 @@ ghost use Rattle.std.specs.Prelude.{◌≡◌, ◌≤◌, None, length};
 use ocfl_walk::{Pending, Walk};
 
 /// A walk, and the item that it met and that was not taken.
-#[derive(Debug, Drop)]
+#[derive(Drop)]
 pub(crate) struct Met {
     pub(crate) walk: Walk,
     pub(crate) item: Pending,
@@ -15,7 +15,6 @@ pub(crate) struct Met {
 ///
 /// It holds what a walk holds and one item, no file's bytes. It is of use for a run of the same
 /// part of the same root that goes on from the cursor that the run before answered.
-#[derive(Debug)]
 pub struct KeptWalk {
     pub(crate) met: Option<Met>,
 }

@@ -9,7 +9,7 @@ use std::fmt;
 
 /// What a command says on standard error when it ends: its `Display` is one line, without what the
 /// program puts before it.
-#[derive(Debug, Drop)]
+#[derive(Drop)]
 pub enum Note {
     /// Nothing is said.
     Nothing,

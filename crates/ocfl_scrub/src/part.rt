@@ -14,7 +14,7 @@ use ocfl_walk::{End, Fault, Walk};
 use std::alloc::{AllocError, Global};
 
 /// A part of a storage root: the places of one branch, from a first place to before a last one.
-#[derive(Debug, Drop)]
+#[derive(Drop)]
 pub struct Part {
     /// The part has no place before this one. `None`: it begins with its branch.
     pub from: Option<Place>,

@@ -22,7 +22,7 @@ use std::alloc::{AllocError, Global};
 use std::io::{Read, Write};
 
 /// What a command ends with.
-#[derive(Debug, Drop)]
+#[derive(Drop)]
 pub struct Performed {
     /// The exit status: 0 without a finding, 1 with one. 2 if the path is not that of a place, or
     /// a branch has no item. 3 after a stop, for a worn cursor, or if no cursor could be read. 4 if

@@ -24,7 +24,7 @@ use std::alloc::Global;
 use std::io::Write;
 
 /// How a run ended.
-#[derive(Debug, Drop)]
+#[derive(Drop)]
 pub enum RunStatus {
     /// No item is left: the cycle has ended.
     Ended,
@@ -37,7 +37,7 @@ pub enum RunStatus {
 }
 
 /// What a run did.
-#[derive(Debug, Drop)]
+#[derive(Drop)]
 pub struct RunEnd {
     /// Where the next run begins.
     pub cursor: Cursor,
@@ -211,7 +211,7 @@ fn left_state(end: &RunStatus, last: Option<Place>) -> State
 }
 
 // What a pass over the items above a place did.
-#[derive(Debug, Drop)]
+#[derive(Drop)]
 struct Pass {
     last: Option<Place>,
     spent: u64,

@@ -3,7 +3,7 @@
 use ocfl_walk::Fault;
 
 /// Why a check, an audit, a run or a cycle stops.
-#[derive(Debug, Drop)]
+#[derive(Drop)]
 pub enum ReportStop {
     /// The store did not answer, or memory was refused.
     Fault(Fault),

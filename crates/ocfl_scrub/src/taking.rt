@@ -13,7 +13,7 @@ use std::alloc::Global;
 use std::io::Write;
 
 /// An item whose lines went out whole.
-#[derive(Debug, Drop)]
+#[derive(Drop)]
 pub(crate) struct Taken {
     pub(crate) place: Place,
     /// What it cost.

@@ -5,7 +5,7 @@ use ocfl_state::Checkpoint;
 use ocfl_tree::Place;
 
 /// How a slice ended.
-#[derive(Debug, Drop)]
+#[derive(Drop)]
 pub enum SliceEnd {
     /// No item is left: the cycle has ended.
     Ended,
@@ -20,7 +20,7 @@ pub enum SliceEnd {
 }
 
 /// What a slice made.
-#[derive(Debug, Drop)]
+#[derive(Drop)]
 pub struct Made {
     /// The checkpoint after it.
     pub checkpoint: Checkpoint,

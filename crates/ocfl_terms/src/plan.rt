@@ -32,7 +32,7 @@ pub trait Clock {
 }
 
 /// What a night may do.
-#[derive(Clone, Copy, Debug)]
+#[derive(Clone, Copy)]
 pub struct Plan {
     /// How much each run may spend.
     pub slice_budget: Budget,
@@ -52,7 +52,7 @@ pub struct Plan {
 }
 
 /// What ended a night.
-#[derive(Debug, Drop)]
+#[derive(Drop)]
 pub enum Halt {
     /// The cycle of this number has ended, and its report is closed.
     CycleEnded(u64),
@@ -74,7 +74,7 @@ pub enum Halt {
 }
 
 /// What a night did.
-#[derive(Debug, Drop)]
+#[derive(Drop)]
 pub struct NightEnd {
     /// How many runs it began, at most 2^64 - 1.
     pub runs: u64,

@@ -4,7 +4,7 @@ use ocfl_cursor::Refused;
 use ocfl_tree::Place;
 
 /// Why a night is refused: nothing was run, and nothing in the folder was changed.
-#[derive(Debug, Drop)]
+#[derive(Drop)]
 pub enum Refusal {
     /// There is no checkpoint, and none is to be made.
     NoCheckpoint,

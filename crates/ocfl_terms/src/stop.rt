@@ -9,7 +9,7 @@ use ocfl_tree::Place;
 use std::alloc::AllocError;
 
 /// Why a night ended early.
-#[derive(Debug, Drop)]
+#[derive(Drop)]
 pub enum Stop {
     /// A call of the state folder failed, or memory was refused.
     Folder(FolderTrouble),

@@ -307,7 +307,9 @@ fn a_branch_is_left_out_where_the_cursor_stands(rt: HostRuntime) -> Result<(), F
     let mut tree = failing(alloc, &[])?;
     let _ = night_in(alloc, &mut folder, &mut tree, &plan(Some(1), None, true)?)?;
     let before = checkpoint_of(alloc, &folder)?;
-    let next = leave_out(alloc, &mut folder, before, place_of(alloc, "p")?)?;
+    let Ok(next) = leave_out(alloc, &mut folder, before, place_of(alloc, "p")?) else {
+        return Err(Fail::from("it is not left out"));
+    };
     let stored = checkpoint_of(alloc, &folder)?;
     for checkpoint in [&next, &stored] {
         expect_one_left(&rt, checkpoint, ("p", "p"))?;

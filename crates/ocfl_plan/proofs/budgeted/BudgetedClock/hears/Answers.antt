@@ -5,7 +5,7 @@ use Rattle.ocfl_plan.proofs.budgeted.BudgetedClock.hears.Goals as goal
 
 pub invariant_of-self : goal.invariant_of-self
 invariant_of-self g c = record {
-  spent_is = λ t. c.saturating_add-self.ensures ∙ now_spent _ _ (Heard c.args.made.now) c.args.self.now.spent (c.hears.ensures t) (c.args.self.now.spent_is t);
+  spent_is = λ t. c.counted-self.ensures ∙ now_spent _ _ (Heard c.args.made.now) c.args.self.now.spent (c.hears.ensures t) (c.args.self.now.spent_is t);
 }
 
 pub returns : goal.returns

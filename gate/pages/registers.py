@@ -13,7 +13,7 @@ from typing import Callable, Iterator
 from gate.edits.functions import seen_outside
 from gate.repository import TESTS, TOP, crates, folder_of
 
-# The modules that have laws, beside those whose name says so.
+# The modules that have laws, beside those whose name, or that of their crate, says so.
 OF_LAWS = ("headline", "records", "commands", "parts", "handing")
 BLOCK = re.compile(r"(?:unsafe )?impl(?:<.*?>)? |(?:pub )?trait ")
 OWNER = re.compile(r"(?:.*\bfor )?(?:pub )?(?:unsafe )?(?:trait |impl(?:<.*?>)? )?(\w+)")
@@ -108,14 +108,15 @@ def functions() -> Iterator[tuple[str, str, Function]]:
                 yield from ((crate, module, it) for it in documented(read(path)))
 
 
-def is_law(module: str, function: Function) -> bool:
-    return module in OF_LAWS or module.endswith("laws") or function.is_empty
+def is_law(crate: str, module: str, function: Function) -> bool:
+    named = module in OF_LAWS or crate.endswith("laws") or module.endswith("laws")
+    return named or function.is_empty
 
 
 def laws() -> Iterator[Entry]:
     """The functions that state a law, with what they say."""
     for crate, module, function in functions():
-        if is_law(module, function) and not function.owner:
+        if is_law(crate, module, function) and not function.owner:
             yield Entry("%s, %s" % (crate, module), function.name, function.text)
 
 
@@ -125,7 +126,7 @@ def calls() -> Iterator[Entry]:
              if os.path.exists(os.path.join(folder_of(crate), "src", "lib.rt"))}
     for crate, module, it in functions():
         seen = shown.get(crate, set())
-        if is_law(module, it) or not it.is_public or crate not in shown:
+        if is_law(crate, module, it) or not it.is_public or crate not in shown:
             continue
         if "mod " + module.rsplit("::", 1)[-1] in seen or (it.owner or it.name) in seen:
             name = it.owner + "::" + it.name if it.owner else it.name

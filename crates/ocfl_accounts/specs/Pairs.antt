@@ -2,6 +2,7 @@
 use Rattle.std.specs.Prelude.{◌≡◌, ℕ, ◌&&◌, ◌||◌, List, [], ◌∷◌, Bool, true, false, not, filter, if◌then◌else◌, Option, Some, None}
 use Rattle.ocfl_tree.specs.Place.{Place}
 use Rattle.ocfl_compare.specs.Changes.{is_left}
+use Rattle.ocfl_status.specs.Status.{status_of as exit_status}
 use Rattle.ocfl_accounts.specs.{Cycle.{Cycle, Sight, IsEarlier}, Kept.{is_some}}
 use Rattle.ocfl_accounts.specs.declared.pair.Pair.{Pair}
 
@@ -47,4 +48,4 @@ waits pair = not (is_some pair.before) && is_some pair.missing
 
 -- 3 if the report is not whole or lacks another one, 1 if something is new or gone, else 0
 abbrev pub status_of : Pair → Bool → ℕ
-status_of pair is_grave = if not pair.closed.whole || lacks pair then 3 else (if is_grave then 1 else 0)
+status_of pair is_grave = exit_status (not pair.closed.whole || lacks pair) is_grave

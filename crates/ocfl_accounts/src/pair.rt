@@ -8,6 +8,7 @@ ghost use Rattle.ocfl_compare.specs.Changes.{is_left as is_left_out};
 use crate::closed::ClosedCycle;
 use crate::closings::{ClosingStop, Closings};
 use crate::earlier::{Earlier, find_earlier};
+use ocfl_status::status_of as exit_status;
 use ocfl_tree::Place;
 use std::alloc::{AllocError, Global};
 
@@ -62,13 +63,7 @@ impl Pair {
 pub fn status_of(pair: &Pair, is_grave: bool) -> u8
     ensures { result ≡ status_by pair.now is_grave }
 {
-    if !pair.closed.is_whole() || pair.lacks() {
-        3
-    } else if is_grave {
-        1
-    } else {
-        0
-    }
+    exit_status(!pair.closed.is_whole() || pair.lacks(), is_grave)
 }
 
 /// Finds what a closed cycle is compared with.

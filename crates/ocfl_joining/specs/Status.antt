@@ -1,9 +1,11 @@
 -- The exit status of a joining.
-use Rattle.std.specs.Prelude.{ℕ, if◌then◌else◌}
+use Rattle.std.specs.Prelude.{ℕ, false, not}
+use Rattle.ocfl_status.specs.Status.{status_of as exit_status}
 use Rattle.ocfl_joining.specs.declared.status.CycleEnd.{CycleEnd}
 use Rattle.ocfl_joining.specs.declared.status.CycleEnd.TheVariants.{IsJoined, IsHindered}
 
--- 0 where the joined report is whole or nobody waits for it, else 3
+-- it lacks something where the joined report is not whole, or parts were named that keep it from being
+-- joined
 abbrev pub status_of : CycleEnd → ℕ
-status_of (IsJoined whole) = if whole then 0 else 3
-status_of (IsHindered named) = if named then 3 else 0
+status_of (IsJoined whole) = exit_status (not whole) false
+status_of (IsHindered named) = exit_status named false

@@ -1,5 +1,6 @@
 -- The exit status of a program after a night.
-use Rattle.std.specs.Prelude.{ℕ, ◌==◌, Bool, if◌then◌else◌}
+use Rattle.std.specs.Prelude.{ℕ, ◌==◌, Bool, not}
+use Rattle.ocfl_status.specs.Status.{status_of as exit_status}
 use Rattle.ocfl_terms.specs.{declared.plan.Halt.{Halt}, declared.refusal.Refusal.{Refusal}}
 use Rattle.ocfl_terms.specs.declared.plan.Halt.TheVariants as halt
 use Rattle.ocfl_terms.specs.declared.refusal.Refusal.TheVariants as refusal
@@ -20,4 +21,4 @@ halt_status _ = 3
 
 -- what was lost is graver than what was found
 abbrev pub found_status : Bool → ℕ → ℕ
-found_status lost findings = if lost then 3 else if findings == 0 then 0 else 1
+found_status lost findings = exit_status lost (not (findings == 0))

@@ -4,6 +4,7 @@ ghost use Rattle.ocfl_terms.specs.Status.{found_status, halt_status, refusal_sta
 
 use crate::plan::Halt;
 use crate::refusal::Refusal;
+use ocfl_status::status_of as exit_status;
 
 /// The status of a night that ended so, whatever it found: 0 if it ended as it may, 3 if
 /// something stopped or refused it, and 4 if that is a checkpoint that cannot be read.
@@ -34,8 +35,5 @@ fn status_of_refusal(refusal: &Refusal) -> u8
 pub fn status_found(lost: bool, findings: u64) -> u8
     ensures { result ≡ found_status lost findings }
 {
-    if lost {
-        return 3;
-    }
-    if findings == 0 { 0 } else { 1 }
+    exit_status(lost, findings != 0)
 }

@@ -1,7 +1,21 @@
 //! The exit status after a night, and its counts.
 use ocfl_cursor::Refused;
+use ocfl_status::status_of as exit_status;
 use ocfl_terms::{Halt, Refusal, counted, status_found, status_of};
 use std::test::Fail;
+
+#[test]
+fn what_lacks_or_finds_something_has_a_status(rt: HostRuntime) -> Result<(), Fail> {
+    for (lacks, finds, status) in [
+        (false, false, 0),
+        (false, true, 1),
+        (true, false, 3),
+        (true, true, 3),
+    ] {
+        assert_eq!(rt; exit_status(lacks, finds), status, "{lacks} {finds}");
+    }
+    Ok(())
+}
 
 #[test]
 fn ends_have_statuses(rt: HostRuntime) -> Result<(), Fail> {

@@ -1,3 +1,4 @@
+mod Findings
 mod Losing
 mod Marks
 mod Passing

@@ -33,7 +33,7 @@ next_passes step files beside is_synced may d follows = record {
 
 pub loses : (d : ClosedState) → Loses d
 loses d = record {
-  makes = λ bytes. record { passes = next_passes Same d.files bytes false d.may_leave d (λ k m. (k, m, refl)); files = refl };
+  writes = λ bytes. (record { passes = next_passes Same d.files bytes false d.may_leave d (λ k m. (k, m, refl)); files = refl }, refl);
   syncs = (record { calm = record { passes = next_passes Same d.files d.beside true d.may_leave d (λ k m. (k, m, refl)); files = refl }; beside = refl }, refl);
   renames = λ cycle. record { passes = next_passes (MayPut (account_with cycle d.beside)) (with_listed (account_with cycle d.beside) d.files) d.beside d.is_synced (After (MayPut (account_with cycle d.beside)) d.may_leave) d (λ k m. m); files = refl };
   names = (

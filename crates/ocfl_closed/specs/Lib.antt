@@ -1,5 +1,6 @@
 pub mod Files
 pub mod Cut
 pub mod Losing
+pub mod Taken
 -- What private functions say: a reader of the public contracts needs none of it.
 pub mod Internal

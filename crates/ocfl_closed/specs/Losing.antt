@@ -18,7 +18,7 @@ next files beside is_synced may_leave d = record {
   faults = d.faults;
 }
 
--- a list is made, of which nothing is on the disk
+-- a list is made, or ended with these bytes, of which nothing is on the disk
 abbrev pub after_list : Text → ClosedState → ClosedState
 after_list list d = next d.files list false d.may_leave d
 
@@ -62,7 +62,7 @@ after_calls files (call ∷ calls) = after_call call (after_calls files calls)
 
 -- what that disk does at each call
 pub record Loses (d : ClosedState) : Type 0 where
-  pub makes : (bytes : Text) → Calm d (after_list bytes d)
+  pub writes : (bytes : Text) → Calm d (after_list bytes d) × ((after_list bytes d).beside ≡ bytes)
   pub syncs : Still d (after_sync d) × IsTrue (after_sync d).is_synced
   pub renames : (cycle : ℕ) → Names cycle d (after_rename cycle d)
   pub names : Calm d (after_sync_folder d) × AreNamed (after_sync_folder d)

@@ -1,14 +1,15 @@
 //! The calls of the system that are made on the files of closed cycles.
-ghost use Rattle.std.specs.Prelude.{◌≡◌, ◌⊎◌, ◌<◌, ◌≤◌, ◌^◌, ℕ, Bool, false, IsTrue, IfOk, List, MatchResult, OnOk, [], length, take};
+ghost use Rattle.std.specs.Prelude.{◌≡◌, ◌⊎◌, ◌<◌, ◌≤◌, ◌^◌, ℕ, Bool, false, IsTrue, IfOk, MatchResult, OnOk, Some, [], length, take};
 ghost use Rattle.std.specs.Option.{option_map};
 ghost use Rattle.ocfl_tree.specs.Place.{Text};
-ghost use Rattle.ocfl_compare.specs.declared.change.ChangeAt.{ChangeAt};
 ghost use Rattle.ocfl_state.specs.Calls.{IsReadOf, bytes_of};
-ghost use Rattle.ocfl_accounts.specs.{Causes.{HasCause}, Changes.{Finds}, Kept.{is_some}};
-ghost use Rattle.ocfl_accounts.specs.declared.pair.Pair.{Pair as ModelPair};
-ghost use Rattle.ocfl_closed.specs.{Cut.{AreNamed, Calm, ClosedState, IsClosedDisk, Names, Still, untold}, Files.{kept_of, report_named}};
+ghost use Rattle.ocfl_accounts.specs.{Causes.{HasCause, IsCause}, Kept.{is_some}};
+ghost use Rattle.ocfl_closed.specs.{Cut.{AreNamed, Calm, ClosedState, IsClosedDisk, Names, Still, untold}, Files.{report_named}};
 
-use ocfl_accounts::{ClosingStop, Found, Pair};
+use ocfl_accounts::{ClosingStop, Pair};
+use ocfl_compare::CompareStop;
+use ocfl_tree::Place;
+use std::io::{BufRead, Write};
 
 /// What closings ask of the system, by the numbers of cycles. `Failed` is answered if a call failed,
 /// and `Memory` if memory was refused.
@@ -17,6 +18,12 @@ use ocfl_accounts::{ClosingStop, Found, Pair};
 pub trait ClosedDisk {
     /// An open report.
     type Report: Drop;
+
+    /// An open report that is read from its start to its end.
+    type Reader: BufRead + Drop;
+
+    /// The list of what is gone, while it is written.
+    type List: Write + Drop;
 
     /// Whether the clauses say what is on the disk. Of one that does not tell, they say little.
     ghost told: { Bool } = { false };
@@ -59,6 +66,63 @@ pub trait ClosedDisk {
         ensures cause { IsTrue told
             → HasCause (state self.old).faults (state self.new).faults result };
 
+    /// Opens a closed report as `open_report` does, to read all of it. With `checks` its bytes are
+    /// compared with what was kept of its closing while they are read.
+    fn open_reader(
+        &mut self,
+        cycle: u64,
+        whole: bool,
+        checks: bool,
+    ) -> Result<Option<Self::Reader>, ClosingStop>
+        ensures still { IsTrue told → Still (state self.old) (state self.new) }
+        ensures value { IsTrue told → IfOk result (λ found. option_map Self.Reader.remaining found
+            ≡ option_map Some (report_named (state self.old).files whole cycle)) }
+        ensures cause { IsTrue told
+            → HasCause (state self.old).faults (state self.new).faults result };
+
+    /// Keeps that no report of a cycle is there which was to be read.
+    fn miss_report(&mut self, cycle: u64) -> ClosingStop
+        ensures still { IsTrue told → Still (state self.old) (state self.new) }
+        ensures cause { IsTrue told → IsCause (state self.old).faults (state self.new).faults result };
+
+    /// Ends the reading of the report of a pair and of that of a cycle before, to their ends. `Failed`
+    /// if one that was checked is not as it was closed.
+    fn end_readers(
+        &mut self,
+        pair: &Pair,
+        before: u64,
+        earlier: Self::Reader,
+        now: Self::Reader,
+    ) -> Result<(), ClosingStop>
+        ensures still { IsTrue told → Still (state self.old) (state self.new) }
+        ensures cause { IsTrue told
+            → HasCause (state self.old).faults (state self.new).faults result };
+
+    /// Keeps why the report of a pair was not compared with that of a cycle before.
+    fn refuse_readers(
+        &mut self,
+        pair: &Pair,
+        before: u64,
+        stop: CompareStop,
+        earlier: Self::Reader,
+        now: Self::Reader,
+    ) -> ClosingStop
+        ensures still { IsTrue told → Still (state self.old) (state self.new) }
+        ensures cause { IsTrue told → IsCause (state self.old).faults (state self.new).faults result };
+
+    /// Keeps why the objects that must be there were not looked for in the report of a pair.
+    fn refuse_search(&mut self, pair: &Pair, stop: CompareStop, report: Self::Reader) -> ClosingStop
+        ensures still { IsTrue told → Still (state self.old) (state self.new) }
+        ensures cause { IsTrue told → IsCause (state self.old).faults (state self.new).faults result };
+
+    /// Reads which objects must be there. `None` if they are not listed.
+    fn read_listed(&mut self) -> Result<Option<Vec<Place>>, ClosingStop>
+        ensures still { IsTrue told → Still (state self.old) (state self.new) }
+        ensures value { IsTrue told → IfOk result (λ found.
+            option_map (λ places. places.items) found ≡ (state self.old).files.listed) }
+        ensures cause { IsTrue told
+            → HasCause (state self.old).faults (state self.new).faults result };
+
     /// The bytes of the checkpoint with which the report of a cycle was closed. `None` if none was
     /// kept.
     fn kept_checkpoint(&mut self, cycle: u64) -> Result<Option<Vec<u8>>, ClosingStop>
@@ -73,6 +137,21 @@ pub trait ClosedDisk {
         ensures still { IsTrue told → Still (state self.old) (state self.new) }
         ensures value { IsTrue told → IfOk result (λ answer.
             answer ≡ (state self.old).files.packed cycle) }
+        ensures cause { IsTrue told
+            → HasCause (state self.old).faults (state self.new).faults result };
+
+    /// Makes an empty list of what is gone at the end of a cycle, which has no name that counts.
+    fn make_list(&mut self, cycle: u64) -> Result<Self::List, ClosingStop>
+        ensures calm { IsTrue told → Calm (state self.old) (state self.new) }
+        ensures empty { IsTrue told → IfOk result (λ list. Self.List.contents list ≡ Some []) }
+        ensures cause { IsTrue told
+            → HasCause (state self.old).faults (state self.new).faults result };
+
+    /// Ends the list that was made last, to which all is written.
+    fn end_list(&mut self, list: &Self::List) -> Result<(), ClosingStop>
+        ensures calm { IsTrue told → Calm (state self.old) (state self.new) }
+        ensures list { IsTrue told → OnOk result ((written : Text)
+            → Self.List.contents list.now ≡ Some written → (state self.new).beside ≡ written) }
         ensures cause { IsTrue told
             → HasCause (state self.old).faults (state self.new).faults result };
 
@@ -121,23 +200,4 @@ pub trait ClosedDisk {
 
     /// The laws of what is on a disk.
     ghost is_disk: { IsTrue told → (disk : Self) → IsClosedDisk (state disk) };
-}
-
-/// What finds the changes of a closed cycle in its files, and makes the list of what is gone. This is
-/// no call of the system.
-pub trait FindChanges: ClosedDisk {
-    /// What is said of the changes of a cycle.
-    ghost text: { ModelPair → List ChangeAt → Text } = { λ _ _. [] };
-
-    /// Whether a change is new or gone, and not known.
-    ghost news: { ChangeAt → Bool } = { λ _. false };
-
-    /// Finds the changes of a closed cycle, and makes the list of what is gone by them.
-    fn find(&mut self, pair: &Pair) -> Result<Found, ClosingStop>
-        ensures calm { IsTrue Self.told → Calm (Self.state self.old) (Self.state self.new) }
-        ensures finds { IsTrue Self.told → IfOk result (λ it.
-            Finds (kept_of (Self.state self.old).files) pair.now text news it.text.items it.is_grave
-            (Self.state self.new).beside) }
-        ensures cause { IsTrue Self.told
-            → HasCause (Self.state self.old).faults (Self.state self.new).faults result };
 }

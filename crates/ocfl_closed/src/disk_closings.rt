@@ -1,10 +1,12 @@
 //! Closed reports on a disk, and their accounts.
 ghost use Rattle.std.specs.Prelude.{◌≡◌, ◌⊎◌, IsTrue, OnOk};
 ghost use Rattle.ocfl_accounts.specs.{Causes.{HasCause}, Kept.{account_with}, Crash.{Follows, IsPut, MayPut}};
-ghost use Rattle.ocfl_closed.specs.{Cut.{Passes, with_listed}, Files.{kept_of}};
+ghost use Rattle.ocfl_closed.specs.{Cut.{Passes, with_listed}, Files.{kept_of}, Taken.{is_news}};
 
-use crate::disk::{ClosedDisk, FindChanges};
+use crate::disk::ClosedDisk;
+use crate::finding::find_changes;
 use crate::looking::look_at;
+use crate::words::SayChanges;
 use ocfl_accounts::{ClosingStop, Closings, Found, Look, Pair};
 use std::alloc::Global;
 
@@ -27,7 +29,7 @@ impl<D: Drop> Drop for DiskClosings<D> {
     }
 }
 
-impl<D: FindChanges> DiskClosings<D> {
+impl<D: SayChanges> DiskClosings<D> {
     /// Those that a disk shows, of which the night closed this cycle; 0 if it closed none.
     pub fn over(alloc: Global, disk: D, closed: u64) -> DiskClosings<D>
         ensures { result.disk ≡ disk }
@@ -61,7 +63,7 @@ fn put_list<D: ClosedDisk>(disk: &mut D, cycle: u64) -> Result<(), ClosingStop>
     disk.sync_folder()
 }
 
-impl<D: FindChanges> Closings for DiskClosings<D> {
+impl<D: SayChanges> Closings for DiskClosings<D> {
     ghost told = { D.told };
 
     ghost seen = { λ closings. kept_of (D.state closings.disk).files };
@@ -78,7 +80,7 @@ impl<D: FindChanges> Closings for DiskClosings<D> {
 
     ghost text = { D.text };
 
-    ghost news = { D.news };
+    ghost news = { is_news D.Words.known };
 
     ghost stays = { λ told closings. (D.is_disk told closings.disk).stays };
 
@@ -95,7 +97,7 @@ impl<D: FindChanges> Closings for DiskClosings<D> {
     }
 
     fn find(&mut self, pair: &Pair) -> Result<Found, ClosingStop> {
-        self.disk.find(pair)
+        find_changes(self.alloc, &mut self.disk, pair)
     }
 
     fn put(&mut self, pair: &Pair) -> Result<(), ClosingStop> {

@@ -4,10 +4,16 @@
 
 mod disk;
 mod disk_closings;
+mod finding;
 pub mod laws;
 mod looking;
 mod marking;
+mod taking;
+mod within;
+mod words;
 
-pub use disk::{ClosedDisk, FindChanges};
+pub use disk::ClosedDisk;
 pub use disk_closings::DiskClosings;
+pub use finding::find_changes;
 pub use looking::look_at;
+pub use words::{SayChanges, Since, TakeWords};

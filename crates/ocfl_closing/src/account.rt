@@ -2,11 +2,11 @@
 
 use crate::closed::CycleMade;
 use ocfl_accounts::Pair;
-use ocfl_kept::kept::{list_path, new_list_path, report_path};
+use ocfl_kept::kept::{list_path, report_path};
 use ocfl_kept::names::Names;
 use ocfl_messages::{Closing, Counts, Gone, Shown, closing_text};
+use ocfl_reading::changes::Changes;
 use ocfl_reading::finding::Findings;
-use ocfl_reading::rows::Changes;
 use ocfl_report::Line;
 use ocfl_tree::Place;
 use std::alloc::{AllocError, Global};
@@ -16,8 +16,6 @@ pub(crate) struct Paths {
     pub(crate) report: String,
     pub(crate) earlier: String,
     pub(crate) list: String,
-    /// The list while it is written.
-    pub(crate) new_list: String,
 }
 
 /// Written by hand, so that to let it go is one call wherever that happens.
@@ -27,7 +25,6 @@ impl Drop for Paths {
             report: _report,
             earlier: _earlier,
             list: _list,
-            new_list: _new_list,
         } = self;
     }
 }
@@ -63,7 +60,6 @@ pub(crate) fn paths_of(alloc: Global, state: &str, pair: &Pair) -> Result<Paths,
         report: report_path(alloc, state, cycle, pair.closed.is_whole())?,
         earlier: earlier_path(alloc, state, pair)?,
         list: list_path(alloc, state, cycle)?,
-        new_list: new_list_path(alloc, state, cycle)?,
     })
 }
 
@@ -138,11 +134,6 @@ impl Account {
             return None;
         }
         Some(self.findings.tally.counts())
-    }
-
-    /// Whether something is new or gone.
-    pub(crate) fn is_grave(&self) -> bool {
-        self.changes.gone_count() > 0 || self.appeared() > 0
     }
 
     /// How many objects are back.

@@ -5,29 +5,30 @@
 
 ghost use Rattle.std.proofs.lemmas.Bool.{false≢true};
 
-use crate::account::{Account, Paths, compared, compared_whole, paths_of, text_of, why_not};
-use crate::back::gone_before;
-use crate::closed::find_made;
-use crate::comparing::{end_changes, find_changes, find_new, find_returned, find_unlisted};
-use ocfl_accounts::{ClosingStop, Found, NotSaid, Pair, Say, find_unsaid, say_cycles};
-use ocfl_closed::{ClosedDisk, DiskClosings, FindChanges};
+use crate::account::{Account, Paths, compared, compared_whole, paths_of, text_of};
+use crate::comparing::{checked_reader, gone_report, refuse_changed_pair, refuse_read, uncompared};
+use crate::words::{Words, account_of};
+use ocfl_accounts::{ClosingStop, NotSaid, Pair, Say, find_unsaid, say_cycles};
+use ocfl_closed::{ClosedDisk, DiskClosings, SayChanges};
+use ocfl_compare::CompareStop;
 use ocfl_disk::StateFile;
 use ocfl_files::failing::{Failure, say_failure};
 use ocfl_files::making::failed_file;
 use ocfl_files::timing::seconds_now;
-use ocfl_kept::kept::{is_packed, is_told, list_path, read_ends, report_path};
+use ocfl_kept::kept::{is_packed, is_told, list_path, new_list_path, read_ends, report_path};
 use ocfl_kept::names::About;
 use ocfl_kept::room::Room;
 use ocfl_kept::state::failed_folder;
 use ocfl_kept::state_dir::Folder;
 use ocfl_messages::{ClosingRow, LogRow, log_line};
+use ocfl_reading::checking::Checking;
 use ocfl_reading::expected::{Listed, read_expected};
-use ocfl_reading::rows::Rows;
 use ocfl_report::{Line, write_all_of};
 use ocfl_tree::Place;
 use std::alloc::{AllocError, Global};
 use std::fs::File;
-use std::io::{self, Write};
+use std::io::{self, BufReader, Write};
+use std::mem;
 use std::os::unix::fs::FileExt;
 use std::time::Clock;
 
@@ -121,93 +122,6 @@ pub struct ToldBy<'n> {
 }
 
 impl ToldBy<'_> {
-    /// Writes which objects of a list have no line in the report.
-    fn look_for_expected<R: Room, F: Folder>(
-        &self,
-        rt: &R,
-        folder: &mut F,
-        pair: &Pair,
-        rows: &mut Rows<'_, '_>,
-        account: &mut Account,
-    ) -> Result<(), Failure> {
-        let Some(file) = self.expected else {
-            return Ok(());
-        };
-        let alloc = rt.global();
-        let listed = read_expected(alloc, file, rt.open_file(file))?;
-        let state = self.about.names.state;
-        let listed = of_part(alloc, folder, state, listed)?;
-        find_unlisted(alloc, folder, state, pair, listed, rows, account)
-    }
-
-    /// Finds what changed, and writes the list of what is gone.
-    fn write_list<'p, R: Room, F: Folder>(
-        &self,
-        rt: &R,
-        folder: &mut F,
-        pair: &'p Pair,
-        path: &str,
-        rows: &mut Rows<'_, 'p>,
-        account: &mut Account,
-    ) -> Result<(), Failure> {
-        let (alloc, state) = (rt.global(), self.about.names.state);
-        let mut again = find_changes(alloc, folder, state, pair, rows, account)?;
-        self.look_for_expected(rt, folder, pair, rows, account)?;
-        end_changes(alloc, path, rows, &mut again, account)
-    }
-
-    /// Finds the objects that are back.
-    fn find_back<R: Room, F: Folder>(
-        &self,
-        rt: &R,
-        folder: &mut F,
-        pair: &Pair,
-    ) -> Result<Vec<Place>, Failure> {
-        if pair.before.is_none() {
-            return Ok(Vec::new(rt.global()));
-        }
-        let mut gone = gone_before(rt, self.about.names.state, pair.closed.cycle())?;
-        find_returned(rt.global(), folder, self.about.names.state, pair, &mut gone)
-    }
-
-    /// Finds all that is said of a closed cycle whose report lost no lines.
-    fn fill_account<R: Room, F: Folder>(
-        &self,
-        rt: &R,
-        folder: &mut F,
-        pair: &Pair,
-        path: &str,
-        list: File,
-        account: &mut Account,
-    ) -> Result<(), Failure> {
-        let (alloc, state, cycle) = (rt.global(), self.about.names.state, pair.closed.cycle());
-        let mut rows = Rows::new(alloc, self.about.known, self.said, list);
-        self.write_list(rt, folder, pair, path, &mut rows, account)?;
-        find_new(alloc, folder, state, cycle, &mut rows, account)?;
-        account.back = self.find_back(rt, folder, pair)?;
-        Ok(())
-    }
-
-    /// Finds all that is said of a closed cycle, with the list of what is gone beside its place. Of
-    /// one whose report lost lines nothing is said.
-    fn find_account<R: Room, F: Folder>(
-        &self,
-        rt: &R,
-        folder: &mut F,
-        pair: &Pair,
-        path: &str,
-    ) -> Result<Account, Failure> {
-        let list = rt.make_file(path)?;
-        let alloc = rt.global();
-        let why = why_not(alloc, self.about.names.state, pair)?;
-        let made = find_made(alloc, folder, self.about.names.state, pair.closed.cycle())?;
-        let mut account = Account::new(alloc, why, made);
-        if !pair.closed.is_lost() {
-            self.fill_account(rt, folder, pair, path, list, &mut account)?;
-        }
-        Ok(account)
-    }
-
     /// Appends a line on the closing to the log.
     fn log_closing<R: Room + Clock, F: Folder>(
         &self,
@@ -274,6 +188,10 @@ struct Telling<'t, 'n, R, F> {
     rt: &'t R,
     folder: &'t mut F,
     told: ToldBy<'n>,
+    /// The path of the list that was made last.
+    new_list: Option<String>,
+    /// The digest of the bytes of the list of the objects that must be there; empty if none was read.
+    listed: String,
     /// What was found last.
     pending: Option<Pending>,
     /// Why the last call failed that did.
@@ -287,13 +205,15 @@ impl<R, F> Drop for Telling<'_, '_, R, F> {
             rt: _rt,
             folder: _folder,
             told: _told,
+            new_list: _new_list,
+            listed: _listed,
             pending: _pending,
             failure: _failure,
         } = self;
     }
 }
 
-impl<R: Room + Clock, F: Folder> Telling<'_, '_, R, F> {
+impl<'n, R: Room + Clock, F: Folder> Telling<'_, 'n, R, F> {
     /// Keeps why a call failed.
     fn keep<T>(&mut self, answer: Result<T, Failure>) -> Result<T, ClosingStop> {
         match answer {
@@ -305,18 +225,61 @@ impl<R: Room + Clock, F: Folder> Telling<'_, '_, R, F> {
         }
     }
 
-    /// Finds what is said of a closed cycle, with the list of what is gone beside its place.
-    fn find_pending(&mut self, pair: &Pair) -> Result<Found, Failure> {
-        let alloc = self.rt.global();
-        let paths = paths_of(alloc, self.told.about.names.state, pair)?;
-        let path = paths.new_list.as_str();
-        let account = self.told.find_account(self.rt, self.folder, pair, path)?;
-        let found = Found {
-            text: text_of(alloc, self.told.about.names, pair, &paths, &account)?,
-            is_grave: account.is_grave(),
+    /// Makes the file of a list of what is gone.
+    fn make_new_list(&mut self, cycle: u64) -> Result<File, Failure> {
+        let path = new_list_path(self.rt.global(), self.told.about.names.state, cycle)?;
+        self.listed = String::new(self.rt.global());
+        let made = self.rt.make_file(path.as_str());
+        self.new_list = Some(path);
+        made
+    }
+
+    /// Brings the bytes of a list that was made to the disk.
+    fn sync_new_list(&mut self, list: &File) -> Result<(), Failure> {
+        match (list.sync_all(), &self.new_list) {
+            (Err(error), Some(path)) => Err(failed_file(self.rt.global(), path.as_str(), &error)),
+            (Err(error), None) => Err(failed_file(self.rt.global(), "", &error)),
+            (Ok(()), _) => Ok(()),
+        }
+    }
+
+    /// The objects that must be there: those of the list that are in the part of the state folder.
+    fn read_list(&mut self) -> Result<Option<Vec<Place>>, Failure> {
+        let Some(file) = self.told.expected else {
+            return Ok(None);
         };
+        let alloc = self.rt.global();
+        let listed = read_expected(alloc, file, self.rt.open_file(file))?;
+        let listed = of_part(alloc, self.folder, self.told.about.names.state, listed)?;
+        let Listed { places, digits } = listed;
+        self.listed = digits;
+        Ok(Some(places))
+    }
+
+    /// The text that is said of a closed cycle.
+    fn say_found(&mut self, pair: &Pair, words: Words<'n>) -> Result<Vec<u8>, Failure> {
+        let (alloc, names) = (self.rt.global(), self.told.about.names);
+        let mut account = account_of(self.rt, self.folder, names.state, pair, words)?;
+        account.list = mem::replace(&mut self.listed, String::new(alloc));
+        let paths = paths_of(alloc, names.state, pair)?;
+        let text = text_of(alloc, names, pair, &paths, &account)?;
         self.pending = Some(Pending { paths, account });
-        Ok(found)
+        Ok(text)
+    }
+
+    /// Opens a closed report to read all of it.
+    fn open_checked(
+        &mut self,
+        cycle: u64,
+        whole: bool,
+        checks: bool,
+    ) -> Result<Option<BufReader<Checking>>, Failure> {
+        let Some(report) = self.open_named(cycle, whole)? else {
+            return Ok(None);
+        };
+        let Opened { file, .. } = report;
+        let (alloc, state) = (self.rt.global(), self.told.about.names.state);
+        Ok(Some(checked_reader(alloc, self.folder, state, cycle, file, checks)?))
     }
 
     /// Opens the closed report of a cycle that has the name of a whole one, or of one that is not.
@@ -331,21 +294,19 @@ impl<R: Room + Clock, F: Folder> Telling<'_, '_, R, F> {
         }
     }
 
-    /// Brings the list of what was found last to the disk.
+    /// Brings the list that was made last to the disk.
     fn sync_pending(&mut self) -> Result<(), Failure> {
-        match &self.pending {
-            Some(pending) => sync_at(self.rt, pending.paths.new_list.as_str()),
+        match &self.new_list {
+            Some(path) => sync_at(self.rt, path.as_str()),
             None => Ok(()),
         }
     }
 
-    /// Puts the list of what was found last in the place of that of a cycle.
+    /// Puts the list that was made last in the place of that of a cycle.
     fn rename_pending(&mut self, cycle: u64) -> Result<(), Failure> {
         let list = list_path(self.rt.global(), self.told.about.names.state, cycle)?;
-        match &self.pending {
-            Some(pending) => self
-                .rt
-                .put_made(pending.paths.new_list.as_str(), list.as_str()),
+        match &self.new_list {
+            Some(path) => self.rt.put_made(path.as_str(), list.as_str()),
             None => Ok(()),
         }
     }
@@ -380,6 +341,10 @@ impl<R: Room + Clock, F: Folder> Telling<'_, '_, R, F> {
 impl<R: Room + Clock + Eprint, F: Folder> ClosedDisk for Telling<'_, '_, R, F> {
     type Report = Opened;
 
+    type Reader = BufReader<Checking>;
+
+    type List = File;
+
     ghost short = { λ told report. absurd (false≢true told) };
 
     ghost is_disk = { λ told disk. absurd (false≢true told) };
@@ -410,6 +375,79 @@ impl<R: Room + Clock + Eprint, F: Folder> ClosedDisk for Telling<'_, '_, R, F> {
                 Err(ClosingStop::Failed)
             }
         }
+    }
+
+    fn open_reader(
+        &mut self,
+        cycle: u64,
+        whole: bool,
+        checks: bool,
+    ) -> Result<Option<BufReader<Checking>>, ClosingStop> {
+        let found = self.open_checked(cycle, whole, checks);
+        self.keep(found)
+    }
+
+    fn miss_report(&mut self, cycle: u64) -> ClosingStop {
+        let state = self.told.about.names.state;
+        self.failure = Some(gone_report(self.rt.global(), state, cycle));
+        ClosingStop::Failed
+    }
+
+    fn end_readers(
+        &mut self,
+        pair: &Pair,
+        before: u64,
+        earlier: BufReader<Checking>,
+        now: BufReader<Checking>,
+    ) -> Result<(), ClosingStop> {
+        let (earlier, now) = (earlier.get_ref(), now.get_ref());
+        self.keep(refuse_read(self.rt.global(), pair, before, earlier, now))
+    }
+
+    fn refuse_readers(
+        &mut self,
+        pair: &Pair,
+        before: u64,
+        stop: CompareStop,
+        earlier: BufReader<Checking>,
+        now: BufReader<Checking>,
+    ) -> ClosingStop {
+        let error = match stop {
+            CompareStop::BeforeFailed => earlier.get_ref().error(),
+            _ => now.get_ref().error(),
+        };
+        let (alloc, state) = (self.rt.global(), self.told.about.names.state);
+        self.failure = Some(match refuse_changed_pair(alloc, self.folder, state, pair) {
+            Ok(()) => uncompared(alloc, pair.closed.cycle(), before, stop, error),
+            Err(failure) => failure,
+        });
+        ClosingStop::Failed
+    }
+
+    fn refuse_search(
+        &mut self,
+        pair: &Pair,
+        stop: CompareStop,
+        report: BufReader<Checking>,
+    ) -> ClosingStop {
+        let (cycle, error) = (pair.closed.cycle(), report.get_ref().error());
+        self.failure = Some(uncompared(self.rt.global(), cycle, compared(pair), stop, error));
+        ClosingStop::Failed
+    }
+
+    fn read_listed(&mut self) -> Result<Option<Vec<Place>>, ClosingStop> {
+        let listed = self.read_list();
+        self.keep(listed)
+    }
+
+    fn make_list(&mut self, cycle: u64) -> Result<File, ClosingStop> {
+        let made = self.make_new_list(cycle);
+        self.keep(made)
+    }
+
+    fn end_list(&mut self, list: &File) -> Result<(), ClosingStop> {
+        let ended = self.sync_new_list(list);
+        self.keep(ended)
     }
 
     fn kept_checkpoint(&mut self, cycle: u64) -> Result<Option<Vec<u8>>, ClosingStop> {
@@ -446,8 +484,8 @@ impl<R: Room + Clock + Eprint, F: Folder> ClosedDisk for Telling<'_, '_, R, F> {
     }
 
     fn remove_list(&mut self) {
-        if let Some(pending) = &self.pending {
-            self.rt.remove_file(pending.paths.new_list.as_str());
+        if let Some(path) = &self.new_list {
+            self.rt.remove_file(path.as_str());
         }
     }
 
@@ -462,10 +500,17 @@ impl<R: Room + Clock + Eprint, F: Folder> ClosedDisk for Telling<'_, '_, R, F> {
     }
 }
 
-impl<R: Room + Clock + Eprint, F: Folder> FindChanges for Telling<'_, '_, R, F> {
-    fn find(&mut self, pair: &Pair) -> Result<Found, ClosingStop> {
-        let found = self.find_pending(pair);
-        self.keep(found)
+impl<'n, R: Room + Clock + Eprint, F: Folder> SayChanges for Telling<'_, 'n, R, F> {
+    type Words = Words<'n>;
+
+    fn begin_words(&mut self, pair: &Pair) -> Result<Words<'n>, ClosingStop> {
+        let told = self.told;
+        Ok(Words::new(self.rt.global(), told.about, told.said, pair))
+    }
+
+    fn end_words(&mut self, pair: &Pair, words: Words<'n>) -> Result<Vec<u8>, ClosingStop> {
+        let said = self.say_found(pair, words);
+        self.keep(said)
     }
 }
 
@@ -482,6 +527,8 @@ where
         rt,
         folder,
         told,
+        new_list: None,
+        listed: String::new(rt.global()),
         pending: None,
         failure: None,
     };

@@ -6,3 +6,4 @@ mod back;
 mod closed;
 pub mod closing;
 mod comparing;
+mod words;

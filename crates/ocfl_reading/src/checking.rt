@@ -77,39 +77,31 @@ impl Read for Checking {
     }
 }
 
-/// A buffered reader of a closed report.
-pub struct ReportReader {
-    pub reader: BufReader<Checking>,
-}
-
-/// Written by hand, so that to let it go is one call wherever that happens.
-impl Drop for ReportReader {
-    fn drop(self) {
-        let ReportReader { reader: _reader } = self;
-    }
-}
-
-impl ReportReader {
-    /// Before the first read.
-    pub fn new(alloc: Global, file: File, check: ClosedCheck) -> Result<ReportReader, AllocError> {
-        let checking = Checking {
-            file,
-            check,
-            error: None,
-        };
-        match BufReader::new(alloc, checking) {
-            Ok(reader) => Ok(ReportReader { reader }),
-            Err(_) => Err(AllocError),
-        }
-    }
-
+impl Checking {
     /// Why the last read failed that did.
     pub fn error(&self) -> Option<io::Error> {
-        self.reader.get_ref().error
+        self.error
     }
 
     /// Whether the report, read to its end, is as it was when it was closed.
     pub fn is_as_closed(&self) -> bool {
-        self.reader.get_ref().check.is_met()
+        self.check.is_met()
+    }
+}
+
+/// A buffered reader of a closed report.
+pub fn report_reader(
+    alloc: Global,
+    file: File,
+    check: ClosedCheck,
+) -> Result<BufReader<Checking>, AllocError> {
+    let checking = Checking {
+        file,
+        check,
+        error: None,
+    };
+    match BufReader::new(alloc, checking) {
+        Ok(reader) => Ok(reader),
+        Err(_) => Err(AllocError),
     }
 }

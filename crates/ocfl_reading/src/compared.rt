@@ -71,17 +71,18 @@ impl<'a> ComparedLines<'a> {
         Ok(())
     }
 
-    /// Names the first line of a place with a code, which is new.
-    pub(crate) fn name(&mut self, code: Code, place: &Place) {
+    /// Names the first line of a place with a code, which is new. Gives whether it is known.
+    pub(crate) fn name(&mut self, code: Code, place: &Place) -> bool {
         if !self.waits_at(place) {
-            return;
+            return false;
         }
         for waiting in self.waiting.iter_mut() {
             if waiting.line.code == code {
                 waiting.is_told = self.counting.count_named(&waiting.line);
-                return;
+                return self.counting.knows(&waiting.line);
             }
         }
+        false
     }
 
     /// What was found in all lines of the report.

@@ -26,25 +26,25 @@ pub struct Listed {
 }
 
 impl Listed {
-    /// How many objects the list has, once it is sorted: one that is there twice counts once.
-    pub fn count(&self) -> u64 {
-        let mut count: u64 = 0;
-        let mut last: Option<&Place> = None;
-        for place in &self.places {
-            if last != Some(place) {
-                count = count.saturating_add(1);
-            }
-            last = Some(place);
-        }
-        count
-    }
-
     /// Those that are in the part with these ends.
     pub fn within(self, alloc: Global, ends: &PartEnds) -> Result<Listed, AllocError> {
         let Listed { places, digits } = self;
         let places = find_within(alloc, &ends.from, &ends.below, &places)?;
         Ok(Listed { places, digits })
     }
+}
+
+/// How many objects a list has that is sorted: one that is there twice counts once.
+pub fn count_places(places: &[Place]) -> u64 {
+    let mut count: u64 = 0;
+    let mut last: Option<&Place> = None;
+    for place in places {
+        if last != Some(place) {
+            count = count.saturating_add(1);
+        }
+        last = Some(place);
+    }
+    count
 }
 
 /// Why the objects that must be there are not known: the reader's words if it failed.

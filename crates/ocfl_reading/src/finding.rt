@@ -120,6 +120,11 @@ impl<'a> Counting<'a> {
         Ok(())
     }
 
+    /// Whether a finding is known.
+    pub(crate) fn knows(&self, line: &Line) -> bool {
+        self.known.names(line)
+    }
+
     /// Counts a finding that is named. Whether it is to be told.
     pub(crate) fn count_named(&mut self, line: &Line) -> bool {
         let found = &mut self.found;

@@ -4,6 +4,7 @@ mod accounts;
 mod checkpoint;
 mod clock;
 mod closed;
+mod closed_changes;
 mod codes;
 mod common;
 mod compare;

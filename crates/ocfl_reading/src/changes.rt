@@ -1,15 +1,12 @@
 //! What changed from one report to the next, as the changes come.
-ghost use Rattle.std.specs.Prelude.{⊤};
-
 use crate::compared::ComparedLines;
 use crate::finding::{Findings, lines_of, sort_lines};
 use crate::lines::copy_of;
-use ocfl_compare::{Change, GoneList, Side, TakeChange, TakeStop};
+use ocfl_compare::{Change, Side};
 use ocfl_messages::{Finding, Gone, GoneKind, Gravest, Known, SHOWN};
 use ocfl_report::{Code, Line};
 use ocfl_tree::Place;
 use std::alloc::{AllocError, Global};
-use std::fs::File;
 use std::mem;
 
 /// How many findings that are new are named at most: whether one of them is known is told by its
@@ -147,51 +144,48 @@ impl Changes {
     }
 }
 
-/// Takes the changes of a comparison, and writes those that make something gone into a list.
-pub struct Rows<'k, 'p> {
+/// Notes the changes of a closed cycle as they come.
+pub struct Noting<'k> {
     alloc: Global,
     /// New findings that are known do not count.
     known: &'k Known,
     /// The findings that were said already.
     said: &'k [Line],
-    /// If it is there, the changes of these places and of what is below them count alone.
-    within: Option<&'p [Place]>,
     /// The first finding of each code that the report before has at its last place with one.
     before: Vec<Line>,
+    /// The same of this report, if its lines are read again.
+    now: Vec<Line>,
     /// Counts the lines of this report, if they are not read again.
     lines: Option<ComparedLines<'k>>,
     changes: Changes,
-    list: GoneList<File>,
 }
 
 /// Written by hand, so that to let it go is one call wherever that happens.
-impl Drop for Rows<'_, '_> {
+impl Drop for Noting<'_> {
     fn drop(self) {
-        let Rows {
+        let Noting {
             alloc: _alloc,
             known: _known,
             said: _said,
-            within: _within,
             before: _before,
+            now: _now,
             lines: _lines,
             changes: _changes,
-            list: _list,
         } = self;
     }
 }
 
-impl<'k, 'p> Rows<'k, 'p> {
+impl<'k> Noting<'k> {
     /// With no change yet. `said` are the findings that were said already.
-    pub fn new(alloc: Global, known: &'k Known, said: &'k [Line], list: File) -> Rows<'k, 'p> {
-        Rows {
+    pub fn new(alloc: Global, known: &'k Known, said: &'k [Line]) -> Noting<'k> {
+        Noting {
             alloc,
             known,
             said,
-            within: None,
             before: Vec::new(alloc),
+            now: Vec::new(alloc),
             lines: None,
             changes: Changes::new(alloc),
-            list: GoneList::new(alloc, list),
         }
     }
 
@@ -218,42 +212,26 @@ impl<'k, 'p> Rows<'k, 'p> {
         }
     }
 
-    /// From now on the changes of these places and of what is below them count alone; all changes if
-    /// there are none.
-    pub fn keep_to(&mut self, within: Option<&'p [Place]>) {
-        self.within = within;
-    }
-
     /// Ends a comparison, and gives what changed by it.
     pub fn take_changes(&mut self) -> Changes {
         mem::replace(&mut self.changes, Changes::new(self.alloc))
     }
 
-    /// The list.
-    pub fn list(&self) -> &File {
-        &self.list.out
-    }
-
-    /// Whether the changes of a place count.
-    fn counts(&self, place: &Place) -> bool {
-        match self.within {
-            Some(within) => is_within(place, within),
-            None => true,
+    /// Sees the next line of a report.
+    pub fn see(&mut self, side: Side, line: &Line) -> Result<(), AllocError> {
+        match (side, &mut self.lines) {
+            (Side::Before, _) => self.keep_before(line),
+            (Side::Now, Some(lines)) => lines.take(line),
+            (Side::Now, None) => keep_first(&mut self.now, line),
         }
     }
 
     /// Keeps a finding of the report before, until it is known whether it is repaired.
     fn keep_before(&mut self, line: &Line) -> Result<(), AllocError> {
-        if !line.is_finding() || self.changes.repaired_count >= MOST_REPAIRED {
+        if self.changes.repaired_count >= MOST_REPAIRED {
             return Ok(());
         }
-        if !is_at(&self.before, &line.place) {
-            self.before.clear();
-        }
-        if find_code(&self.before, line.code).is_none() {
-            self.before.push(copy_of(line)?)?;
-        }
-        Ok(())
+        keep_first(&mut self.before, line)
     }
 
     /// Notes a finding that is repaired.
@@ -269,77 +247,64 @@ impl<'k, 'p> Rows<'k, 'p> {
         }
     }
 
-    /// Notes a finding that is new.
-    fn note_new(&mut self, code: Code, place: &Place) -> Result<(), AllocError> {
-        let line = bare_line(self.alloc, code, place)?;
-        let changes = &mut self.changes;
-        if self.known.names(&line) {
-            changes.known_count = changes.known_count.saturating_add(1);
-            return Ok(());
+    /// Whether the first line of a place with a code, which is new, is known.
+    fn is_known(&self, code: Code, place: &Place) -> bool {
+        if !is_at(&self.now, place) {
+            return false;
         }
-        changes.appeared_count = changes.appeared_count.saturating_add(1);
-        if changes.appeared_count > MOST_NAMED {
-            return Ok(());
+        match find_code(&self.now, code) {
+            Some(line) => self.known.names(line),
+            None => false,
         }
-        match &mut self.lines {
-            Some(lines) => lines.name(code, place),
-            None => changes.appeared.push(line)?,
-        }
-        Ok(())
     }
 
-    /// Notes a change.
-    fn note(&mut self, place: &Place, change: Change) -> Result<(), AllocError> {
+    /// Notes a finding that is new. Gives whether it is known: of those that are not known by their
+    /// codes and places alone, the first 10,000 are looked up by their whole lines.
+    fn note_new(&mut self, code: Code, place: &Place) -> Result<bool, AllocError> {
+        let line = bare_line(self.alloc, code, place)?;
+        if self.known.names(&line) {
+            self.changes.known_count = self.changes.known_count.saturating_add(1);
+            return Ok(true);
+        }
+        self.changes.appeared_count = self.changes.appeared_count.saturating_add(1);
+        if self.changes.appeared_count > MOST_NAMED {
+            return Ok(false);
+        }
+        if let Some(lines) = &mut self.lines {
+            return Ok(lines.name(code, place));
+        }
+        self.changes.appeared.push(line)?;
+        Ok(self.is_known(code, place))
+    }
+
+    /// Notes a change. Gives whether it is a finding that is new and known.
+    pub fn note(&mut self, place: &Place, change: Change) -> Result<bool, AllocError> {
         let changes = &mut self.changes;
         match change {
-            Change::Gone => changes.objects.add(GoneKind::Object, place),
-            Change::Undeclared => changes.objects.add(GoneKind::Undeclared, place),
-            Change::FileGone => changes.files.add(GoneKind::File, place),
-            Change::Missing => changes.expected.add(GoneKind::Expected, place),
-            Change::Unlooked => {
-                changes.unlooked = changes.unlooked.saturating_add(1);
-                Ok(())
-            }
-            Change::Found(code) => self.note_new(code, place),
-            Change::Repaired(code) => self.note_repaired(code, place),
+            Change::Gone => changes.objects.add(GoneKind::Object, place)?,
+            Change::Undeclared => changes.objects.add(GoneKind::Undeclared, place)?,
+            Change::FileGone => changes.files.add(GoneKind::File, place)?,
+            Change::Missing => changes.expected.add(GoneKind::Expected, place)?,
+            Change::Unlooked => changes.unlooked = changes.unlooked.saturating_add(1),
+            Change::Found(code) => return self.note_new(code, place),
+            Change::Repaired(code) => self.note_repaired(code, place)?,
         }
+        Ok(false)
     }
 }
 
-impl TakeChange for Rows<'_, '_> {
-    ghost takes = { λ _ _ _. ⊤ };
-
-    fn see(&mut self, side: Side, line: &Line) -> Result<(), TakeStop> {
-        match (side, &mut self.lines) {
-            (Side::Before, _) => self.keep_before(line)?,
-            (Side::Now, Some(lines)) => lines.take(line)?,
-            (Side::Now, None) => (),
-        }
-        Ok(())
+/// Keeps the first finding of each code at the last place with one.
+fn keep_first(lines: &mut Vec<Line>, line: &Line) -> Result<(), AllocError> {
+    if !line.is_finding() {
+        return Ok(());
     }
-
-    fn take(&mut self, place: &Place, change: Change) -> Result<(), TakeStop> {
-        if !self.counts(place) {
-            return Ok(());
-        }
-        self.list.take(place, change)?;
-        self.note(place, change)?;
-        Ok(())
+    if !is_at(lines, &line.place) {
+        lines.clear();
     }
-
-    ghost nothing = { λ _. tt };
-
-    ghost joined = { λ _ _ _ _ _ _ _. tt };
-}
-
-/// Whether a place is one of these or below one.
-fn is_within(place: &Place, branches: &[Place]) -> bool {
-    for branch in branches {
-        if place.starts_with(branch) {
-            return true;
-        }
+    if find_code(lines, line.code).is_none() {
+        lines.push(copy_of(line)?)?;
     }
-    false
+    Ok(())
 }
 
 /// Whether these lines are of a place.

@@ -1,5 +1,8 @@
 //! Why places of a storage root could not be read, in words.
 
+ghost use Rattle.std.specs.{Prelude.{◌≡◌}, Option.{option_map}};
+ghost use Rattle.ocfl_files.specs.Reasons.{words_on};
+
 use ocfl_tree::Place;
 use std::alloc::{AllocError, Global};
 use std::cell::Cell;
@@ -60,14 +63,23 @@ impl Reasons {
     }
 
     /// Why a place could not be read, if that is kept.
-    pub fn find(&self, place: &Place) -> Option<&str> {
-        for reason in &self.kept {
-            if reason.place == *place {
-                return Some(reason.words.as_str());
-            }
-        }
-        None
+    pub fn find(&self, place: &Place) -> Option<&str>
+        ensures { option_map (λ w. w.now) result ≡ words_on self.now.kept.items place.now }
+    {
+        find_in(&self.kept, place)
     }
+}
+
+/// The words that were kept first on a place.
+fn find_in<'r>(kept: &'r [Reason], place: &Place) -> Option<&'r str>
+    ensures { option_map (λ w. w.now) result ≡ words_on kept.now place.now }
+{
+    for reason in kept {
+        if reason.place.cmp(place).is_eq() {
+            return Some(reason.words.as_str());
+        }
+    }
+    None
 }
 
 /// Keeps in a cell why a place could not be read; no words if there was no memory for them.

@@ -1,5 +1,7 @@
 //! Where the nights over a folder stand, by its checkpoint.
 
+ghost use Rattle.std.specs.Prelude.{◌≡◌};
+
 use ocfl_cursor::State;
 use ocfl_state::{Checkpoint, Phase};
 
@@ -23,6 +25,8 @@ pub struct Standing {
 }
 
 impl Standing {
+    ghost use Rattle.ocfl_kept.specs.Standing.{last_closed, leaves_more, next_cycle, noted_left, runs_before, spent_until};
+
     /// Before the first night.
     pub fn first() -> Standing {
         Standing {
@@ -53,7 +57,9 @@ impl Standing {
 
     /// The same after what was noted before: the checkpoint that is put once a report is closed
     /// names no branch of that cycle any more.
-    pub fn noted_after(self, before: Standing) -> Standing {
+    pub fn noted_after(self, before: Standing) -> Standing
+        ensures { result ≡ record self { left = noted_left before self } }
+    {
         let left = if self.is_closed && self.cycle == before.cycle {
             before.left
         } else {
@@ -63,7 +69,9 @@ impl Standing {
     }
 
     /// Whether a branch is left out that was not when the nights stood there.
-    pub fn leaves_more_than(&self, before: Standing) -> bool {
+    pub fn leaves_more_than(&self, before: Standing) -> bool
+        ensures { result ≡ leaves_more before self.now }
+    {
         let known = if self.cycle == before.cycle {
             before.left
         } else {
@@ -73,7 +81,9 @@ impl Standing {
     }
 
     /// The cycle whose report was closed last. 0 if none was.
-    pub fn last_closed(&self) -> u64 {
+    pub fn last_closed(&self) -> u64
+        ensures { result ≡ last_closed self.now }
+    {
         if self.is_closed {
             self.cycle
         } else {
@@ -82,12 +92,16 @@ impl Standing {
     }
 
     /// The number of the cycle that a night goes on with: the next one once the report is closed.
-    pub fn next_cycle(&self) -> u64 {
+    pub fn next_cycle(&self) -> u64
+        ensures { result ≡ next_cycle self.now }
+    {
         self.last_closed().saturating_add(1)
     }
 
     /// How many runs of the cycle `now` there were when the nights stood here.
-    pub fn runs_before(&self, now: Standing) -> u64 {
+    pub fn runs_before(&self, now: Standing) -> u64
+        ensures { result ≡ runs_before self.now now }
+    {
         if now.cycle == self.cycle {
             self.runs
         } else {
@@ -96,7 +110,9 @@ impl Standing {
     }
 
     /// What was spent since the nights stood here. A night reads one cycle alone.
-    pub fn spent_until(&self, now: Standing) -> u64 {
+    pub fn spent_until(&self, now: Standing) -> u64
+        ensures { result ≡ spent_until self.now now }
+    {
         if now.cycle == self.cycle {
             now.spent.saturating_sub(self.spent)
         } else {

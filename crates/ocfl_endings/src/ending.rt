@@ -1,11 +1,14 @@
 //! What is said of a night that has ended.
 
+ghost use Rattle.std.specs.Prelude.{◌≡◌, IfOk, Some, option_map, string_bytes};
+ghost use Rattle.ocfl_endings.specs.Ending.{bound_path, ending_line, line_of_fault, line_of_refusal, line_of_stop, message_of, message_on, stopped_line};
+
 use ocfl_cursor::Refused;
 use ocfl_item::Fault;
 use ocfl_kept::names::Names;
 use ocfl_messages::{RefusalMessage, StopMessage, refusal_text, stop_text};
-use ocfl_terms::{Halt, Refusal, Stop};
 use ocfl_state::FolderTrouble;
+use ocfl_terms::{Halt, Refusal, Stop};
 use std::alloc::{AllocError, Global};
 
 /// The words on a checkpoint that a state folder does not take.
@@ -19,7 +22,11 @@ pub fn ending_text(
     words: Option<&str>,
     why: Option<&str>,
     names: Names<'_>,
-) -> Result<Option<String>, AllocError> {
+) -> Result<Option<String>, AllocError>
+    ensures { IfOk result (λ text. option_map string_bytes text
+        ≡ ending_line halt.now (option_map (λ w. w.now) words.entry)
+        (option_map (λ w. w.now) why.entry) names.entry) }
+{
     match halt {
         Halt::CycleEnded(_) | Halt::TimeUp | Halt::Spent | Halt::Asked => Ok(None),
         Halt::Refused(refusal) => Ok(Some(text_of_refusal(alloc, refusal, names)?)),
@@ -35,7 +42,9 @@ pub fn ending_text(
 }
 
 /// The path of the storage root that a folder is bound to, if that is another one. Else empty.
-fn bound_to(alloc: Global, refusal: &Refusal) -> Result<String, AllocError> {
+fn bound_to(alloc: Global, refusal: &Refusal) -> Result<String, AllocError>
+    ensures { IfOk result (λ text. string_bytes text ≡ bound_path refusal.now) }
+{
     match refusal {
         Refusal::OtherRoot(place) => format!(in alloc; "/{}", place.path()),
         _ => Ok(String::new(alloc)),
@@ -43,7 +52,9 @@ fn bound_to(alloc: Global, refusal: &Refusal) -> Result<String, AllocError> {
 }
 
 /// Why a checkpoint is refused. `None` if memory was.
-fn message_on(refused: &Refused) -> Option<RefusalMessage<'static>> {
+fn message_on(refused: &Refused) -> Option<RefusalMessage<'static>>
+    ensures { result ≡ message_on refused.now }
+{
     match refused {
         Refused::NotA(_) => Some(RefusalMessage::NotCheckpoint),
         Refused::Version => Some(RefusalMessage::Version),
@@ -54,7 +65,9 @@ fn message_on(refused: &Refused) -> Option<RefusalMessage<'static>> {
 }
 
 /// Why a night is refused, of a folder that is bound to that root. `None` if memory was.
-fn message_of<'a>(refusal: &Refusal, bound: &'a str) -> Option<RefusalMessage<'a>> {
+fn message_of<'a>(refusal: &Refusal, bound: &'a str) -> Option<RefusalMessage<'a>>
+    ensures { result ≡ message_of refusal.now bound.entry }
+{
     match refusal {
         Refusal::NoCheckpoint => Some(RefusalMessage::NoCheckpoint),
         Refusal::HasReports => Some(RefusalMessage::HasReports),
@@ -72,23 +85,14 @@ fn message_of<'a>(refusal: &Refusal, bound: &'a str) -> Option<RefusalMessage<'a
 }
 
 /// The line on a refusal.
-fn text_of_refusal(
-    alloc: Global,
-    refusal: &Refusal,
-    names: Names<'_>,
-) -> Result<String, AllocError> {
+fn text_of_refusal(alloc: Global, refusal: &Refusal, names: Names<'_>) -> Result<String, AllocError>
+    ensures { IfOk result
+        (λ text. Some (string_bytes text) ≡ line_of_refusal refusal.now names.entry) }
+{
     let bound = bound_to(alloc, refusal)?;
     match message_of(refusal, bound.as_str()) {
         Some(why) => refusal_text(alloc, why, names.root, names.state),
         None => Err(AllocError),
-    }
-}
-
-/// What stopped a run.
-fn stop_of(fault: &Fault) -> StopMessage<'_> {
-    match fault {
-        Fault::Store(place) => StopMessage::At(place),
-        Fault::Memory => StopMessage::Memory,
     }
 }
 
@@ -98,12 +102,14 @@ fn text_of_fault(
     fault: &Fault,
     why: Option<&str>,
     names: Names<'_>,
-) -> Result<String, AllocError> {
-    let words = match fault {
-        Fault::Store(_) => why,
-        Fault::Memory => None,
-    };
-    text_of_stop(alloc, stop_of(fault), words, names)
+) -> Result<String, AllocError>
+    ensures { IfOk result (λ text. string_bytes text
+        ≡ line_of_fault fault.now (option_map (λ w. w.now) why.entry) names.entry) }
+{
+    match fault {
+        Fault::Store(place) => text_of_stop(alloc, StopMessage::At(place), why, names),
+        Fault::Memory => text_of_stop(alloc, StopMessage::Memory, None, names),
+    }
 }
 
 /// The line on a night that stopped.
@@ -112,7 +118,10 @@ fn text_of_stop(
     stop: StopMessage<'_>,
     words: Option<&str>,
     names: Names<'_>,
-) -> Result<String, AllocError> {
+) -> Result<String, AllocError>
+    ensures { IfOk result (λ text. string_bytes text
+        ≡ stopped_line stop.entry (option_map (λ w. w.now) words.entry) names.entry) }
+{
     stop_text(alloc, stop, words, names.part, names.root, names.state)
 }
 
@@ -123,7 +132,11 @@ fn text_of_trouble(
     words: Option<&str>,
     why: Option<&str>,
     names: Names<'_>,
-) -> Result<String, AllocError> {
+) -> Result<String, AllocError>
+    ensures { IfOk result (λ text. string_bytes text
+        ≡ line_of_stop stop.now (option_map (λ w. w.now) words.entry)
+        (option_map (λ w. w.now) why.entry) names.entry) }
+{
     match stop {
         Stop::Worn => refusal_text(alloc, RefusalMessage::Worn, names.root, names.state),
         Stop::Output => text_of_stop(alloc, StopMessage::Output, None, names),

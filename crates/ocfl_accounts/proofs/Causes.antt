@@ -1,6 +1,7 @@
 -- Why a closing was not said, over several calls.
 use Rattle.std.proofs.Common.{ℕ, ◌≤◌, arith}
-use Rattle.ocfl_accounts.specs.{Causes.{IsCause, IsReason}, Said.{Said}}
+use Rattle.ocfl_say.specs.Said.{Said}
+use Rattle.ocfl_accounts.specs.Causes.{IsCause, IsReason}
 use Rattle.ocfl_accounts.specs.declared.closings.ClosingStop.{ClosingStop}
 use Rattle.ocfl_accounts.specs.declared.closings.ClosingStop.TheVariants.{Failed, Output, Memory}
 

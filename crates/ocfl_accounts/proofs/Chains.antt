@@ -4,12 +4,14 @@ use Rattle.std.proofs.{Math.Nat.{eq-or-lt_of_le}, lemmas.Bool.{eqb-true, false�
 use Rattle.std.specs.Prelude.{◌==◌, ◌&&◌, cond, not}
 use Rattle.ocfl_tree.specs.{Ascending.{IsAmong}, Place.{Text}}
 use Rattle.ocfl_compare.specs.declared.change.ChangeAt.{ChangeAt}
-use Rattle.ocfl_accounts.specs.{Kept.{Kept, Account, HasAccount, account_of, is_some, with_account, with_list, with_lists}, Crash.{Outcomes, Passes, After}, Said.{Said, Grows}}
+use Rattle.ocfl_say.specs.Said.{Said, Grows}
+use Rattle.ocfl_accounts.specs.{Kept.{Kept, Account, HasAccount, account_of, is_some, with_account, with_list, with_lists}, Crash.{Outcomes, Passes, After}}
 use Rattle.ocfl_accounts.specs.Telling.{Stand, Outcome, IsAccountSaid, IsSettled, MayAccount, IsOutcomeFor, AreOutcomes, AreSaid, greatest_from}
 use Rattle.ocfl_accounts.specs.{Rounds.{Told, AreTold, MayAccounts, account_told}, Calls.{Call, AreCalls, left_by, IsSaidIn, WasSaid, IsDoneIn}}
 use Rattle.ocfl_accounts.specs.{declared.{closings.ClosingStop.{ClosingStop}, pair.Pair.{Pair}}}
 use Rattle.ocfl_accounts.specs.{Cycle.{is_there}, Pairs.{waits}, Unsaid.{NoneUnsaid, is_unsaid, oldest}}
-use Rattle.ocfl_accounts.proofs.{Outputs.{grows_none, grows_on}, Rounds.{said_before}}
+use Rattle.ocfl_say.proofs.Outputs.{grows_none, grows_on}
+use Rattle.ocfl_accounts.proofs.Rounds.{said_before}
 
 -- it was among the accounts of one of these outcomes
 abbrev WasKept : Outcomes → Account → Type 0

@@ -1,6 +1,5 @@
 mod Causes
 mod Chains
-mod Outputs
 mod Passing
 mod Memories
 mod Rounds

@@ -2,7 +2,8 @@
 use Rattle.std.proofs.Common.{◌≡◌, ◌⊎◌, inl, inr, ℕ, ◌≤◌, List, refl, sym, ap, subst, ◌∙◌, arith}
 use Rattle.ocfl_tree.specs.Place.{Text}
 use Rattle.ocfl_compare.specs.declared.change.ChangeAt.{ChangeAt}
-use Rattle.ocfl_accounts.specs.{Kept.{Kept, account_of, with_account}, Crash.{Step, Same, MayPut, Outcomes, After, Passes}, Said.{Said}}
+use Rattle.ocfl_say.specs.Said.{Said}
+use Rattle.ocfl_accounts.specs.{Kept.{Kept, account_of, with_account}, Crash.{Step, Same, MayPut, Outcomes, After, Passes}}
 use Rattle.ocfl_accounts.specs.{Telling.{IsAccountSaid, MayAccount}, declared.pair.Pair.{Pair}}
 
 -- where the account of what was said may be put, the account of the cycle may

@@ -4,11 +4,13 @@ use Rattle.std.proofs.lemmas.Bool.{false≢true}
 use Rattle.std.specs.Prelude.{◌==◌, cond}
 use Rattle.ocfl_tree.specs.Place.{Text}
 use Rattle.ocfl_compare.specs.declared.change.ChangeAt.{ChangeAt}
-use Rattle.ocfl_accounts.specs.{Kept.{Kept, Account, is_some, with_account, with_accounts, with_list, with_lists}, Said.{Said, Grows}}
+use Rattle.ocfl_say.specs.Said.{Said, Grows}
+use Rattle.ocfl_accounts.specs.Kept.{Kept, Account, is_some, with_account, with_accounts, with_list, with_lists}
 use Rattle.ocfl_accounts.specs.{Cycle.{Cycle}, Changes.{AreFound, IsSince, IsSinceWhole}}
 use Rattle.ocfl_accounts.specs.{Crash.{Outcomes, Passes}, Telling.{IsAccountSaid, MayAccount}}
 use Rattle.ocfl_accounts.specs.{Rounds.{Told, AreTold, MayAccounts, account_told}, declared.pair.Pair.{Pair}}
-use Rattle.ocfl_accounts.proofs.{Outputs.{grows_none, grows_on}, Passing.{passes_then}}
+use Rattle.ocfl_say.proofs.Outputs.{grows_none, grows_on}
+use Rattle.ocfl_accounts.proofs.Passing.{passes_then}
 
 -- a cycle without an account after others were put had none before
 pub none_before : (accounts : List Account) (lists : ℕ → Option Text) (cycle : ℕ) → is_some (with_lists accounts lists cycle) ≡ false → is_some (lists cycle) ≡ false

@@ -2,7 +2,8 @@
 use Rattle.std.proofs.Common.{◌≡◌, ◌∙◌, ap, sym, subst, false, List}
 use Rattle.ocfl_tree.specs.Place.{Text}
 use Rattle.ocfl_compare.specs.declared.change.ChangeAt.{ChangeAt}
-use Rattle.ocfl_accounts.specs.{Cycle.{Cycle, there}, Kept.{Kept, has_account}, Changes.{AreChanges}, Said.{Said, HasSaid, Grows}}
+use Rattle.ocfl_say.specs.Said.{Said, HasSaid, Grows}
+use Rattle.ocfl_accounts.specs.{Cycle.{Cycle, there}, Kept.{Kept, has_account}, Changes.{AreChanges}}
 use Rattle.ocfl_accounts.specs.{Pairs.{IsPair}, Telling.{IsAccountSaid}, declared.pair.Pair.{Pair}}
 
 -- what was found over what calls showed then is found over what they showed first

@@ -2,7 +2,8 @@
 use Rattle.std.specs.Prelude.{◌≡◌, ◌⊎◌, ℕ, List, [], ◌∷◌, ⊤}
 use Rattle.ocfl_tree.specs.{Place.{Text}}
 use Rattle.ocfl_compare.specs.declared.change.ChangeAt.{ChangeAt}
-use Rattle.ocfl_accounts.specs.{Kept.{Kept, Account}, Crash.{Outcomes, Same, Follows, Passes}, Said.{Said, Grows}}
+use Rattle.ocfl_say.specs.Said.{Said, Grows}
+use Rattle.ocfl_accounts.specs.{Kept.{Kept, Account}, Crash.{Outcomes, Same, Follows, Passes}}
 use Rattle.ocfl_accounts.specs.{Telling.{Stand, IsAccountSaid, IsSettled}, Rounds.{Told, MayAccounts, account_told}}
 use Rattle.ocfl_accounts.specs.declared.pair.Pair.{Pair}
 

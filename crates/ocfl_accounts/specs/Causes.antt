@@ -1,6 +1,7 @@
 -- Why a closing was not said.
 use Rattle.std.specs.Prelude.{ℕ, ◌<◌, ◌≤◌, Result, Ok, Err}
-use Rattle.ocfl_accounts.specs.{Said.{Said, HasFailed}, declared.closings.ClosingStop.{ClosingStop}}
+use Rattle.ocfl_say.specs.Said.{Said, HasFailed}
+use Rattle.ocfl_accounts.specs.declared.closings.ClosingStop.{ClosingStop}
 use Rattle.ocfl_accounts.specs.declared.closings.ClosingStop.TheVariants.{Failed, Output, Memory}
 
 -- Closings had failed so often before a call, and so often after it: that they failed is answered only

@@ -2,7 +2,6 @@ pub mod Cycle
 pub mod Sights
 pub mod Kept
 pub mod Crash
-pub mod Said
 pub mod Causes
 pub mod Pairs
 pub mod Changes

@@ -5,7 +5,7 @@ use Rattle.std.specs.List.{find}
 use Rattle.ocfl_tree.specs.Place.{Text, Place}
 use Rattle.ocfl_compare.specs.declared.change.{Change.{Change}, ChangeAt.{ChangeAt}}
 use Rattle.ocfl_compare.specs.declared.change.Change.TheVariants.{Gone, Undeclared, FileGone, Unlooked, Found, Repaired, Missing}
-use Rattle.ocfl_accounts.specs.{Cycle.{Cycle, Sight, there, away}, Crash.{Outcomes}, Kept.{Kept, Account, no_lists, with_lists}, Said.{Said}}
+use Rattle.ocfl_accounts.specs.{Cycle.{Cycle, Sight, there, away}, Crash.{Outcomes}, Kept.{Kept, Account, no_lists, with_lists}}
 use Rattle.ocfl_accounts.specs.declared.pair.Pair.{Pair}
 
 -- a closed cycle, and the bytes of its report, if that is there
@@ -97,7 +97,3 @@ is_grave c = by c.change
     by (Found code) = true
     by (Repaired code) = false
     by Missing = true
-
--- what it has taken, all of which is committed, and how often it has failed
-abbrev pub said_so : Text → ℕ → Said
-said_so text failures = record { given = Some text; committed = Some text; failures = Some failures }

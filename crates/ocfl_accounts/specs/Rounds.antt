@@ -2,7 +2,8 @@
 use Rattle.std.specs.Prelude.{◌≡◌, ℕ, ◌+◌, ◌<◌, ◌≤◌, List, [], ◌∷◌, map}
 use Rattle.ocfl_tree.specs.Place.{Text}
 use Rattle.ocfl_compare.specs.declared.change.ChangeAt.{ChangeAt}
-use Rattle.ocfl_accounts.specs.{Kept.{Kept, Account, account_of, with_accounts}, Crash.{Step}, Said.{Said, Grows}}
+use Rattle.ocfl_say.specs.Said.{Said, Grows}
+use Rattle.ocfl_accounts.specs.{Kept.{Kept, Account, account_of, with_accounts}, Crash.{Step}}
 use Rattle.ocfl_accounts.specs.{Telling.{IsAccountSaid}, declared.pair.Pair.{Pair}}
 
 -- a closing that was said: its cycle, what that was compared with, what it found, and how the output

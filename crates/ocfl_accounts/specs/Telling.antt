@@ -5,7 +5,8 @@ use Rattle.ocfl_tree.specs.Place.{Text}
 use Rattle.ocfl_compare.specs.declared.change.ChangeAt.{ChangeAt}
 use Rattle.ocfl_accounts.specs.{Cycle.{there}, Unsaid.{is_unsaid}}
 use Rattle.ocfl_accounts.specs.Kept.{Kept, Account, account_of, has_account, with_account}
-use Rattle.ocfl_accounts.specs.{Crash.{Step}, Said.{Said, HasSaid, Grows}, Pairs.{IsPair, waits, status_of}, Changes.{AreChanges}}
+use Rattle.ocfl_say.specs.Said.{Said, HasSaid, Grows}
+use Rattle.ocfl_accounts.specs.{Crash.{Step}, Pairs.{IsPair, waits, status_of}, Changes.{AreChanges}}
 use Rattle.ocfl_accounts.specs.{Causes.{IsReason}, declared.{closings.ClosingStop.{ClosingStop}, pair.Pair.{Pair}}}
 
 -- there is nothing to say of a cycle: its account is there, or its report is not

@@ -24,7 +24,7 @@
 //! - Its status is 3 if the report is not whole or a report is not there with which it is to be
 //!   compared, 1 if something is new or gone, else 0.
 //!
-//! [`MemClosings`] and [`MemOutput`] do in memory what the traits say.
+//! [`MemClosings`] does in memory what the trait says.
 #![tactic(auto)]
 
 mod closed;
@@ -34,7 +34,6 @@ mod held;
 pub mod laws;
 mod memory;
 mod pair;
-mod say;
 mod telling;
 mod unsaid;
 
@@ -42,8 +41,7 @@ pub use closed::{ClosedCycle, Look};
 pub use closings::{ClosingStop, Closings, Found};
 pub use earlier::{Earlier, find_earlier};
 pub use held::{MemAccount, MemCycle};
-pub use memory::{MemClosings, MemOutput};
+pub use memory::MemClosings;
 pub use pair::{Pair, find_pair, status_of};
-pub use say::{NotSaid, Say};
 pub use telling::{say_cycle, say_cycles};
 pub use unsaid::find_unsaid;

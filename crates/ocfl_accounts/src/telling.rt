@@ -2,7 +2,8 @@
 ghost use Rattle.std.specs.Prelude.{◌≡◌, ◌⊎◌, false, IsTrue, IfOk, IsOkUnless, OnErr, OnOk, Option};
 ghost use Rattle.ocfl_accounts.specs.{Causes.{HasCause, HasReason}, Crash.{MayPut, Passes}};
 ghost use Rattle.ocfl_accounts.specs.{Cycle.{there}, Kept.{account_with, has_account}, Rounds.{MayAccounts}};
-ghost use Rattle.ocfl_accounts.specs.{Said.{Grows, HasFailed, HasSaid}, Telling.{kept_then}};
+ghost use Rattle.ocfl_say.specs.Said.{Grows, HasFailed, HasSaid};
+ghost use Rattle.ocfl_accounts.specs.Telling.{kept_then};
 ghost use Rattle.ocfl_accounts.specs.Telling.{AreSaid, IsLeftAlone, IsOutcome, IsToldRightly, MayAccount};
 ghost use Rattle.ocfl_accounts.specs.Telling.{outcome_of, stand_of};
 ghost use Rattle.ocfl_accounts.specs.declared.closings.ClosingStop.{ClosingStop as ModelStop};
@@ -10,7 +11,7 @@ ghost use Rattle.ocfl_accounts.specs.declared.closings.ClosingStop.{ClosingStop 
 use crate::closed::{ClosedCycle, Look};
 use crate::closings::{ClosingStop, Closings};
 use crate::pair::{Pair, find_pair, status_of};
-use crate::say::Say;
+use ocfl_say::Say;
 use std::alloc::Global;
 
 /// Says what a closed cycle found, unless its account or no report of it is there, and then puts its

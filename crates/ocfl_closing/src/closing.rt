@@ -8,7 +8,7 @@ ghost use Rattle.std.proofs.lemmas.Bool.{false≢true};
 use crate::account::{Account, Paths, compared, compared_whole, paths_of, text_of};
 use crate::comparing::{checked_reader, gone_report, refuse_changed_pair, refuse_read, uncompared};
 use crate::words::{Words, account_of};
-use ocfl_accounts::{ClosingStop, NotSaid, Pair, Say, find_unsaid, say_cycles};
+use ocfl_accounts::{ClosingStop, Pair, find_unsaid, say_cycles};
 use ocfl_closed::{ClosedDisk, DiskClosings, SayChanges};
 use ocfl_compare::CompareStop;
 use ocfl_disk::StateFile;
@@ -23,7 +23,8 @@ use ocfl_kept::state_dir::Folder;
 use ocfl_messages::{ClosingRow, LogRow, log_line};
 use ocfl_reading::checking::Checking;
 use ocfl_reading::expected::{Listed, read_expected};
-use ocfl_report::{Line, write_all_of};
+use ocfl_report::Line;
+use ocfl_say::Speaking;
 use ocfl_tree::Place;
 use std::alloc::{AllocError, Global};
 use std::fs::File;
@@ -31,21 +32,6 @@ use std::io::{self, BufReader, Write};
 use std::mem;
 use std::os::unix::fs::FileExt;
 use std::time::Clock;
-
-/// An output over a writer, which commits by flushing it.
-#[derive(Drop)]
-struct Speaking<'w, W: Write> {
-    out: &'w mut W,
-}
-
-impl<W: Write> Say for Speaking<'_, W> {
-    fn say(&mut self, text: &[u8]) -> Result<(), NotSaid> {
-        if write_all_of(self.out, text).is_ok() && self.out.flush().is_ok() {
-            return Ok(());
-        }
-        Err(NotSaid)
-    }
-}
 
 /// The line of the log on the closing of a cycle in a night.
 fn closing_line(

@@ -1,9 +1,10 @@
 //! Which closed cycles are said, and what each is compared with.
 use crate::tests::common::store::place_of;
 use ocfl_accounts::{
-    ClosedCycle, ClosingStop, Closings, MemClosings, MemCycle, MemOutput, find_earlier, find_pair,
+    ClosedCycle, ClosingStop, Closings, MemClosings, MemCycle, find_earlier, find_pair,
     find_unsaid, say_cycle, say_cycles, status_of,
 };
+use ocfl_say::MemOutput;
 use ocfl_tree::Place;
 use std::alloc::Global;
 use std::test::Fail;

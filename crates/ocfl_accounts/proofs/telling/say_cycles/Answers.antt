@@ -1,7 +1,8 @@
 use Rattle.std.proofs.Common.{rules, ◌≡◌, ◌∙◌, inl, [], ◌∷◌, ◌++◌, length-append, ap, sym, arith}
 use Rattle.std.specs.Prelude.{max}
 use Rattle.ocfl_accounts.specs.{Rounds.{MayAccounts}, Telling.{Outcome, Stand}}
-use Rattle.ocfl_accounts.proofs.{Outcomes.{outcomes_more, greatest_more}, Outputs.{grows_on}, Passing.{weaker}}
+use Rattle.ocfl_say.proofs.Outputs.{grows_on}
+use Rattle.ocfl_accounts.proofs.{Outcomes.{outcomes_more, greatest_more}, Passing.{weaker}}
 use Rattle.ocfl_accounts.proofs.Rounds.{cycles_pass, may_more, may_within}
 use Rattle.ocfl_accounts.proofs.telling.say_cycles.Goals as goal
 

@@ -1,5 +1,6 @@
 use Rattle.std.proofs.Common.{◌≡◌, ◌⊎◌, ◌+◌, ◌≤◌, List, length, IsTrue}
-use Rattle.ocfl_accounts.specs.{Crash.{Passes}, Rounds.{MayAccounts}, Said.{Grows}}
+use Rattle.ocfl_say.specs.Said.{Grows}
+use Rattle.ocfl_accounts.specs.{Crash.{Passes}, Rounds.{MayAccounts}}
 use Rattle.ocfl_accounts.specs.Telling.{Outcome, Stand, AreOutcomes, greatest_from}
 use Rattle.ocfl_accounts.proofs.telling.say_cycles.Given as goal
 

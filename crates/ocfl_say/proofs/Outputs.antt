@@ -2,7 +2,7 @@
 use Rattle.std.proofs.Common.{ℕ, [], ◌++◌, Option, Some, None, arith}
 use Rattle.std.proofs.KnownBytes.{Appends-nil, Appends-trans}
 use Rattle.ocfl_tree.specs.Place.{Text}
-use Rattle.ocfl_accounts.specs.Said.{Said, Grew, Grows, NotLessOften}
+use Rattle.ocfl_say.specs.Said.{Said, Grew, Grows, NotLessOften}
 
 grew_none : (s : Option Text) → Grew s s
 grew_none s = ([], Appends-nil s)

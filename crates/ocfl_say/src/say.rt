@@ -1,6 +1,6 @@
 //! An output on which whole texts are said.
 ghost use Rattle.std.specs.Prelude.{OnErr, OnOk};
-ghost use Rattle.ocfl_accounts.specs.Said.{Grows, HasFailed, HasSaid, Said, unknown};
+ghost use Rattle.ocfl_say.specs.Said.{Grows, HasFailed, HasSaid, Said, unknown};
 
 /// A text was not said, or not all of it.
 #[derive(Clone, Copy, Debug, PartialEq, Eq)]

@@ -4,3 +4,4 @@ mod LastClosed
 mod Copies
 mod Decoded
 mod ClosedLaws
+mod Cycling

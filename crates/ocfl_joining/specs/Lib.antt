@@ -6,5 +6,7 @@ pub mod Memory
 pub mod Within
 pub mod Facts
 pub mod Status
+pub mod Cycles
+pub mod CycleMemory
 -- What private functions say: a reader of the public contracts needs none of it.
 pub mod Internal

@@ -10,6 +10,9 @@
 //! - `join` joins them if nothing but that keeps it from it; else it names each part that does, and
 //!   opens no report.
 //! - `find_within` gives the places of a list that are in a part.
+//! - `join_cycles` joins the last cycle that all parts have closed, and of the 1,000 before it, the
+//!   oldest first, each that all of them have closed and that is not joined; it has the greatest
+//!   status. That is so if what is seen of the cycles is as the trait [`PartCycles`] says.
 //!
 //! And if the reports are as the trait [`PartReports`] says:
 //!
@@ -20,10 +23,13 @@
 //! - It is put as one that is whole exactly if each report is, and else what was left out is given.
 //!
 //! If the report of each part is what the audit has there, what is joined is the audit
-//! (`closed_reports_join_to_the_audit`). `MemoryReports` meets the trait.
+//! (`closed_reports_join_to_the_audit`). `MemoryReports` meets the trait, and `MemCycles`
+//! that of cycles.
 #![tactic(auto)]
 
 mod copying;
+mod cycle_memory;
+mod cycles;
 mod facts;
 mod joining;
 pub mod laws;
@@ -35,6 +41,8 @@ mod status;
 mod within;
 
 pub use copying::PartStop;
+pub use cycle_memory::{MemClosed, MemCycles, MemJoined};
+pub use cycles::{CycleFailed, JoinedLook, Joining, PartCycles, join_cycles};
 pub use facts::{Facts, facts_of, is_emptied, known_part, last_of_all, mark_of, runs_of};
 pub use joining::{JoinStop, Joined, join};
 pub use memory::{MemoryJoined, MemoryReport, MemoryReports};

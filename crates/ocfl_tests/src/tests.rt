@@ -16,6 +16,7 @@ mod identity;
 mod inventory;
 mod item;
 mod join_disk;
+mod joined_cycles;
 mod joining;
 mod laws;
 mod line;

@@ -1,0 +1,288 @@
+//! Which cycles of parts are joined, from which one on, and in which order.
+ghost use Rattle.std.specs.Prelude.{◌≡◌, ◌⊎◌, ◌≤◌, ◌&&◌, ℕ, Bool, false, IsTrue, IfOk, OnErr};
+ghost use Rattle.ocfl_joining.specs.Cycles.{AreJoined, IsBeside, SeenCycles, end_of as end_by};
+ghost use Rattle.ocfl_joining.specs.Cycles.{have_all as have_all_of, is_due as is_due_by};
+ghost use Rattle.ocfl_joining.specs.Cycles.{is_none as is_none_of, is_there as is_there_by};
+ghost use Rattle.ocfl_joining.specs.Cycles.{made_of, no_cycles, oldest, whole_of as whole_by};
+ghost use Rattle.ocfl_joining.specs.Cycles.{with_joining};
+ghost use Rattle.ocfl_joining.specs.Internal.Cycling.{AreTried, Joins, JoinsNone, TriesEarlier};
+ghost use Rattle.ocfl_joining.specs.Internal.Cycling.{TriesLast};
+
+use crate::status::{CycleEnd, join_status};
+
+/// How many cycles back one is joined at most.
+const MOST_BACK: u64 = 1_000;
+
+/// What there is of the joined report of a cycle.
+#[derive(Clone, Copy, Debug, PartialEq, Eq)]
+pub enum JoinedLook {
+    /// It is there.
+    There {
+        /// Whether it is whole.
+        whole: bool,
+    },
+    /// It is there compressed.
+    Packed,
+    /// It is not there.
+    Away,
+}
+
+/// The joining of a cycle that ended.
+#[derive(Clone, Copy, Debug, PartialEq, Eq)]
+pub struct Joining {
+    /// Which cycle it was.
+    pub cycle: u64,
+    /// Whether the joined report that was made before is whole. The closed reports were compared with
+    /// it. `None` if there was none, and it was to be made.
+    pub made: Option<bool>,
+    /// How it ended.
+    pub end: CycleEnd,
+}
+
+/// A call over the cycles of parts was not done. Who answers so keeps why.
+#[derive(Clone, Copy, Debug, PartialEq, Eq)]
+pub struct CycleFailed;
+
+/// The closed reports of all parts, and the joined ones that are made of them, cycle by cycle.
+///
+/// One that states none of these clauses is not told.
+pub trait PartCycles {
+    /// Whether the cycles are as the clauses say. Of those that are not told they say nothing.
+    ghost told: { Bool } = { false };
+
+    /// What calls show, and which joinings ended.
+    ghost seen: { Self → SeenCycles } = { λ _. no_cycles };
+
+    /// What there is of the joined report of a cycle.
+    fn look(&mut self, cycle: u64) -> Result<JoinedLook, CycleFailed>
+        ensures value { IsTrue told → IfOk result (λ look. look ≡ (seen self.old).joined cycle) }
+        ensures seen { IsTrue told → seen self.new ≡ seen self.old };
+
+    /// Whether the part with this number, from 1, has a closed report of a cycle, and has said what
+    /// that found.
+    fn has_closed(&mut self, part: usize, cycle: u64) -> Result<bool, CycleFailed>
+        ensures value { IsTrue told → IfOk result (λ is. is ≡ (seen self.old).closed cycle part) }
+        ensures seen { IsTrue told → seen self.new ≡ seen self.old };
+
+    /// Makes the joined report of a cycle, or compares with the closed ones that which was `made`
+    /// before, whole or not. The parts that keep it from being joined are named if `names` is set.
+    /// Gives whether the joined report is whole, and `None` if parts keep it from being joined.
+    fn join(
+        &mut self,
+        cycle: u64,
+        made: Option<bool>,
+        names: bool,
+    ) -> Result<Option<bool>, CycleFailed>
+        ensures ended { IsTrue told → IfOk result (λ whole. (seen self.new).joinings
+            ≡ with_joining (record { cycle = cycle; made = made; end = end_by names whole })
+            (seen self.old).joinings) }
+        ensures failed { IsTrue told → OnErr result
+            ((seen self.new).joinings ≡ (seen self.old).joinings) }
+        ensures beside { IsTrue told → IsBeside cycle (seen self.old) (seen self.new) };
+
+    /// Says why the last call failed, and gives the status of that.
+    fn fail(&mut self) -> u8
+        ensures status { 3 ≤ result }
+        ensures seen { IsTrue told → seen self.new ≡ seen self.old };
+}
+
+/// Joins the reports of so many parts, of each cycle up to the last one that all of them have closed,
+/// the oldest first. Gives the greatest status.
+///
+/// Of the 1,000 cycles before the last one each is joined that is not joined yet, and that all parts
+/// have closed and said: no part is named then, since one that keeps a cycle from being joined was
+/// named when that was the last. The last one is compared with its joined report if that is there,
+/// else it is joined, or the parts are named that keep it from it. A call that fails stops its own
+/// cycle alone.
+pub fn join_cycles<C: PartCycles>(cycles: &mut C, parts: usize, last: u64) -> u8
+    ensures joined { IsTrue C.told
+        → AreJoined (C.seen cycles.old) (C.seen cycles.new) parts last result }
+{
+    let earlier = join_earlier_ones(cycles, parts, last);
+    earlier.max(join_last_or_fail(cycles, last))
+}
+
+/// Joins the cycles before the last one. Gives the greatest status.
+fn join_earlier_ones<C: PartCycles>(cycles: &mut C, parts: usize, last: u64) -> u8
+    ensures tried { IsTrue C.told → (next : ℕ) × (((next ≤ last) ⊎ (next ≡ oldest last))
+        × ((last ≤ next)
+        × AreTried parts (oldest last) next (C.seen cycles.old) (C.seen cycles.new) result)) }
+{
+    let first = oldest_of(last);
+    let mut status = 0;
+    for cycle in first..last {
+        status = status.max(join_or_fail(cycles, parts, cycle));
+    }
+    status
+}
+
+/// The first cycle that is looked at.
+fn oldest_of(last: u64) -> u64
+    ensures { result ≡ oldest last }
+{
+    last.saturating_sub(MOST_BACK).max(1)
+}
+
+/// Joins a cycle before the last one, if it is due, or says why that fails. Gives the status.
+#[tactic(auto, using(crate::proofs::Cycling::earlier_failed))]
+fn join_or_fail<C: PartCycles>(cycles: &mut C, parts: usize, cycle: u64) -> u8
+    ensures tried { IsTrue C.told
+        → TriesEarlier parts cycle (C.seen cycles.old) (C.seen cycles.new) result }
+{
+    match join_earlier(cycles, parts, cycle) {
+        Ok(status) => status,
+        Err(_) => cycles.fail(),
+    }
+}
+
+/// Joins a cycle before the last one, if it is due. Gives the status.
+#[tactic(auto, using(crate::proofs::Cycling::passed_by, crate::proofs::Cycling::due_joined, crate::proofs::Cycling::none_joined, crate::proofs::Cycling::none_then))]
+fn join_earlier<C: PartCycles>(cycles: &mut C, parts: usize, cycle: u64) -> Result<u8, CycleFailed>
+    ensures tried { IsTrue C.told → IfOk result (λ status.
+        TriesEarlier parts cycle (C.seen cycles.old) (C.seen cycles.new) status) }
+    ensures failed { IsTrue C.told
+        → OnErr result (JoinsNone cycle (C.seen cycles.old) (C.seen cycles.new)) }
+{
+    if is_due(cycles, parts, cycle)? {
+        join_over(cycles, cycle, None, false)
+    } else {
+        Ok(0)
+    }
+}
+
+/// Whether a cycle is not joined, and each of so many parts has closed it and said so.
+fn is_due<C: PartCycles>(cycles: &mut C, parts: usize, cycle: u64) -> Result<bool, CycleFailed>
+    ensures value { IsTrue C.told
+        → IfOk result (λ is. is ≡ is_due_by (C.seen cycles.old) parts cycle) }
+    ensures seen { IsTrue C.told → C.seen cycles.new ≡ C.seen cycles.old }
+{
+    if is_there(cycles.look(cycle)?) {
+        return Ok(false);
+    }
+    have_all(cycles, parts, cycle)
+}
+
+fn is_there(look: JoinedLook) -> bool
+    ensures { result ≡ is_there_by look }
+{
+    match look {
+        JoinedLook::There { .. } | JoinedLook::Packed => true,
+        JoinedLook::Away => false,
+    }
+}
+
+/// Whether each of so many parts has closed a cycle, and has said what that found.
+fn have_all<C: PartCycles>(cycles: &mut C, parts: usize, cycle: u64) -> Result<bool, CycleFailed>
+    ensures value { IsTrue C.told
+        → IfOk result (λ have. have ≡ have_all_of (C.seen cycles.old).closed parts cycle) }
+    ensures seen { IsTrue C.told → C.seen cycles.new ≡ C.seen cycles.old }
+{
+    let mut have = true;
+    for index in 0..parts {
+        have = has_too(cycles, have, index + 1, cycle)?;
+    }
+    Ok(have)
+}
+
+/// Whether the parts before this one have closed a cycle, and this one has.
+fn has_too<C: PartCycles>(
+    cycles: &mut C,
+    have: bool,
+    part: usize,
+    cycle: u64,
+) -> Result<bool, CycleFailed>
+    ensures value { IsTrue C.told
+        → IfOk result (λ is. is ≡ (have && (C.seen cycles.old).closed cycle part)) }
+    ensures seen { IsTrue C.told → C.seen cycles.new ≡ C.seen cycles.old }
+{
+    if have {
+        cycles.has_closed(part, cycle)
+    } else {
+        Ok(false)
+    }
+}
+
+/// Joins a cycle over what was made of it before. Gives the status.
+#[tactic(auto, using(crate::proofs::Cycling::joins_of, crate::proofs::Cycling::none_of))]
+fn join_over<C: PartCycles>(
+    cycles: &mut C,
+    cycle: u64,
+    made: Option<bool>,
+    names: bool,
+) -> Result<u8, CycleFailed>
+    ensures joins { IsTrue C.told → IfOk result (λ status.
+        Joins cycle made names (C.seen cycles.old) (C.seen cycles.new) status) }
+    ensures failed { IsTrue C.told
+        → OnErr result (JoinsNone cycle (C.seen cycles.old) (C.seen cycles.new)) }
+    ensures beside { IsTrue C.told → IsBeside cycle (C.seen cycles.old) (C.seen cycles.new) }
+{
+    let whole = cycles.join(cycle, made, names)?;
+    Ok(join_status(end_of(names, whole)))
+}
+
+pub(crate) fn end_of(names: bool, whole: Option<bool>) -> CycleEnd
+    ensures { result ≡ end_by names whole }
+{
+    match whole {
+        Some(whole) => CycleEnd::IsJoined { whole },
+        None => CycleEnd::IsHindered { named: names },
+    }
+}
+
+/// Joins the last cycle, or says why that fails. Gives the status.
+#[tactic(auto, using(crate::proofs::Cycling::last_joined, crate::proofs::Cycling::last_failed))]
+fn join_last_or_fail<C: PartCycles>(cycles: &mut C, cycle: u64) -> u8
+    ensures tried { IsTrue C.told
+        → TriesLast cycle (C.seen cycles.old) (C.seen cycles.new) result }
+{
+    match join_last(cycles, cycle) {
+        Ok(status) => status,
+        Err(_) => cycles.fail(),
+    }
+}
+
+/// Compares the joined report of the last cycle, or joins it, and names the parts that keep it from
+/// it. Gives the status.
+#[tactic(auto, using(crate::proofs::Cycling::joins_then, crate::proofs::Cycling::none_joined, crate::proofs::Cycling::none_then))]
+fn join_last<C: PartCycles>(cycles: &mut C, cycle: u64) -> Result<u8, CycleFailed>
+    ensures joins { IsTrue C.told → IfOk result (λ status.
+        Joins cycle (made_of (C.seen cycles.old) cycle)
+        (is_none_of (made_of (C.seen cycles.old) cycle))
+        (C.seen cycles.old) (C.seen cycles.new) status) }
+    ensures failed { IsTrue C.told
+        → OnErr result (JoinsNone cycle (C.seen cycles.old) (C.seen cycles.new)) }
+{
+    let made = find_made(cycles, cycle)?;
+    join_over(cycles, cycle, made, is_none(made))
+}
+
+fn is_none(made: Option<bool>) -> bool
+    ensures { result ≡ is_none_of made }
+{
+    match made {
+        Some(_) => false,
+        None => true,
+    }
+}
+
+/// Whether the joined report of a cycle is whole, if it is there. There is none of cycle 0.
+fn find_made<C: PartCycles>(cycles: &mut C, cycle: u64) -> Result<Option<bool>, CycleFailed>
+    ensures made { IsTrue C.told
+        → IfOk result (λ made. made ≡ made_of (C.seen cycles.old) cycle) }
+    ensures seen { IsTrue C.told → C.seen cycles.new ≡ C.seen cycles.old }
+{
+    if cycle == 0 {
+        return Ok(None);
+    }
+    let look = cycles.look(cycle)?;
+    Ok(whole_of(look))
+}
+
+fn whole_of(look: JoinedLook) -> Option<bool>
+    ensures { result ≡ whole_by look }
+{
+    match look {
+        JoinedLook::There { whole } => Some(whole),
+        JoinedLook::Packed | JoinedLook::Away => None,
+    }
+}

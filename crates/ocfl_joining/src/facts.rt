@@ -1,5 +1,5 @@
 //! What the checkpoints of parts say of them, and of their closed reports.
-ghost use Rattle.std.specs.Prelude.{◌≡◌, ◌++◌, IfOk, OnOk, map};
+ghost use Rattle.std.specs.Prelude.{◌≡◌, ◌++◌, IfOk, OnOk, map, min};
 ghost use Rattle.std.specs.Option.{option_map};
 ghost use Rattle.ocfl_cursor.specs.State.{state_of};
 ghost use Rattle.ocfl_joining.specs.Facts.{below_of, from_of, has_ended, has_lines, is_closed};
@@ -139,6 +139,13 @@ fn last_in(facts: &Option<Facts>) -> u64
     }
 }
 
+/// The lesser one of the last cycle that a part has closed and of that of the parts before it.
+fn lesser(facts: &Option<Facts>, last: u64) -> u64
+    ensures { result ≡ min (last_by facts.now) last }
+{
+    last_in(facts).min(last)
+}
+
 /// The last cycle that each part has closed: 0 if one has closed none, and the greatest number if
 /// there is no part.
 pub fn last_of_all(all: &[Option<Facts>]) -> u64
@@ -146,7 +153,7 @@ pub fn last_of_all(all: &[Option<Facts>]) -> u64
 {
     let mut last = u64::MAX;
     for facts in all {
-        last = last_in(facts).min(last);
+        last = lesser(facts, last);
     }
     last
 }

@@ -1,7 +1,7 @@
-use Rattle.std.proofs.Common.{rules, ◌≡◌, ◌+◌, ◌++◌, ◌∷◌, [], ◌∙◌, sym, ap, take}
+use Rattle.std.proofs.Common.{◌++◌, ◌∷◌, [], ◌∙◌, sym, ap, take}
 use Rattle.std.specs.Prelude.{min}
 use Rattle.std.proofs.lemmas.List.{take_more}
-use Rattle.ocfl_joining.specs.Facts.{last_of_all}
+use Rattle.ocfl_joining.specs.Facts.{last_by, last_of_all}
 use Rattle.ocfl_joining.proofs.LastClosed.{last_more}
 use Rattle.ocfl_joining.proofs.facts.last_of_all.Goals as goal
 
@@ -11,7 +11,4 @@ loop-facts-preserved c =
     let i = c.loop-facts.facts-index in
     let f = c.facts-item.result in
     let more = take_more fs i f c.loop-facts-test.true ∙ ap (λ y. take i fs ++ y ∷ []) (sym c.facts-item.is) in
-    let last : c.min-last.result ≡ min c.last_in.result c.loop-facts.last = search rules in
-    let all : c.min-last.result ≡ last_of_all (take (i + 1) fs) =
-    last ∙ (λ j. min (c.last_in.ensures j) (c.loop-facts.invariant j)) ∙ sym (last_more (take i fs) f) ∙ ap last_of_all (sym more) in
-    all
+    c.lesser-last.ensures ∙ ap (min (last_by f)) c.loop-facts.invariant ∙ sym (last_more (take i fs) f) ∙ ap last_of_all (sym more)

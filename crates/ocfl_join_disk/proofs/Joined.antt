@@ -13,7 +13,7 @@ use Rattle.ocfl_join_disk.specs.Shown.{AreDurable, MayLeave, file_if, file_named
 use Rattle.ocfl_join_disk.specs.Comparing.{found_of}
 use Rattle.ocfl_join_disk.specs.Internal.Making.{IsNamed}
 
-same_of : (cycle file : ℕ) (old new : ℕ → Text) (names : List ClosedName) → IsNoClosed file names → ((other : ℕ) → other ≢ file → new other ≡ old other)
+pub same_of : (cycle file : ℕ) (old new : ℕ → Text) (names : List ClosedName) → IsNoClosed file names → ((other : ℕ) → other ≢ file → new other ≡ old other)
     → joined_of cycle new names ≡ joined_of cycle old names
 same_of cycle file old new [] apart same = refl
 same_of cycle file old new (name ∷ names) apart same = λ i. put_if (name.cycle == cycle) (record { whole = name.whole; bytes = same name.file apart.0 i }) (same_of cycle file old new names apart.1 same i)
@@ -25,7 +25,7 @@ put_more false p ps qs = refl
 put_true : (is : Bool) (p : Put) → is ≡ true → put_if is p [] ≡ p ∷ []
 put_true is p e = ap (λ (b : Bool). put_if b p []) e
 
-more_of : (cycle : ℕ) (whole : Bool) (file : ℕ) (bytes : ℕ → Text) (names : List ClosedName)
+pub more_of : (cycle : ℕ) (whole : Bool) (file : ℕ) (bytes : ℕ → Text) (names : List ClosedName)
     → joined_of cycle bytes (names ++ (record { cycle = cycle; whole = whole; file = file }) ∷ []) ≡ joined_of cycle bytes names ++ (record { whole = whole; bytes = bytes file }) ∷ []
 more_of cycle whole file bytes [] = put_true (cycle == cycle) (record { whole = whole; bytes = bytes file }) (eq-eqb cycle cycle refl)
 more_of cycle whole file bytes (name ∷ names) =

@@ -29,10 +29,12 @@ found_of true whole None = []
 found_of true whole (Some text) = record { whole = whole; bytes = text } ∷ []
 
 -- What was compared stands for what is made, and the report that was found for the one that is put.
+-- Nothing is said of it.
 abbrev pub seen_comparing : ℕ → Bool → PartFiles → Text → Stored → Text → Bool → Seen
 seen_comparing cycle whole parts left s compared found = record {
   bytes = parts.bytes cycle;
   marks = parts.marks cycle;
+  word = λ _ _. None;
   opened = parts.opened;
   left = left;
   made = compared;

@@ -1,26 +1,33 @@
 -- What a joining sees on a disk: the closed reports of the parts, and the joined ones.
-use Rattle.std.specs.Prelude.{◌≡◌, ℕ, ◌+◌, ◌-◌, ◌==◌, ◌&&◌, List, [], ◌∷◌, ◌++◌, length, take, Bool, true, false, not, if◌then◌else◌, Option, Some, None, IsSome, ⊤}
+use Rattle.std.specs.Prelude.{◌≡◌, ℕ, ◌+◌, ◌-◌, ◌==◌, ◌&&◌, List, [], ◌∷◌, ◌++◌, length, take, Bool, true, false, not, if◌then◌else◌, Option, Some, None, IsSome, refl, ◌≤◌, ⊤}
 use Rattle.std.specs.Io.BufRead.{take_through}
 use Rattle.std.specs.Option.{option_map}
 use Rattle.ocfl_tree.specs.Place.{Text}
 use Rattle.ocfl_disk.specs.Names.{ClosedName, Stored}
-use Rattle.ocfl_disk.specs.PowerCut.{DiskState}
+use Rattle.ocfl_disk.specs.PowerCut.{DiskState, IsDisk}
 use Rattle.ocfl_joining.specs.Reports.{Put, Seen}
 use Rattle.ocfl_joining.specs.declared.reports.KeptMark.{KeptMark}
 use Rattle.ocfl_joining.specs.declared.reports.KeptMark.TheVariants.{NotKept}
 
 -- Of each cycle and each part, by its number: the bytes of the closed report, and with what it was
--- closed. And which reports were opened, in order.
+-- closed. Of each cycle, what is said of a joined report, whole or not, that has these bytes. And which
+-- reports were opened, in order.
 pub record PartFiles : Type 0 where
   pub bytes : ℕ → ℕ → Text
   pub marks : ℕ → ℕ → KeptMark
+  pub word : ℕ → Bool → Text → Text
   pub opened : List ℕ
 
 abbrev pub no_files : PartFiles
-no_files = record { bytes = λ _ _. []; marks = λ _ _. NotKept; opened = [] }
+no_files = record { bytes = λ _ _. []; marks = λ _ _. NotKept; word = λ _ _ _. []; opened = [] }
 
 abbrev pub with_opened : ℕ → PartFiles → PartFiles
-with_opened number p = record { bytes = p.bytes; marks = p.marks; opened = p.opened ++ number ∷ [] }
+with_opened number p = record { bytes = p.bytes; marks = p.marks; word = p.word; opened = p.opened ++ number ∷ [] }
+
+-- the closed reports are as they were, and with what they were closed
+pub record SameFiles (old new : PartFiles) : Type 0 where
+  pub bytes : new.bytes ≡ old.bytes
+  pub marks : new.marks ≡ old.marks
 
 -- ---- the joined reports of a cycle
 
@@ -38,6 +45,24 @@ joined_in cycle s = joined_of cycle s.bytes s.names.closed
 -- a cut may leave these, by what they are of what it leaves
 abbrev pub MayLeave : DiskState → (Stored → List Put) → List Put → Type 0
 MayLeave d puts_of puts = (c : Stored) × (d.may_leave c × (puts ≡ puts_of c))
+
+-- the same of what one might have left since a moment
+abbrev pub HadLeft : DiskState → (Stored → List Put) → ℕ → List Put → Type 0
+HadLeft d puts_of t puts = (c : Stored) × (d.left_since t c × (puts ≡ puts_of c))
+
+-- The laws of the trait: what a cut may leave now is what it leaves since this moment.
+pub left_now : {d : DiskState} → IsDisk d → (cycle : ℕ) → MayLeave d (joined_in cycle) (joined_in cycle d.seen)
+left_now disk cycle = (_, (disk.stays, refl))
+
+pub was_left : {d : DiskState} → IsDisk d → (cycle t : ℕ) (puts : List Put) → t ≤ d.moment → MayLeave d (joined_in cycle) puts → HadLeft d (joined_in cycle) t puts
+was_left disk cycle t puts le m = (m.0, (disk.counts_now t m.0 le m.1.0, m.1.1))
+
+pub only_left : {d : DiskState} → IsDisk d → (cycle : ℕ) (puts : List Put) → HadLeft d (joined_in cycle) d.moment puts → MayLeave d (joined_in cycle) puts
+only_left disk cycle puts m = (m.0, (disk.only_now m.0 m.1.0, m.1.1))
+
+-- a cut leaves the names that calls show
+abbrev pub HasSureNames : DiskState → Type 0
+HasSureNames d = (c : Stored) → d.may_leave c → c.names ≡ d.seen.names
 
 -- a cut leaves just these
 abbrev pub AreDurable : ℕ → DiskState → Type 0
@@ -84,6 +109,7 @@ abbrev pub seen_making : ℕ → PartFiles → Text → Stored → Option ℕ �
 seen_making cycle parts left s made buffer = record {
   bytes = parts.bytes cycle;
   marks = parts.marks cycle;
+  word = λ whole bytes. Some (parts.word cycle whole bytes);
   opened = parts.opened;
   left = left;
   made = made_of s.bytes made ++ buffer;

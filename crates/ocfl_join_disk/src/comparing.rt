@@ -1,6 +1,7 @@
 //! A joined report that was made before, which is compared with the closed reports of the parts.
 ghost use Rattle.std.specs.Prelude.{◌≡◌, ◌≢◌, ◌++◌, [], false, true, None, Some, IsErr, IsTrue, IfOk, OnOk};
 ghost use Rattle.std.specs.Io.KnownBytes.{Consumes, IsAtEnd};
+ghost use mathlib.Core.Bool.{false≢true};
 ghost use Rattle.ocfl_disk.specs.Disk.{Calm};
 ghost use Rattle.ocfl_join_disk.specs.Shown.{MayLeave, left_in, text_in};
 ghost use Rattle.ocfl_join_disk.specs.Comparing.{compared_in, end_of, found_of, seen_comparing};
@@ -13,7 +14,8 @@ use std::alloc::Global;
 use std::io::{self, Read};
 
 /// The closed reports of parts in a cycle, and the joined one that was made of them before: they are
-/// compared with it, and nothing is made. It tells what it shows if its disk does.
+/// compared with it, and nothing is made. It tells what it shows if its disk does, and not what a
+/// crash leaves, since it changes nothing.
 #[derive(Drop)]
 pub struct ComparedReports<D: JoinDisk + Drop> {
     parts: Parts<D>,
@@ -80,6 +82,7 @@ impl<D: JoinDisk + Drop> ComparedReports<D> {
     /// That what is there is not the joined report, or could not be read.
     fn refuse(&mut self, error: Option<io::Error>) -> Result<(), ReportTrouble>
         ensures err { IsErr result }
+        ensures parts { IsTrue D.told → D.parts self.new.parts.disk ≡ D.parts self.old.parts.disk }
         ensures calm { IsTrue D.told → Calm (D.state self.old.parts.disk)
             (D.state self.new.parts.disk) }
         ensures made { self.new.made ≡ self.old.made }
@@ -115,8 +118,7 @@ impl<D: JoinDisk + Drop> ComparedReports<D> {
             ≡ compared_in D.Report.remaining self.old.made
             (text_in self.old.cycle self.old.whole (D.state self.old.parts.disk).seen)
             ++ bytes.now) }
-        ensures parts { IsTrue D.told → OnOk result
-            (D.parts self.new.parts.disk ≡ D.parts self.old.parts.disk) }
+        ensures parts { IsTrue D.told → D.parts self.new.parts.disk ≡ D.parts self.old.parts.disk }
         ensures report { OnOk result (self.new.parts.report ≡ self.old.parts.report) }
         ensures found { self.new.found ≡ self.old.found }
         ensures whole { self.new.whole ≡ self.old.whole }
@@ -146,8 +148,7 @@ impl<D: JoinDisk + Drop> ComparedReports<D> {
         ensures as_whole { OnOk result (whole ≡ self.old.whole) }
         ensures new { OnOk result (self.old.found ≡ false) }
         ensures none { OnOk result (self.new.made ≡ None) }
-        ensures parts { IsTrue D.told → OnOk result
-            (D.parts self.new.parts.disk ≡ D.parts self.old.parts.disk) }
+        ensures parts { IsTrue D.told → D.parts self.new.parts.disk ≡ D.parts self.old.parts.disk }
         ensures report { OnOk result (self.new.parts.report ≡ self.old.parts.report) }
         ensures found { self.new.found ≡ self.old.found }
         ensures same { self.new.whole ≡ self.old.whole }
@@ -181,6 +182,12 @@ impl<D: JoinDisk + Drop> PartReports for ComparedReports<D> {
     ghost may_leave = { λ s puts. MayLeave (D.state s.parts.disk)
         (λ stored. found_of s.found s.whole (text_in s.cycle s.whole stored)) puts };
 
+    ghost stays = { λ lasts reports. absurd (false≢true lasts) };
+
+    ghost counts_now = { λ lasts reports. absurd (false≢true lasts) };
+
+    ghost only_now = { λ lasts reports. absurd (false≢true lasts) };
+
     fn begin(&mut self) -> Result<(), ReportTrouble> {
         self.open_made()
     }
@@ -197,10 +204,14 @@ impl<D: JoinDisk + Drop> PartReports for ComparedReports<D> {
         self.compare(bytes)
     }
 
+    fn find_word(&mut self, _whole: bool) -> Result<Option<Vec<u8>>, ReportTrouble> {
+        Ok(None)
+    }
+
     fn put(&mut self, whole: bool) -> Result<(), ReportTrouble> {
         self.find_end(whole)?;
         // Who made it may have been killed before this.
-        self.parts.disk.sync_folder()?;
+        self.parts.sync_names()?;
         self.found = true;
         Ok(())
     }

@@ -2,10 +2,11 @@
 ghost use Rattle.std.specs.Prelude.{◌≡◌, ◌⊎◌, ◌++◌, ℕ, Bool, false, IsTrue, IfOk, IfSome, IsSome};
 ghost use Rattle.std.specs.Prelude.{MatchResult, OnOk, Some, length};
 ghost use Rattle.ocfl_disk.specs.Disk.{Calm, ClosesOver, Makes, Writes, has_name};
-ghost use Rattle.ocfl_disk.specs.Names.{Stored};
+ghost use Rattle.ocfl_disk.specs.Names.{report_of};
 ghost use Rattle.ocfl_disk.specs.PowerCut.{DiskState, IsDisk, untold};
 ghost use Rattle.ocfl_disk.specs.declared.state_file.StateFile.TheVariants.{Report as TheReport};
-ghost use Rattle.ocfl_join_disk.specs.Shown.{PartFiles, no_files, text_in, with_opened};
+ghost use Rattle.ocfl_join_disk.specs.Shown.{HasSureNames, PartFiles, SameFiles, no_files};
+ghost use Rattle.ocfl_join_disk.specs.Shown.{text_in, with_opened};
 
 use ocfl_joining::{KeptMark, ReportTrouble};
 use std::io::{self, BufRead};
@@ -50,6 +51,7 @@ pub trait JoinDisk {
         ensures calm { IsTrue told → Calm (state self.old) (state self.new) }
         ensures opened { IsTrue told → OnOk result
             (parts self.new ≡ with_opened part (parts self.old)) }
+        ensures reports { IsTrue told → SameFiles (parts self.old) (parts self.new) }
         ensures bytes { IsTrue told → IfOk result (λ found. Self.Report.remaining found.report
             ≡ Some ((parts self.old).bytes cycle part)) }
         ensures mark { IsTrue told → IfOk result (λ found. found.mark
@@ -114,6 +116,14 @@ pub trait JoinDisk {
         ensures synced { IsTrue told → OnOk result
             (IsTrue ((state self.new).is_synced (number file.now))) };
 
+    /// The word on the joined report that is made, whole or not, of which all bytes were appended.
+    fn find_word(&mut self, cycle: u64, whole: bool) -> Result<Vec<u8>, ReportTrouble>
+        ensures parts { IsTrue told → parts self.new ≡ parts self.old }
+        ensures calm { IsTrue told → Calm (state self.old) (state self.new) }
+        ensures word { IsTrue told → IfOk result (λ word. word.items
+            ≡ (parts self.old).word cycle whole
+            (report_of (state self.old).seen.bytes (state self.old).seen.names.report)) };
+
     /// Gives it the name of the joined report of a cycle, which is not there.
     fn rename(&mut self, cycle: u64, whole: bool) -> Result<(), ReportTrouble>
         requires new { IsTrue told
@@ -131,8 +141,7 @@ pub trait JoinDisk {
     fn sync_folder(&mut self) -> Result<(), ReportTrouble>
         ensures parts { IsTrue told → parts self.new ≡ parts self.old }
         ensures calm { IsTrue told → Calm (state self.old) (state self.new) }
-        ensures names { IsTrue told → OnOk result ((c : Stored) → (state self.new).may_leave c
-            → c.names ≡ (state self.new).seen.names) };
+        ensures names { IsTrue told → OnOk result (HasSureNames (state self.new)) };
 
     /// The laws of what is on a disk.
     ghost is_disk: { IsTrue told → (disk : Self) → IsDisk (state disk) };

@@ -2,9 +2,10 @@
 ghost use Rattle.std.specs.Prelude.{◌≡◌, ◌⊎◌, ◌++◌, [], None, Some, IsTrue, OnOk, OnErr, ℕ};
 ghost use Rattle.std.specs.Option.{option_map};
 ghost use Rattle.ocfl_disk.specs.Disk.{Calm};
-ghost use Rattle.ocfl_join_disk.specs.Shown.{AreDurable, MayLeave, joined_in, left_in};
-ghost use Rattle.ocfl_join_disk.specs.Shown.{made_of, seen_making};
-ghost use Rattle.ocfl_join_disk.specs.Internal.Making.{IsNamed};
+ghost use Rattle.ocfl_joining.specs.Crash.{MayPut, Same};
+ghost use Rattle.ocfl_join_disk.specs.Shown.{AreDurable, HadLeft, MayLeave, joined_in, left_in};
+ghost use Rattle.ocfl_join_disk.specs.Shown.{left_now, made_of, only_left, seen_making, was_left};
+ghost use Rattle.ocfl_join_disk.specs.Internal.Making.{IsNamed, PutsPass, put_made};
 
 use crate::disk::JoinDisk;
 use crate::parts::Parts;
@@ -56,12 +57,15 @@ impl<D: JoinDisk + Drop> MakingReports<D> {
     }
 
     /// Makes the file, which is empty.
+    #[tactic(auto, using(crate::proofs::Putting::calm_puts, crate::proofs::Putting::puts_none))]
     fn create(&mut self) -> Result<(), ReportTrouble>
         ensures put { IsTrue D.told
             → joined_in self.old.cycle (D.state self.new.parts.disk).seen
             ≡ joined_in self.old.cycle (D.state self.old.parts.disk).seen }
         ensures empty { IsTrue D.told → OnOk result
             (made_of (D.state self.new.parts.disk).seen.bytes (option_map D.number self.new.made) ≡ []) }
+        ensures crash { IsTrue D.told → PutsPass self.old.cycle Same
+            (D.state self.old.parts.disk) (D.state self.new.parts.disk) }
         ensures parts { IsTrue D.told → D.parts self.new.parts.disk ≡ D.parts self.old.parts.disk }
         ensures report { self.new.parts.report ≡ self.old.parts.report }
         ensures buffer { self.new.buffer ≡ self.old.buffer }
@@ -75,6 +79,7 @@ impl<D: JoinDisk + Drop> MakingReports<D> {
     }
 
     /// Writes what is not written yet.
+    #[tactic(auto, using(crate::proofs::Putting::puts_none))]
     fn flush(&mut self) -> Result<(), ReportTrouble>
         ensures put { IsTrue D.told
             → joined_in self.old.cycle (D.state self.new.parts.disk).seen
@@ -84,6 +89,10 @@ impl<D: JoinDisk + Drop> MakingReports<D> {
             ≡ made_of (D.state self.old.parts.disk).seen.bytes (option_map D.number self.old.made)
             ++ self.old.buffer.items) }
         ensures empty { OnOk result (self.new.buffer.items ≡ []) }
+        ensures there { IsTrue D.told → OnOk result ((file : D.Made) × ((self.new.made ≡ Some file)
+            × ((D.state self.new.parts.disk).seen.names.report ≡ Some (D.number file)))) }
+        ensures crash { IsTrue D.told → PutsPass self.old.cycle Same
+            (D.state self.old.parts.disk) (D.state self.new.parts.disk) }
         ensures parts { IsTrue D.told → D.parts self.new.parts.disk ≡ D.parts self.old.parts.disk }
         ensures report { self.new.parts.report ≡ self.old.parts.report }
         ensures cycle { self.new.cycle ≡ self.old.cycle }
@@ -134,6 +143,10 @@ impl<D: JoinDisk + Drop> MakingReports<D> {
         ensures none { OnOk result (self.new.made ≡ None) }
         ensures durable { IsTrue D.told → OnOk result
             (AreDurable self.old.cycle (D.state self.new.parts.disk)) }
+        ensures crash { IsTrue D.told → PutsPass self.old.cycle
+            (MayPut (put_made whole (D.state self.old.parts.disk).seen.bytes
+            (option_map D.number self.old.made)))
+            (D.state self.old.parts.disk) (D.state self.new.parts.disk) }
         ensures buffer { self.new.buffer ≡ self.old.buffer }
         ensures parts { IsTrue D.told → D.parts self.new.parts.disk ≡ D.parts self.old.parts.disk }
         ensures report { self.new.parts.report ≡ self.old.parts.report }
@@ -145,7 +158,7 @@ impl<D: JoinDisk + Drop> MakingReports<D> {
         }
         self.made = None;
         self.parts.disk.rename(self.cycle, whole)?;
-        self.parts.disk.sync_folder()
+        self.parts.sync_names()
     }
 }
 
@@ -156,7 +169,19 @@ impl<D: JoinDisk + Drop> PartReports for MakingReports<D> {
         (left_in D.Report.remaining s.parts.report) (D.state s.parts.disk).seen
         (option_map D.number s.made) s.buffer.items };
 
-    ghost may_leave = { λ s puts. MayLeave (D.state s.parts.disk) (joined_in s.cycle) puts };
+    ghost lasts = { D.told };
+
+    ghost may_leave = { λ s. MayLeave (D.state s.parts.disk) (joined_in s.cycle) };
+
+    ghost moment = { λ s. (D.state s.parts.disk).moment };
+
+    ghost left_since = { λ s. HadLeft (D.state s.parts.disk) (joined_in s.cycle) };
+
+    ghost stays = { λ told s. left_now (D.is_disk told s.parts.disk) s.cycle };
+
+    ghost counts_now = { λ told s. was_left (D.is_disk told s.parts.disk) s.cycle };
+
+    ghost only_now = { λ told s. only_left (D.is_disk told s.parts.disk) s.cycle };
 
     fn begin(&mut self) -> Result<(), ReportTrouble> {
         self.buffer.clear();
@@ -177,6 +202,12 @@ impl<D: JoinDisk + Drop> PartReports for MakingReports<D> {
             return Ok(());
         }
         self.flush()
+    }
+
+    fn find_word(&mut self, whole: bool) -> Result<Option<Vec<u8>>, ReportTrouble> {
+        self.flush()?;
+        let word = self.parts.disk.find_word(self.cycle, whole)?;
+        Ok(Some(word))
     }
 
     fn put(&mut self, whole: bool) -> Result<(), ReportTrouble> {

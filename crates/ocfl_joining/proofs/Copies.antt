@@ -52,6 +52,7 @@ module _ (from below : Option Place) (lines : List Line) (text : Text) (old new 
         ∙ (λ i. record {
           bytes = first.bytes;
           marks = first.marks;
+          word = first.word;
           opened = first.opened;
           left = sym (ap (λ s. s.left) g) i;
           made = (append_assoc first.made (lines_text lines) text ∙ ap (λ t. first.made ++ t) (sym text_is)) i;
@@ -62,7 +63,7 @@ module _ (from below : Option Place) (lines : List Line) (text : Text) (old new 
 pub none_given : (s : Seen) → AreGiven [] s s
 none_given s = record {
   read = refl;
-  rest = λ i. record { bytes = s.bytes; marks = s.marks; opened = s.opened; left = s.left; made = sym (append-nil s.made) i; put = s.put };
+  rest = λ i. record { bytes = s.bytes; marks = s.marks; word = s.word; opened = s.opened; left = s.left; made = sym (append-nil s.made) i; put = s.put };
 }
 
 -- ---- the end of a report
@@ -88,6 +89,7 @@ module _ (separators : List Place) (n : ℕ) (first before after : Seen) (h : Ar
   all_copied_more = record {
     bytes = c.bytes ∙ h.bytes;
     marks = c.marks ∙ h.marks;
+    word = c.word ∙ h.word;
     opened = c.opened ∙ ap (λ ns. ns ++ (n + 1) ∷ []) h.opened ∙ append_assoc first.opened (numbers n) ((n + 1) ∷ []) ∙ ap (λ ns. first.opened ++ ns) (sym (numbers_more n));
     made = c.made ∙ (λ i. h.made i ++ h.bytes i (n + 1)) ∙ append_assoc first.made (flat_map first.bytes (numbers n)) (first.bytes (n + 1)) ∙ ap (λ t. first.made ++ t) (sym (flat_more first.bytes n));
     put = c.put ∙ h.put;
@@ -104,6 +106,7 @@ pub none_copied : (separators : List Place) (s : Seen) → AreAllCopied separato
 none_copied separators s = record {
   bytes = refl;
   marks = refl;
+  word = refl;
   opened = sym (append-nil s.opened);
   made = sym (append-nil s.made);
   put = refl;
@@ -121,6 +124,7 @@ module _ (separators : List Place) (number : ℕ) (old opened new : Seen) (mark 
   part_copied = record {
     bytes = ap (λ s. s.bytes) a.given.rest ∙ ap (λ s. s.bytes) o;
     marks = ap (λ s. s.marks) a.given.rest ∙ ap (λ s. s.marks) o;
+    word = ap (λ s. s.word) a.given.rest ∙ ap (λ s. s.word) o;
     opened = ap (λ s. s.opened) a.given.rest ∙ ap (λ s. s.opened) o;
     made = ap (λ s. s.made) a.given.rest ∙ (λ i. (o i).made ++ sym bytes_are i);
     put = ap (λ s. s.put) a.given.rest ∙ ap (λ s. s.put) o;

@@ -5,3 +5,7 @@ mod Copies
 mod Decoded
 mod ClosedLaws
 mod Cycling
+mod Passing
+mod Stays
+mod Makes
+mod Memories

@@ -5,7 +5,8 @@ use Rattle.ocfl_tree.specs.Place.{Text, Place, place_cmp}
 use Rattle.ocfl_report.specs.{Line.{Line}, Text.{lines_text}}
 use Rattle.ocfl_separators.specs.{Separators.{start_of_part, end_of_part}, Splits.{AreLines}}
 use Rattle.ocfl_state.specs.Pieces.{summary_of}
-use Rattle.ocfl_joining.specs.{Missing.{numbers}, Reports.{Seen}}
+use Rattle.ocfl_say.specs.Said.{Said, HasSaid}
+use Rattle.ocfl_joining.specs.{Missing.{numbers}, Reports.{Put, Seen}, Crash.{Step}}
 use Rattle.ocfl_joining.specs.declared.reports.KeptMark.{KeptMark}
 use Rattle.ocfl_joining.specs.declared.reports.KeptMark.TheVariants.{NotKept, Kept, Damaged}
 
@@ -44,12 +45,30 @@ all_parts separators = numbers (length separators + 1)
 abbrev pub joined_text : List Place → Seen → Text
 joined_text separators s = flat_map s.bytes (all_parts separators)
 
--- the joined report was put, of reports that are right; each was opened once, in order
-pub record IsJoined (separators : List Place) (whole : Bool) (old new : Seen) : Type 0 where
-  pub put : new.put ≡ old.put ++ record { whole = whole; bytes = joined_text separators old } ∷ []
-  pub right : All (IsRight separators old) (all_parts separators)
+abbrev pub joined_of : List Place → Bool → Seen → Put
+joined_of separators whole s = record { whole = whole; bytes = joined_text separators s }
+
+-- it was said and committed, if anything is to be said; else nothing was
+abbrev pub IsWordSaid : Option Text → Said → Said → Type 0
+IsWordSaid None old new = new ≡ old
+IsWordSaid (Some word) old new = HasSaid word old new
+
+-- all reports are right, and the word on the joined one was said
+pub record CanPut (separators : List Place) (whole : Bool) (s : Seen) (before after : Said) : Type 0 where
+  pub right : All (IsRight separators s) (all_parts separators)
+  pub said : IsWordSaid (s.word whole (joined_text separators s)) before after
+
+-- the joined report was put, which could be put; each report was opened once, in order
+pub record IsJoined (separators : List Place) (whole : Bool) (old new : Seen) (before after : Said) : Type 0 where
+  pub put : new.put ≡ old.put ++ joined_of separators whole old ∷ []
+  pub could : CanPut separators whole old before after
   pub once : new.opened ≡ old.opened ++ all_parts separators
 
 -- nothing was put, or the joined report was
-abbrev pub MayJoin : List Place → Bool → Seen → Seen → Type 0
-MayJoin separators whole old new = (new.put ≡ old.put) ⊎ IsJoined separators whole old new
+abbrev pub MayJoin : List Place → Bool → Seen → Seen → Said → Said → Type 0
+MayJoin separators whole old new before after = (new.put ≡ old.put) ⊎ IsJoined separators whole old new before after
+
+-- a crash leaves what it might have left before; or that with the joined report, all of it, which could
+-- be put
+abbrev pub MayLeaveJoined : List Place → Bool → Seen → Said → Said → Step
+MayLeaveJoined separators whole s before after old new = (new ≡ old) ⊎ ((new ≡ old ++ joined_of separators whole s ∷ []) × CanPut separators whole s before after)

@@ -1,5 +1,6 @@
 pub mod Missing
 pub mod Reports
+pub mod Crash
 pub mod Joined
 pub mod Stops
 pub mod Memory

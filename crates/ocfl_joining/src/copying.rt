@@ -3,6 +3,7 @@ ghost use Rattle.std.specs.Prelude.{◌≡◌, ◌≢◌, ◌↔◌, ℕ, List, 
 ghost use Rattle.std.specs.Prelude.{IfOk, OnOk, option_map};
 ghost use Rattle.ocfl_separators.specs.Splits.{IsNotLess};
 ghost use Rattle.ocfl_state.specs.Pieces.{Carries};
+ghost use Rattle.ocfl_joining.specs.{Crash.{Passes, Same}, Reports.{SameReports}};
 ghost use Rattle.ocfl_joining.specs.Joined.{IsAsClosed, IsBelow, IsFrom, IsReportIn, IsRight};
 ghost use Rattle.ocfl_joining.specs.Internal.Copying.{AreCopied, CopiesLine, HasCopied};
 ghost use Rattle.ocfl_joining.specs.Internal.Copying.{IsCopy, IsFit, IsFitLine, IsFitPlace};
@@ -162,6 +163,7 @@ fn copy_text(
 }
 
 /// Copies all lines of the report that is open, which is of a part with these ends.
+#[tactic(auto, using(crate::proofs::Passing::nothing_passes, crate::proofs::Passing::two_same, crate::proofs::Stays::same_reports, crate::proofs::Stays::reports_on))]
 fn copy_lines<R: PartReports>(
     alloc: Global,
     from: Option<&Place>,
@@ -174,6 +176,9 @@ fn copy_lines<R: PartReports>(
         → IsReportIn (option_map (λ p. p.now) from.entry) (option_map (λ p. p.now) below.entry)
         (R.seen reports.old).left → ⊥ }
     ensures unput { IsTrue R.told → (R.seen reports.new).put ≡ (R.seen reports.old).put }
+    ensures reports { IsTrue R.told → SameReports (R.seen reports.old) (R.seen reports.new) }
+    ensures crash { IsTrue R.lasts
+        → Passes R.may_leave R.moment R.left_since Same reports.old reports.new }
 {
     let mut text = Vec::new(alloc);
     let mut copied = nothing();
@@ -202,6 +207,7 @@ fn is_as_closed(kept: KeptMark, copied: &Copied) -> bool
 }
 
 /// Copies the report of the part with this number, and checks it.
+#[tactic(auto, using(crate::proofs::Passing::nothing_passes, crate::proofs::Passing::two_same, crate::proofs::Stays::same_reports, crate::proofs::Stays::reports_on))]
 pub(crate) fn copy_part<R: PartReports>(
     alloc: Global,
     separators: &Separators,
@@ -215,6 +221,9 @@ pub(crate) fn copy_part<R: PartReports>(
     ensures bad { IsTrue R.told → result ≡ Err PartStop.Changed
         → IsRight separators.now (R.seen reports.old) number → ⊥ }
     ensures unput { IsTrue R.told → (R.seen reports.new).put ≡ (R.seen reports.old).put }
+    ensures reports { IsTrue R.told → SameReports (R.seen reports.old) (R.seen reports.new) }
+    ensures crash { IsTrue R.lasts
+        → Passes R.may_leave R.moment R.left_since Same reports.old reports.new }
 {
     let Some((from, below)) = separators.ends(number) else {
         return Err(PartStop::Failed);

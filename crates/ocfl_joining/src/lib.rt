@@ -21,6 +21,9 @@
 //! - Each is opened once, and read and checked while it is copied. Nothing is put before all of them
 //!   were, and an error puts nothing but the joined report. A part that it names is one of them.
 //! - It is put as one that is whole exactly if each report is, and else what was left out is given.
+//! - The word on it is said and committed before it is put: if that fails, nothing is put. At any
+//!   moment a crash leaves the joined reports as they were, or with all of this one, once its word was
+//!   said, if the reports tell what a crash leaves. The reports of the parts stay as they are.
 //!
 //! If the report of each part is what the audit has there, what is joined is the audit
 //! (`closed_reports_join_to_the_audit`). `MemoryReports` meets the trait, and `MemCycles`

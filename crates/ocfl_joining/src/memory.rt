@@ -1,10 +1,12 @@
 //! Closed reports of parts in memory, and the joined ones that were made of them.
-ghost use Rattle.std.specs.Prelude.{◌≡◌, ◌≤◌, [], length, true, IfSome};
-ghost use Rattle.ocfl_joining.specs.Memory.{bytes_of, kept_of, nothing_put, seen_in};
+ghost use Rattle.std.specs.Prelude.{◌≡◌, [], length, true, refl, IfOk, IfSome};
+ghost use Rattle.ocfl_joining.specs.Memory.{bytes_of, kept_of, leaves_now, nothing_put, seen_in};
+ghost use Rattle.ocfl_joining.specs.Memory.{is_left_now, is_left_only, word_of};
+ghost use Rattle.ocfl_joining.specs.Memory.{left_since as was_left_since};
 
 use crate::reports::{KeptMark, PartReports, ReportTrouble};
 use ocfl_report::read_next_line;
-use std::alloc::Global;
+use std::alloc::{AllocError, Global};
 
 /// The closed report of a part, and with what it was closed.
 #[derive(Debug, Drop)]
@@ -83,12 +85,33 @@ fn part_with(parts: &[MemoryReport], number: usize) -> Option<&MemoryReport>
     parts.get(number.checked_sub(1)?)
 }
 
+/// The word on a joined report of so many bytes.
+fn word_for(alloc: Global, bytes: &[u8]) -> Result<Vec<u8>, AllocError>
+    ensures { IfOk result (λ word. word.items ≡ word_of bytes.now) }
+{
+    let mut word = Vec::new(alloc);
+    word.push((bytes.len() % 256) as u8)?;
+    Ok(word)
+}
+
 impl PartReports for MemoryReports {
     ghost told = { true };
 
     ghost seen = { seen_in };
 
-    ghost may_leave = { λ reports puts. puts ≡ (seen_in reports).put };
+    ghost lasts = { true };
+
+    ghost may_leave = { leaves_now };
+
+    ghost moment = { λ reports. length (seen_in reports).put };
+
+    ghost left_since = { was_left_since };
+
+    ghost stays = { λ lasts reports. refl };
+
+    ghost counts_now = { λ lasts reports t puts le now. is_left_now reports t puts le now };
+
+    ghost only_now = { λ lasts reports puts left. is_left_only reports puts left };
 
     fn begin(&mut self) -> Result<(), ReportTrouble> {
         self.made.clear();
@@ -120,6 +143,11 @@ impl PartReports for MemoryReports {
     fn give(&mut self, bytes: &[u8]) -> Result<(), ReportTrouble> {
         self.made.extend_from_slice(bytes)?;
         Ok(())
+    }
+
+    fn find_word(&mut self, _whole: bool) -> Result<Option<Vec<u8>>, ReportTrouble> {
+        let word = word_for(self.alloc, self.made.as_slice())?;
+        Ok(Some(word))
     }
 
     fn put(&mut self, whole: bool) -> Result<(), ReportTrouble> {

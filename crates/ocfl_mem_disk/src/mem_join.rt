@@ -1,13 +1,14 @@
 //! Closed reports of parts in memory, which are joined on a disk in memory.
-ghost use Rattle.std.specs.Prelude.{◌≡◌, true, [], Ok, Err, IfErr, IfOk, IfSome};
+ghost use Rattle.std.specs.Prelude.{◌≡◌, true, [], Ok, Err, IfErr, IfOk, IfSome, IsTrue, OnOk};
+ghost use Rattle.ocfl_disk.specs.{Disk.{Calm}, declared.state_file.StateFile.{StateFile as ModelFile}};
 ghost use Rattle.ocfl_joining.specs.Memory.{bytes_of, kept_of};
-ghost use Rattle.ocfl_mem_disk.specs.Log.{disk_of};
+ghost use Rattle.ocfl_mem_disk.specs.{Joining.{word_of}, Log.{disk_of}};
 
 use crate::mem_disk::{MemDisk, MemHandle};
 use ocfl_disk::{Disk, Reason, StateFile};
 use ocfl_join_disk::{JoinDisk, OpenPart};
 use ocfl_joining::{MemoryReport, ReportTrouble};
-use std::alloc::Global;
+use std::alloc::{AllocError, Global};
 use std::io::{self, Cursor, ErrorKind};
 
 /// Closed reports of parts in memory, the same of each cycle, and a disk in memory on which they are
@@ -84,6 +85,30 @@ impl MemJoinDisk {
     }
 }
 
+/// Brings the names of a folder to the disk.
+fn sync_names(disk: &mut MemDisk, folder: StateFile) -> Result<(), ReportTrouble>
+    ensures calm { Calm (disk_of disk.old.log.items disk.old.faults)
+        (disk_of disk.new.log.items disk.new.faults) }
+    ensures others { (other : ModelFile)
+        → IsTrue ((disk_of disk.old.log.items disk.old.faults).has_names other)
+        → IsTrue ((disk_of disk.new.log.items disk.new.faults).has_names other) }
+    ensures names { OnOk result
+        (IsTrue ((disk_of disk.new.log.items disk.new.faults).has_names folder)) }
+{
+    let named = disk.sync_folder(folder);
+    answer(named)
+}
+
+/// The word on a joined report of a cycle.
+fn word_for(alloc: Global, cycle: u64, whole: bool) -> Result<Vec<u8>, AllocError>
+    ensures { IfOk result (λ word. word.items ≡ word_of cycle whole) }
+{
+    let mut word = Vec::new(alloc);
+    word.push((cycle % 256) as u8)?;
+    word.push(if whole { 1 } else { 0 })?;
+    Ok(word)
+}
+
 impl JoinDisk for MemJoinDisk {
     type Report = Cursor<Vec<u8>>;
 
@@ -94,6 +119,7 @@ impl JoinDisk for MemJoinDisk {
     ghost parts = { λ d. record {
       bytes = λ _. bytes_of d.parts.items;
       marks = λ _. kept_of d.parts.items;
+      word = λ cycle whole _. word_of cycle whole;
       opened = d.opened.items;
     } };
 
@@ -170,15 +196,17 @@ impl JoinDisk for MemJoinDisk {
         answer(synced)
     }
 
+    fn find_word(&mut self, cycle: u64, whole: bool) -> Result<Vec<u8>, ReportTrouble> {
+        Ok(word_for(self.alloc, cycle, whole)?)
+    }
+
     fn rename(&mut self, cycle: u64, whole: bool) -> Result<(), ReportTrouble> {
         let renamed = self.disk.rename_report(cycle, whole);
         answer(renamed)
     }
 
     fn sync_folder(&mut self) -> Result<(), ReportTrouble> {
-        let reports = self.disk.sync_folder(StateFile::Reports);
-        answer(reports)?;
-        let folder = self.disk.sync_folder(StateFile::Folder);
-        answer(folder)
+        sync_names(&mut self.disk, StateFile::Reports)?;
+        sync_names(&mut self.disk, StateFile::Folder)
     }
 }

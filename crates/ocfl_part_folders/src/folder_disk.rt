@@ -1,6 +1,7 @@
 //! The state folders of parts, and the folder of their joined reports, as a joining asks for them.
 ghost use mathlib.Core.Bool.{false≢true};
 
+use crate::counting::counts_in;
 use ocfl_disk::{OpenReport, StateFile};
 use ocfl_files::failing::Failure;
 use ocfl_files::making::failed_file;
@@ -8,7 +9,7 @@ use ocfl_join_disk::{JoinDisk, OpenPart};
 use ocfl_joining::{Facts, ReportTrouble, is_emptied, mark_of, runs_of};
 use ocfl_kept::kept::{ClosedIn, part_path, report_path};
 use ocfl_kept::room::Room;
-use ocfl_messages::Shown;
+use ocfl_messages::{Joined, Shown, joined_text};
 use ocfl_state::Checkpoint;
 use std::alloc::{AllocError, Global};
 use std::fs::File;
@@ -69,7 +70,7 @@ impl<'a, R: Room> FolderDisk<'a, R> {
     }
 
     /// How many runs the parts had; 0 if that is not known of all.
-    pub(crate) fn runs(&self) -> u64 {
+    fn runs(&self) -> u64 {
         if self.lacks_runs { 0 } else { self.runs }
     }
 
@@ -149,6 +150,20 @@ impl<'a, R: Room> FolderDisk<'a, R> {
         let path = self.path(cycle, whole)?;
         self.rt
             .put_made(self.new_path(cycle)?.as_str(), path.as_str())
+    }
+
+    /// The word at the end of a cycle of all parts, on the report that was made of theirs.
+    fn word(&self, cycle: u64, whole: bool) -> Result<Vec<u8>, Failure> {
+        let path = self.path(cycle, whole)?;
+        let joined = Joined {
+            cycle,
+            whole,
+            report: path.as_str(),
+            counts: counts_in(self.rt, self.new_path(cycle)?.as_str())?,
+            runs: self.runs(),
+        };
+        let text = joined_text(self.rt.global(), &joined)?;
+        Ok(Vec::from_slice(self.rt.global(), text.as_bytes())?)
     }
 
     fn sync_reports(&self) -> Result<(), Failure> {
@@ -297,6 +312,11 @@ impl<R: Room> JoinDisk for FolderDisk<'_, R> {
     fn sync(&mut self, cycle: u64, file: &File) -> Result<(), ReportTrouble> {
         let synced = file.sync_all();
         self.answer_made(cycle, synced)
+    }
+
+    fn find_word(&mut self, cycle: u64, whole: bool) -> Result<Vec<u8>, ReportTrouble> {
+        let word = self.word(cycle, whole);
+        self.answer(word)
     }
 
     fn rename(&mut self, cycle: u64, whole: bool) -> Result<(), ReportTrouble> {

@@ -4,23 +4,22 @@ use crate::folder_disk::{FolderDisk, find_joined};
 use crate::part_facts::{closed_parts, read_all};
 use ocfl_arguments::JoinAsked;
 use ocfl_files::failing::{Failure, say_failure};
-use ocfl_files::making::failed_file;
+use ocfl_files::saying::STOPPED;
 use ocfl_join_disk::{ComparedReports, MakingReports};
 use ocfl_joining::{
-    ClosedPart, CycleEnd, Facts, JoinStop, Joined as JoinedReport, MissingPart, PartFault,
-    find_most_names, join, join_status, last_of_all,
+    ClosedPart, CycleFailed, Facts, JoinStop, Joined as JoinedReport, JoinedLook, MissingPart,
+    PartCycles, PartFault, find_most_names, join, join_cycles, last_of_all,
 };
-use ocfl_kept::kept::{MOST_BACK, is_packed, is_told, part_path, report_path};
+use ocfl_kept::kept::{is_packed, is_told, part_path, report_path};
 use ocfl_kept::room::Room;
-use ocfl_messages::{Counts, Joined, Shown, Tally, joined_text};
-use ocfl_reading::lines::line_of;
-use ocfl_reading::reading::{TakeLine, take_lines};
-use ocfl_report::{DisplayPlace, write_all_of};
+use ocfl_messages::Shown;
+use ocfl_report::DisplayPlace;
+use ocfl_say::Speaking;
 use ocfl_scope::ScopeStop;
 use ocfl_separators::{PartsStop, Separators, read_parts};
 use std::alloc::{AllocError, Global};
 use std::fs::File;
-use std::io::{self, BufReader, ErrorKind};
+use std::io;
 use std::rt::Files;
 
 /// What is said of separators that were not read.
@@ -132,72 +131,11 @@ fn say_incomplete<R: Room + Eprint>(
     Ok(())
 }
 
-/// Counts the lines of a report.
-#[derive(Drop)]
-struct Counting {
-    tally: Tally,
-}
-
-impl TakeLine for Counting {
-    fn take_line(&mut self, alloc: Global, text: &[u8]) -> io::Result<bool> {
-        if let Some(line) = line_of(alloc, text)? {
-            self.tally.add(&line)?;
-        }
-        Ok(true)
-    }
-}
-
-/// What a report counts.
-fn counts_in<R: Room>(rt: &R, path: &str) -> Result<Counts, Failure> {
-    let alloc = rt.global();
-    match find_counts(rt, path) {
-        Ok(counts) => Ok(counts),
-        Err(error) => Err(failed_file(alloc, path, &error)),
-    }
-}
-
-/// The same, or why it was not read.
-fn find_counts<R: Room>(rt: &R, path: &str) -> io::Result<Counts> {
-    let alloc = rt.global();
-    let mut report = match BufReader::new(alloc, rt.open_file(path)?) {
-        Ok(report) => report,
-        Err(_) => return Err(io::Error::from(ErrorKind::OutOfMemory)),
-    };
-    let mut counting = Counting {
-        tally: Tally::new(),
-    };
-    take_lines(alloc, &mut report, &mut counting)?;
-    Ok(counting.tally.counts())
-}
-
-/// Says the word at the end of a cycle of all parts, of a report that was joined.
-fn say_joined<R: Room + Print>(
-    rt: &R,
-    state: &str,
-    cycle: u64,
-    whole: bool,
-    runs: u64,
-) -> Result<(), Failure> {
-    let alloc = rt.global();
-    let path = report_path(alloc, state, cycle, whole)?;
-    let joined = Joined {
-        cycle,
-        whole,
-        report: path.as_str(),
-        counts: counts_in(rt, path.as_str())?,
-        runs,
-    };
-    let text = joined_text(alloc, &joined)?;
-    match write_all_of(&mut io::writer(rt), text.as_bytes()) {
-        Ok(()) => Ok(()),
-        Err(_) => Err(Failure::saying(String::from_str(alloc, "output failed\n"))),
-    }
-}
-
 /// Why reports were not joined, but for parts that are missing.
 fn stopped(alloc: Global, stop: JoinStop, failure: Option<Failure>) -> Failure {
     match (stop, failure) {
         (JoinStop::Memory, _) => Failure::from(AllocError),
+        (JoinStop::Unsaid, _) => Failure::saying(String::from_str(alloc, "output failed\n")),
         (_, Some(failure)) => failure,
         (JoinStop::Part { part, why }, None) => {
             Failure::saying(format!(in alloc; "part {part}: {why}\n"))
@@ -207,160 +145,143 @@ fn stopped(alloc: Global, stop: JoinStop, failure: Option<Failure>) -> Failure {
 }
 
 /// The state folders of all parts, and what their checkpoints say.
-#[derive(Clone, Copy)]
-struct AllParts<'a> {
+struct FolderCycles<'a, R: Room> {
+    rt: &'a R,
     state: &'a str,
     separators: &'a Separators,
     facts: &'a [Option<Facts>],
+    /// Why the last call failed that did.
+    failure: Option<Failure>,
 }
 
-/// Whether the joined report of a cycle is there, whole or not, or was compressed.
-fn is_joined<R: Room>(rt: &R, state: &str, cycle: u64) -> Result<bool, AllocError> {
-    Ok(
-        find_joined(rt, state, cycle)?.is_some()
-            || is_packed(rt, state, cycle, true)?
-            || is_packed(rt, state, cycle, false)?,
-    )
+/// Written by hand, so that to let it go is one call wherever that happens.
+impl<R: Room> Drop for FolderCycles<'_, R> {
+    fn drop(self) {
+        let FolderCycles {
+            rt: _rt,
+            state: _state,
+            separators: _separators,
+            facts: _facts,
+            failure: _failure,
+        } = self;
+    }
+}
+
+/// What there is of the joined report of a cycle.
+fn find_look<R: Room>(rt: &R, state: &str, cycle: u64) -> Result<JoinedLook, Failure> {
+    if let Some(whole) = find_joined(rt, state, cycle)? {
+        return Ok(JoinedLook::There { whole });
+    }
+    if is_packed(rt, state, cycle, true)? || is_packed(rt, state, cycle, false)? {
+        return Ok(JoinedLook::Packed);
+    }
+    Ok(JoinedLook::Away)
 }
 
 /// Whether the state folder of a part has a closed report of a cycle, and said what that found.
-fn has_closed<R: Room>(rt: &R, state: &str, cycle: u64) -> Result<bool, AllocError> {
-    Ok(find_joined(rt, state, cycle)?.is_some() && is_told(rt, state, cycle)?)
+fn find_closed<R: Room>(rt: &R, state: &str, number: usize, cycle: u64) -> Result<bool, Failure> {
+    let path = part_path(rt.global(), state, number)?;
+    let path = path.as_str();
+    Ok(find_joined(rt, path, cycle)?.is_some() && is_told(rt, path, cycle)?)
 }
 
-impl AllParts<'_> {
-    /// Whether each part has a closed report of a cycle, and said what that found.
-    fn has_all<R>(&self, rt: &R, cycle: u64) -> Result<bool, AllocError>
-    where
-        R: Room,
-    {
-        for number in 1..=self.facts.len() {
-            let path = part_path(rt.global(), self.state, number)?;
-            if !has_closed(rt, path.as_str(), cycle)? {
-                return Ok(false);
+impl<R: Room> FolderCycles<'_, R> {
+    /// What a call gave, or why it failed, which is kept.
+    fn answer<T: Drop>(&mut self, made: Result<T, Failure>) -> Result<T, CycleFailed> {
+        match made {
+            Ok(made) => Ok(made),
+            Err(failure) => {
+                self.failure = Some(failure);
+                Err(CycleFailed)
             }
         }
-        Ok(true)
     }
+}
 
+impl<'a, R: Room + Print> FolderCycles<'a, R> {
     /// Makes the joined report of a cycle, or compares that which was made before.
-    fn join_on<'a, R: Room>(
-        &'a self,
-        rt: &'a R,
+    fn join_on(
+        &self,
         cycle: u64,
         parts: &[Option<ClosedPart>],
         made: Option<bool>,
     ) -> (Result<JoinedReport, JoinStop>, FolderDisk<'a, R>) {
-        let (alloc, root) = (rt.global(), root_of(parts));
-        let disk = FolderDisk::new(rt, self.state, self.facts);
+        let (alloc, root) = (self.rt.global(), root_of(parts));
+        let disk = FolderDisk::new(self.rt, self.state, self.facts);
+        let mut writer = io::writer(self.rt);
+        let mut out = Speaking { out: &mut writer };
         match made {
             Some(whole) => {
                 let mut reports = ComparedReports::over(alloc, disk, cycle, whole);
-                let joined = join(alloc, self.separators, root, cycle, parts, &mut reports);
+                let list = self.separators;
+                let joined = join(alloc, list, root, cycle, parts, &mut reports, &mut out);
                 (joined, reports.into_disk())
             }
             None => {
                 let mut reports = MakingReports::over(alloc, disk, cycle);
-                let joined = join(alloc, self.separators, root, cycle, parts, &mut reports);
+                let list = self.separators;
+                let joined = join(alloc, list, root, cycle, parts, &mut reports, &mut out);
                 (joined, reports.into_disk())
             }
         }
     }
+}
 
-    /// Joins these reports of a cycle, and gives the status. One that is made already is compared
-    /// with them, unless parts were tidied away; so that nobody takes it for one that it is not.
-    /// Parts that cannot be joined are named if `names` is set.
-    fn join_parts<R>(
+impl<R: Room + Print + Eprint> FolderCycles<'_, R> {
+    /// Joins the reports of a cycle, and says what the joined report lacks.
+    fn join_closed(
         &self,
-        rt: &R,
         cycle: u64,
-        parts: &[Option<ClosedPart>],
+        made: Option<bool>,
         names: bool,
-    ) -> Result<u8, Failure>
-    where
-        R: Room + Print + Eprint,
-    {
-        let made = match cycle {
-            0 => None,
-            _ => find_joined(rt, self.state, cycle)?,
-        };
-        let (joined, mut disk) = self.join_on(rt, cycle, parts, made);
+    ) -> Result<Option<bool>, Failure> {
+        let parts = closed_parts(self.rt, self.state, self.facts, cycle)?;
+        let (joined, mut disk) = self.join_on(cycle, &parts, made);
         match joined {
             Ok(joined) => {
-                if made.is_none() {
-                    say_joined(rt, self.state, cycle, joined.whole, disk.runs())?;
+                if !joined.whole {
+                    say_incomplete(self.rt, self.state, cycle, &parts)?;
                 }
-                self.status_by(rt, cycle, parts, joined.whole)
+                Ok(Some(joined.whole))
             }
             Err(JoinStop::Missing(missing)) => {
-                let named = names && made.is_none();
-                if named {
-                    say_missing(rt, cycle, parts, &missing);
+                if names {
+                    say_missing(self.rt, cycle, &parts, &missing);
                 }
-                Ok(join_status(CycleEnd::IsHindered { named }))
+                Ok(None)
             }
-            Err(stop) => Err(stopped(rt.global(), stop, disk.take_failure())),
+            Err(stop) => Err(stopped(self.rt.global(), stop, disk.take_failure())),
         }
     }
+}
 
-    /// The status of a joined report; what it lacks is said.
-    fn status_by<R>(
-        &self,
-        rt: &R,
+impl<R: Room + Print + Eprint> PartCycles for FolderCycles<'_, R> {
+    fn look(&mut self, cycle: u64) -> Result<JoinedLook, CycleFailed> {
+        let look = find_look(self.rt, self.state, cycle);
+        self.answer(look)
+    }
+
+    fn has_closed(&mut self, part: usize, cycle: u64) -> Result<bool, CycleFailed> {
+        let has = find_closed(self.rt, self.state, part, cycle);
+        self.answer(has)
+    }
+
+    fn join(
+        &mut self,
         cycle: u64,
-        parts: &[Option<ClosedPart>],
-        whole: bool,
-    ) -> Result<u8, Failure>
-    where
-        R: Room + Print + Eprint,
-    {
-        if !whole {
-            say_incomplete(rt, self.state, cycle, parts)?;
+        made: Option<bool>,
+        names: bool,
+    ) -> Result<Option<bool>, CycleFailed> {
+        let joined = self.join_closed(cycle, made, names);
+        self.answer(joined)
+    }
+
+    fn fail(&mut self) -> u8 {
+        match self.failure.take() {
+            Some(failure) => say_failure(self.rt, &failure).max(STOPPED),
+            None => STOPPED,
         }
-        Ok(join_status(CycleEnd::IsJoined { whole }))
     }
-
-    /// Joins the reports of a cycle, and gives the status.
-    fn join_cycle<R>(&self, rt: &R, cycle: u64) -> Result<u8, Failure>
-    where
-        R: Room + Print + Eprint,
-    {
-        let parts = closed_parts(rt, self.state, self.facts, cycle)?;
-        self.join_parts(rt, cycle, &parts, true)
-    }
-
-    /// The same of a cycle before the last one, unless it is joined. One of which a part has no
-    /// report, or saw far fewer names, never can be joined, and was named when it was the last.
-    fn join_earlier<R>(&self, rt: &R, cycle: u64) -> Result<u8, Failure>
-    where
-        R: Room + Print + Eprint,
-    {
-        if is_joined(rt, self.state, cycle)? || !self.has_all(rt, cycle)? {
-            return Ok(0);
-        }
-        let parts = closed_parts(rt, self.state, self.facts, cycle)?;
-        self.join_parts(rt, cycle, &parts, false)
-    }
-}
-
-/// The status of a joining, or of why it failed, which is said.
-fn status_of<R: Eprint>(rt: &R, joined: Result<u8, Failure>) -> u8 {
-    match joined {
-        Ok(status) => status,
-        Err(failure) => say_failure(rt, &failure),
-    }
-}
-
-/// Joins each cycle up to this one that is not joined, the oldest first, and gives the status.
-fn join_up_to<R>(rt: &R, all: &AllParts<'_>, last: u64) -> Result<u8, Failure>
-where
-    R: Room + Print + Eprint,
-{
-    let mut status = 0;
-    for cycle in last.saturating_sub(MOST_BACK).max(1)..last {
-        status = status.max(status_of(rt, all.join_earlier(rt, cycle)));
-    }
-    Ok(status.max(all.join_cycle(rt, last)?))
 }
 
 /// Joins each cycle that all parts have closed and that is not joined, and gives the status.
@@ -372,12 +293,14 @@ where
     let state = asked.state.as_str();
     let _held = rt.hold_folder(state)?;
     let facts = read_all(rt, state, separators.len().saturating_add(1))?;
-    let all = AllParts {
+    let mut cycles = FolderCycles {
+        rt,
         state,
         separators: &separators,
         facts: &facts,
+        failure: None,
     };
-    join_up_to(rt, &all, last_of_all(&facts))
+    Ok(join_cycles(&mut cycles, facts.len(), last_of_all(&facts)))
 }
 
 /// Joins the reports of all parts of each cycle that all of them have closed, the oldest first, and
@@ -386,5 +309,8 @@ pub fn join_parts<R>(rt: &R, asked: &JoinAsked) -> u8
 where
     R: Files<File = File> + AllocGlobal + Print + Eprint,
 {
-    status_of(rt, join_all(rt, asked))
+    match join_all(rt, asked) {
+        Ok(status) => status,
+        Err(failure) => say_failure(rt, &failure),
+    }
 }

@@ -48,7 +48,7 @@ pub record CopiesLine (from below : Option Place) (text : Text) (old new : Copie
 -- of an open report lines were read and given
 pub record AreGiven (lines : List Line) (old new : Seen) : Type 0 where
   pub read : old.left ≡ lines_text lines ++ new.left
-  pub rest : new ≡ record { bytes = old.bytes; marks = old.marks; opened = old.opened; left = new.left; made = old.made ++ lines_text lines; put = old.put }
+  pub rest : new ≡ record { bytes = old.bytes; marks = old.marks; word = old.word; opened = old.opened; left = new.left; made = old.made ++ lines_text lines; put = old.put }
 
 -- all lines of an open report were copied
 pub record AreCopied (from below : Option Place) (old new : Seen) (copied : Copied) : Type 0 where
@@ -61,6 +61,7 @@ pub record AreCopied (from below : Option Place) (old new : Seen) (copied : Copi
 pub record IsCopy (number : ℕ) (old new : Seen) : Type 0 where
   pub bytes : new.bytes ≡ old.bytes
   pub marks : new.marks ≡ old.marks
+  pub word : new.word ≡ old.word
   pub opened : new.opened ≡ old.opened ++ number ∷ []
   pub made : new.made ≡ old.made ++ old.bytes number
   pub put : new.put ≡ old.put
@@ -69,6 +70,7 @@ pub record IsCopy (number : ℕ) (old new : Seen) : Type 0 where
 pub record AreAllCopied (separators : List Place) (count : ℕ) (old new : Seen) : Type 0 where
   pub bytes : new.bytes ≡ old.bytes
   pub marks : new.marks ≡ old.marks
+  pub word : new.word ≡ old.word
   pub opened : new.opened ≡ old.opened ++ numbers count
   pub made : new.made ≡ old.made ++ flat_map old.bytes (numbers count)
   pub put : new.put ≡ old.put

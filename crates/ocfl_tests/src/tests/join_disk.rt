@@ -3,6 +3,7 @@ use crate::tests::common::store::place_of;
 use ocfl_join_disk::{ComparedReports, JoinDisk, MakingReports};
 use ocfl_joining::{ClosedPart, KeptMark, MemoryReport, PartReports, join};
 use ocfl_mem_disk::{MemDisk, MemJoinDisk};
+use ocfl_say::MemOutput;
 use ocfl_separators::{Separators, read_parts};
 use std::alloc::Global;
 use std::io::Read;
@@ -64,10 +65,21 @@ fn on(alloc: Global, disk: MemDisk, texts: [&str; 2]) -> Result<MemJoinDisk, Fai
 
 /// Joins reports of parts that are whole or not.
 fn joins<R: PartReports>(alloc: Global, whole: bool, reports: &mut R) -> Result<bool, Fail> {
+    let mut out = MemOutput::new(alloc);
+    says(alloc, whole, reports, &mut out)
+}
+
+/// The same, with an output for the word.
+fn says<R: PartReports>(
+    alloc: Global,
+    whole: bool,
+    reports: &mut R,
+    out: &mut MemOutput,
+) -> Result<bool, Fail> {
     let mut parts = Vec::new(alloc);
     parts.push(Some(closed(alloc, 0, true)?))?;
     parts.push(Some(closed(alloc, 1, whole)?))?;
-    match join(alloc, &separators(alloc)?, ROOT, 7, &parts, reports) {
+    match join(alloc, &separators(alloc)?, ROOT, 7, &parts, reports, out) {
         Ok(joined) => Ok(joined.whole == whole),
         Err(_) => Ok(false),
     }
@@ -103,6 +115,33 @@ fn a_joined_report_is_made_on_a_disk(rt: HostRuntime) -> Result<(), Fail> {
         // It is not made twice.
         let mut reports = MakingReports::over(alloc, disk, 7);
         assert!(rt; !joins(alloc, whole, &mut reports)?);
+    }
+    Ok(())
+}
+
+#[test]
+fn the_word_is_said_before_a_joined_report_is_put(rt: HostRuntime) -> Result<(), Fail> {
+    let alloc = rt.alloc();
+    for whole in [true, false] {
+        let word = [7, if whole { 1 } else { 0 }];
+        let mut out = MemOutput::new(alloc);
+        out.fail_call(1, 1);
+        let disk = on(alloc, MemDisk::new(alloc), REPORTS)?;
+        let mut reports = MakingReports::over(alloc, disk, 7);
+        assert!(rt; !says(alloc, whole, &mut reports, &mut out)?);
+        let mut disk = reports.into_disk();
+        assert!(rt; joined_on(alloc, &mut disk, whole)?.is_none());
+        assert_eq!(rt; out.text(), &word[..1]);
+        // An output that takes it has it, once.
+        let mut out = MemOutput::new(alloc);
+        let disk = on(alloc, MemDisk::new(alloc), REPORTS)?;
+        let mut reports = MakingReports::over(alloc, disk, 7);
+        assert!(rt; says(alloc, whole, &mut reports, &mut out)?);
+        assert_eq!(rt; out.text(), word.as_slice());
+        // And not when it is compared.
+        let mut reports = ComparedReports::over(alloc, reports.into_disk(), 7, whole);
+        assert!(rt; says(alloc, whole, &mut reports, &mut out)?);
+        assert_eq!(rt; out.text(), word.as_slice());
     }
     Ok(())
 }

@@ -1,9 +1,12 @@
 //! The closed reports of all parts, joined.
+ghost use mathlib.Core.Bool.{false≢true};
+
 use crate::tests::common::store::place_of;
 use ocfl_joining::{
     ClosedPart, JoinStop, Joined, KeptMark, MemoryReport, MemoryReports, MissingPart, PartFault,
     PartReports, PartStop, ReportTrouble, find_missing, find_most_names, find_within, join,
 };
+use ocfl_say::MemOutput;
 use ocfl_separators::{Separators, read_parts};
 use ocfl_state::ReportMark;
 use ocfl_tree::Place;
@@ -89,7 +92,8 @@ fn joined<R: PartReports>(
     reports: &mut R,
 ) -> Result<Result<Joined, JoinStop>, Fail> {
     let separators = separators(alloc)?;
-    Ok(join(alloc, &separators, ROOT, 7, parts, reports))
+    let mut out = MemOutput::new(alloc);
+    Ok(join(alloc, &separators, ROOT, 7, parts, reports, &mut out))
 }
 
 #[test]
@@ -270,6 +274,12 @@ impl Failing {
 }
 
 impl PartReports for Failing {
+    ghost stays = { λ lasts reports. absurd (false≢true lasts) };
+
+    ghost counts_now = { λ lasts reports. absurd (false≢true lasts) };
+
+    ghost only_now = { λ lasts reports. absurd (false≢true lasts) };
+
     fn begin(&mut self) -> Result<(), ReportTrouble> {
         self.call()?;
         self.reports.begin()
@@ -290,6 +300,11 @@ impl PartReports for Failing {
         self.reports.give(bytes)
     }
 
+    fn find_word(&mut self, whole: bool) -> Result<Option<Vec<u8>>, ReportTrouble> {
+        self.call()?;
+        self.reports.find_word(whole)
+    }
+
     fn put(&mut self, whole: bool) -> Result<(), ReportTrouble> {
         self.call()?;
         self.reports.put(whole)
@@ -297,12 +312,31 @@ impl PartReports for Failing {
 }
 
 #[test]
+fn nothing_is_put_if_the_word_is_not_said(rt: HostRuntime) -> Result<(), Fail> {
+    let alloc = rt.alloc();
+    let (parts, separators) = (all_closed(alloc)?, separators(alloc)?);
+    let mut reports = reports(alloc, REPORTS[1].0, closed_with(TAIL))?;
+    let mut out = MemOutput::new(alloc);
+    out.fail_call(1, 0);
+    let made = join(alloc, &separators, ROOT, 7, &parts, &mut reports, &mut out);
+    assert!(rt; matches!(made, Err(JoinStop::Unsaid)));
+    assert_eq!(rt; reports.joined().len(), 0);
+    assert_eq!(rt; out.text().len(), 0);
+    // The word is the last byte of the length, and is said once.
+    let made = join(alloc, &separators, ROOT, 7, &parts, &mut reports, &mut out);
+    assert!(rt; made.is_ok());
+    assert_eq!(rt; reports.joined().len(), 1);
+    assert_eq!(rt; out.text(), [3 * 7].as_slice());
+    Ok(())
+}
+
+#[test]
 fn nothing_is_put_if_a_call_fails(rt: HostRuntime) -> Result<(), Fail> {
     let alloc = rt.alloc();
     let parts = all_closed(alloc)?;
     // It is begun, three reports are opened, of which three lines are read and given, and the end
-    // of each is read; then it is put.
-    let calls = 1 + 3 + 2 * 3 + 3 + 1;
+    // of each is read; then its word is found, and it is put.
+    let calls = 1 + 3 + 2 * 3 + 3 + 1 + 1;
     for left in 0..=calls {
         let mut failing = Failing {
             reports: reports(alloc, REPORTS[1].0, closed_with(TAIL))?,

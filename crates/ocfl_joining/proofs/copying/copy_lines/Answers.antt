@@ -4,6 +4,7 @@ use Rattle.ocfl_joining.specs.Reports.{with_made}
 use Rattle.ocfl_joining.specs.Internal.Copying.{CopiesLine, IsFitLine, last_of}
 use Rattle.ocfl_joining.proofs.Decoded.{next_fits}
 use Rattle.ocfl_joining.proofs.Copies.{copied_more, given_more, none_given}
+use Rattle.ocfl_joining.proofs.{Passing.{nothing_passes, two_same}, Stays.{reports_on, same_reports}}
 use Rattle.ocfl_joining.proofs.copying.copy_lines.Goals as goal
 
 pub loop-preserved : goal.loop-preserved
@@ -23,12 +24,19 @@ loop-preserved g c = record {
         ),
       );
   unput = λ t. c.give.ensures.unput t ∙ c.read_line.ensures.unput t ∙ c.loop.invariant.unput t;
+  reports = λ t. reports_on _ _ _ (c.loop.invariant.reports t) (reports_on _ _ _ (c.read_line.ensures.reports t) (c.give.ensures.reports t));
+  crash = λ t.
+      let R = g.R.PartReports in
+      two_same R.may_leave R.moment R.left_since c.args.reports.now c.loop.reports c.give.new.self (c.loop.invariant.crash t)
+      (two_same R.may_leave R.moment R.left_since c.loop.reports c.read_line.new.self c.give.new.self (c.read_line.ensures.crash t) (c.give.ensures.crash t));
 }
 
 pub loop-init : goal.loop-init
 loop-init g c = record {
   copied = λ t. ([], (none_given (g.R.PartReports.seen c.args.reports.now), c.nothing-copied.ensures (option_map (λ p. p.now) c.args.from) (option_map (λ p. p.now) c.args.below)));
   unput = λ t. refl;
+  reports = λ t. same_reports (g.R.PartReports.seen c.args.reports.now);
+  crash = λ t. nothing_passes g.R.PartReports.may_leave g.R.PartReports.moment g.R.PartReports.left_since c.args.reports.now;
 }
 
 pub returns-in_err-copied-clause-bad : goal.returns-in_err-copied-clause-bad

@@ -1,0 +1,7 @@
+use Rattle.ocfl_joining.proofs.joining.copy_anew.Goals as goal
+
+pub returns-in-Err-clause-changed : goal.returns-in-Err-clause-changed
+returns-in-Err-clause-changed g c = λ t. c.in-Err.ensures.other c.args.separators.now (g.R.PartReports.seen c.args.reports.now)
+
+pub returns-in-Err-clause-part : goal.returns-in-Err-clause-part
+returns-in-Err-clause-part g c = c.in-Err.ensures.part c.args.separators.now

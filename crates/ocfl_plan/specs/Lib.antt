@@ -2,3 +2,4 @@ pub mod Budgeted
 pub mod Plan
 pub mod Status
 pub mod Telling
+pub mod Stopping

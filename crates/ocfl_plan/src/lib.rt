@@ -7,6 +7,7 @@ mod hearing;
 mod laws;
 mod plan;
 mod status;
+mod stopping;
 mod telling;
 
 pub use budgeted::Budgeted;
@@ -14,4 +15,5 @@ pub use hearing::{Hearing, Listener};
 pub use laws::no_run_begins_once_the_budget_is_spent;
 pub use plan::plan_of;
 pub use status::{closed_by, is_kept, is_logged, night_status, run_status};
+pub use stopping::{StopCalls, StopFile};
 pub use telling::{Message, Telling};

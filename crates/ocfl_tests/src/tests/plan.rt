@@ -11,8 +11,8 @@ use ocfl_cursor::Budget;
 use ocfl_digest::Block;
 use ocfl_night::{Site, night};
 use ocfl_plan::{
-    Budgeted, Hearing, Listener, Message, Telling, closed_by, is_kept, is_logged, night_status,
-    plan_of, run_status,
+    Budgeted, Hearing, Listener, Message, StopCalls, StopFile, Telling, closed_by, is_kept,
+    is_logged, night_status, plan_of, run_status,
 };
 use ocfl_state::MemState;
 use ocfl_terms::{Clock, Flushing, Halt, Made, NightEnd, Output, OutputFailed, Refusal};
@@ -441,6 +441,48 @@ fn a_refused_night_leaves_anothers_log(rt: HostRuntime) -> Result<(), Fail> {
     for (row, halt, logged, closed) in &rows {
         assert_eq!(rt; is_logged(halt), *logged, "{row}");
         assert_eq!(rt; closed_by(halt), *closed, "{row}");
+    }
+    Ok(())
+}
+
+/// Calls of a system whose clock shows this, or cannot be read, and what was heard of the night.
+#[derive(Drop)]
+struct Answering {
+    seconds: Option<u64>,
+    is_there: bool,
+    heard: u64,
+}
+
+impl StopCalls for Answering {
+    fn seconds(&mut self) -> Option<u64> {
+        self.seconds
+    }
+
+    fn has_stop(&mut self) -> bool {
+        self.is_there
+    }
+
+    fn hears(&mut self, _made: &Made) {
+        self.heard = self.heard.saturating_add(1);
+    }
+}
+
+// Fails if a file that is there stops no night, or a clock that cannot be read shows an early time.
+#[test]
+fn a_file_stops_a_night(rt: HostRuntime) -> Result<(), Fail> {
+    for (row, seconds, is_there, now) in [
+        ("a clock", Some(7), false, 7),
+        ("a clock that cannot be read", None, false, u64::MAX),
+        ("a file that is there", Some(9), true, 9),
+    ] {
+        let heard = 0;
+        let mut clock = StopFile::over(Answering {
+            seconds,
+            is_there,
+            heard,
+        });
+        assert_eq!(rt; clock.now(), now, "{row}");
+        assert_eq!(rt; clock.is_stopped(), is_there, "{row}");
     }
     Ok(())
 }

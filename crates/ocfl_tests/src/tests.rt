@@ -26,6 +26,7 @@ mod plan;
 mod report;
 mod scope;
 mod scrub;
+mod speaking;
 mod split;
 mod state;
 mod status;

@@ -1,0 +1,6 @@
+mod HeadLines
+mod Steps
+mod Passes
+mod Reasoned
+mod Kept
+mod Cuts

@@ -1,4 +1,6 @@
 //! The file of a cursor that a command line names.
+ghost use Rattle.std.specs.Prelude.{◌≡◌};
+ghost use Rattle.ocfl_terminal.specs.Progress.{cost_of};
 
 use ocfl_arguments::Task;
 use ocfl_cursor::{Cursor, State, read_cursor, read_part_cursor};
@@ -28,7 +30,9 @@ fn cursor_of<F: Read>(alloc: Global, reader: &mut F, scope: &Scope) -> Option<Cu
 }
 
 /// What a cursor's cycle cost, if there is a cursor and it has ended.
-fn cost_of(cursor: Option<Cursor>) -> Option<u128> {
+fn cost_of(cursor: Option<Cursor>) -> Option<u128>
+    ensures { result ≡ cost_of cursor }
+{
     let cursor = cursor?;
     match cursor.state() {
         State::Ended => Some(cursor.spent()),

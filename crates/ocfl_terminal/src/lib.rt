@@ -1,5 +1,14 @@
 //! The words of the program's command line and what they name: paths, the storage root and its
 //! parts, splitting it, the version. Progress on a terminal.
+//!
+//! # What is proved
+//!
+//! - `read_asked` answers what words of a command line ask for, in which the program is named
+//!   `ocfl-scrub`. All its paths lead from `/` on by one folder, and those of items are as reports
+//!   write them (`IsGiven`).
+//! - `read_scope` answers all items, the branch of the path that is chosen, or a part, and refuses
+//!   nothing else. `find_ends` has the ends of that part alone.
+//! - `say_no_scope` gives the status of the reason.
 #![tactic(auto)]
 
 pub mod cursors;

@@ -1,4 +1,8 @@
 //! Paths of items as users write them: as reports do, or by the names themselves.
+ghost use Rattle.std.specs.Prelude.{◌≡◌, IfOk, MatchOption, OnOk, string_bytes};
+ghost use Rattle.ocfl_tree.specs.Path.{names_of};
+ghost use Rattle.ocfl_report.specs.Text.{place_text};
+ghost use Rattle.ocfl_terminal.specs.Paths.{IsAsReports, IsByNames, IsRespelt, Stays};
 
 use ocfl_report::{DisplayPlace, TextStop, read_place};
 use ocfl_tree::Place;
@@ -6,19 +10,41 @@ use std::alloc::{AllocError, Global};
 
 /// Makes a word the text of a path as reports write it. A word that reads so stays as it is; another
 /// is the path by its names; one that is the path of no place stays as it is.
-pub(crate) fn write_as_reports(alloc: Global, word: &mut String) -> Result<(), AllocError> {
-    match read_place(alloc, word.as_bytes()) {
-        Ok(_) => Ok(()),
-        Err(TextStop::Memory) => Err(AllocError),
-        Err(TextStop::Bad) => {
-            if let Some(place) = Place::from_path(word.clone()?) {
-                if place.depth() > 0 {
-                    *word = format!(in alloc; "{}", DisplayPlace(&place))?;
-                }
-            }
-            Ok(())
-        }
+pub(crate) fn write_as_reports(alloc: Global, word: &mut String) -> Result<(), AllocError>
+    ensures { OnOk result (IsAsReports (string_bytes word.old) (string_bytes word.new)) }
+{
+    match respell(alloc, word.as_str())? {
+        Some(text) => *word = text,
+        None => {}
     }
+    Ok(())
+}
+
+/// A word as reports write the path that it is by its names. `None` if the word stays as it is.
+#[tactic(auto, using(crate::proofs::Respelling::stays_reported))]
+fn respell(alloc: Global, word: &str) -> Result<Option<String>, AllocError>
+    ensures { IfOk result
+        (λ o. MatchOption o (Stays word.now) (λ text. IsRespelt word.now (string_bytes text))) }
+{
+    match read_place(alloc, word.as_bytes()) {
+        Ok(_) => Ok(None),
+        Err(TextStop::Memory) => Err(AllocError),
+        Err(TextStop::Bad) => text_by_names(alloc, word),
+    }
+}
+
+/// The text of the place below the root with this path. `None` if there is none.
+fn text_by_names(alloc: Global, word: &str) -> Result<Option<String>, AllocError>
+    ensures { IfOk result (λ o. MatchOption o (IsByNames word.now → ⊥)
+        (λ text. IsByNames word.now × (string_bytes text ≡ place_text (names_of word.now)))) }
+{
+    let Some(place) = Place::from_path(String::from_str(alloc, word)?) else {
+        return Ok(None);
+    };
+    if place.depth() == 0 {
+        return Ok(None);
+    }
+    Ok(Some(format!(in alloc; "{}", DisplayPlace(&place))?))
 }
 
 /// Why a path names no place.

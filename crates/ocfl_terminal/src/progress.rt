@@ -1,5 +1,6 @@
 //! Progress: one line on a terminal, which is written over again while a command works.
-ghost use Rattle.std.specs.Prelude.{◌≡◌};
+ghost use Rattle.std.specs.Prelude.{◌≡◌, ◌+◌};
+ghost use Rattle.ocfl_terminal.specs.Progress.{share};
 
 use crate::naming::why_failed;
 use ocfl_files::reasons::{Reasons, keep_reason};
@@ -60,10 +61,17 @@ fn declare_object(entries: &[Entry]) -> bool {
     false
 }
 
-/// How many hundredths of a whole a part of it is; no more than 999, so that the line fits. `None`
-/// if the whole is not known, or nothing.
-fn percent(part: u128, whole: Option<u128>) -> Option<u128> {
-    Some(part.saturating_mul(100).checked_div(whole?)?.min(999))
+/// How many hundredths of the last cycle's cost so many files and bytes cost; no more than 999, so
+/// that the line fits. `None` if that cost is not known, or nothing.
+fn percent(files: u64, bytes: u64, last: Option<u128>) -> Option<u128>
+    ensures { result ≡ share (files + bytes) last }
+{
+    let last = last?;
+    if last == 0 {
+        return None;
+    }
+    let cost = u128::from(files) + u128::from(bytes);
+    Some((cost * 100 / last).min(999))
 }
 
 /// How much of a cycle was read, in hundredths of the last one, and the minutes left if they are
@@ -262,8 +270,7 @@ impl<'a, R: Sight, T: Reasoned> Watched<'a, R, T> {
 
     /// How far the run is, by the cost of the last cycle if that is known, and the time left.
     fn share(&self) -> Result<String, AllocError> {
-        let cost = u128::from(self.bytes) + u128::from(self.files);
-        match percent(cost, self.last_cost) {
+        match percent(self.files, self.bytes, self.last_cost) {
             Some(share) => share_text(self.rt.global(), share, self.minutes_left(share)),
             None => Ok(String::new(self.rt.global())),
         }

@@ -1,4 +1,6 @@
 //! Which storage root a night reads, and which part of it.
+ghost use Rattle.std.specs.Prelude.{◌≡◌, IfOk};
+ghost use Rattle.ocfl_terminal.specs.Chosen.{AreEndsOf, part_number};
 
 use crate::scope::read_scope;
 use ocfl_arguments::Chosen;
@@ -62,6 +64,7 @@ fn unresolved(
 pub fn find_ends<R>(rt: &R, chosen: &Chosen) -> Result<Option<PartEnds>, Failure>
 where
     R: Files + AllocGlobal,
+    ensures { IfOk result (AreEndsOf chosen.now) }
 {
     match read_scope(rt, chosen) {
         Ok(Scope::Part(ends)) => Ok(Some(ends)),
@@ -74,7 +77,9 @@ where
 }
 
 /// The number of the part that is chosen. `None` if all of the root is.
-pub fn part_number(chosen: &Chosen) -> Option<u64> {
+pub fn part_number(chosen: &Chosen) -> Option<u64>
+    ensures { result ≡ part_number chosen.now }
+{
     match chosen {
         Chosen::Part { number, .. } => Some(*number as u64),
         Chosen::All | Chosen::Branch(_) => None,

@@ -1,4 +1,6 @@
 //! Splitting a storage root: the text of the separators goes to standard output.
+ghost use Rattle.std.specs.Prelude.{◌≡◌};
+ghost use Rattle.ocfl_terminal.specs.Status.{report_status, unsplit_status};
 
 use ocfl_arguments::Split;
 use ocfl_files::heard::Heard;
@@ -29,7 +31,9 @@ enum NotSplit {
 }
 
 /// Says that a report was not split, and gives the status.
-fn say_bad_report<R: Eprint>(rt: &R, stop: &SplitStop) -> u8 {
+fn say_bad_report<R: Eprint>(rt: &R, stop: &SplitStop) -> u8
+    ensures { result ≡ report_status stop.now }
+{
     let _ = eprintln!(rt; "ocfl-scrub: {stop}");
     match stop {
         SplitStop::Line(_) | SplitStop::Many => USAGE,
@@ -47,7 +51,9 @@ fn say_stopped_at<R: Eprint>(rt: &R, place: &Place, why: &Option<io::Error>) {
 }
 
 /// Says why no separators are made, and gives the status.
-fn say_unsplit<R: Eprint>(rt: &R, why: &NotSplit) -> u8 {
+fn say_unsplit<R: Eprint>(rt: &R, why: &NotSplit) -> u8
+    ensures { result ≡ unsplit_status why.now }
+{
     match why {
         NotSplit::Store(place, why) => say_stopped_at(rt, place, why),
         NotSplit::Report(stop) => return say_bad_report(rt, stop),

@@ -1,4 +1,8 @@
 //! The words of the command line, and what they ask for.
+ghost use Rattle.std.specs.Prelude.{◌≡◌, List, IfOk, OnOk, map, string_bytes};
+ghost use Rattle.ocfl_tree.specs.Place.{Text};
+ghost use Rattle.ocfl_terminal.specs.Whole.{IsAskedWhole};
+ghost use Rattle.ocfl_terminal.specs.Words.{IsGiven, named};
 
 use crate::version::print_build;
 use crate::whole::make_asked_whole;
@@ -27,7 +31,10 @@ fn read_words<R: Env + AllocGlobal + Eprint>(rt: &R) -> Result<Vec<String>, u8> 
 
 /// Puts the program's name in the place of the first word: usage texts name the program by it,
 /// whatever its file is called.
-fn name_program(alloc: Global, words: &mut Vec<String>) -> Result<(), AllocError> {
+fn name_program(alloc: Global, words: &mut Vec<String>) -> Result<(), AllocError>
+    ensures { OnOk result
+        (map string_bytes words.new.items ≡ named (map string_bytes words.old.items)) }
+{
     if let Some(first) = words.first_mut() {
         *first = String::from_str(alloc, "ocfl-scrub")?;
     }
@@ -70,6 +77,7 @@ fn say_no_path<R: Eprint>(rt: &R, error: &io::Error) -> u8 {
 fn asked_by<R>(rt: &R, words: &[String]) -> Result<Asked, u8>
 where
     R: Files + Env + AllocGlobal + Print + Eprint,
+    ensures { IfOk result (IsGiven (map string_bytes words.now)) }
 {
     match asked(rt.alloc(), words) {
         Ok(asked) => with_whole_paths(rt, asked),
@@ -79,7 +87,9 @@ where
 }
 
 /// The same with paths from `/` on. Otherwise says why there are none, and fails with the status.
-fn with_whole_paths<R: Env + AllocGlobal + Eprint>(rt: &R, asked: Asked) -> Result<Asked, u8> {
+fn with_whole_paths<R: Env + AllocGlobal + Eprint>(rt: &R, asked: Asked) -> Result<Asked, u8>
+    ensures { IfOk result (λ new. (here : Text) × IsAskedWhole here asked new) }
+{
     let mut asked = asked;
     match make_asked_whole(rt, &mut asked) {
         Ok(()) => Ok(asked),
@@ -92,10 +102,22 @@ fn with_whole_paths<R: Env + AllocGlobal + Eprint>(rt: &R, asked: Asked) -> Resu
 pub fn read_asked<R>(rt: &R) -> Result<Asked, u8>
 where
     R: Files + Env + AllocGlobal + Print + Eprint,
+    ensures { IfOk result (λ given. (words : List Text) × IsGiven (named words) given) }
 {
-    let mut words = read_words(rt)?;
-    if name_program(rt.alloc(), &mut words).is_err() {
-        return Err(say_out_of_memory(rt));
+    let words = read_words(rt)?;
+    given_by(rt, words)
+}
+
+/// The same by its words, in which the program is named so.
+#[tactic(auto, using(crate::proofs::Givens::given_named))]
+fn given_by<R>(rt: &R, words: Vec<String>) -> Result<Asked, u8>
+where
+    R: Files + Env + AllocGlobal + Print + Eprint,
+    ensures { IfOk result (IsGiven (named (map string_bytes words.items))) }
+{
+    let mut words = words;
+    match name_program(rt.alloc(), &mut words) {
+        Ok(()) => asked_by(rt, words.as_slice()),
+        Err(AllocError) => Err(say_out_of_memory(rt)),
     }
-    asked_by(rt, words.as_slice())
 }

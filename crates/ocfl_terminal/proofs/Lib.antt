@@ -1,0 +1,3 @@
+mod Respelling
+mod Scopes
+mod Givens

@@ -1,0 +1,6 @@
+pub mod Paths
+pub mod Whole
+pub mod Words
+pub mod Chosen
+pub mod Progress
+pub mod Status

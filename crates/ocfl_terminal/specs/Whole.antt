@@ -1,0 +1,68 @@
+-- The paths of a command line, from `/` on.
+use Rattle.std.specs.Prelude.{◌≡◌, ◌⊎◌, ◌-◌, ◌==◌, ◌||◌, ◌++◌, ◌∷◌, Bool, true, false, if◌then◌else◌, length, slice_index, option_map, string_bytes, IsTrue, ⊤}
+use Rattle.ocfl_tree.specs.Place.{Text}
+use Rattle.ocfl_deed.specs.declared.deed.Deed.{Deed}
+use Rattle.ocfl_deed.specs.declared.deed.Deed.TheVariants as deed
+use Rattle.ocfl_arguments.specs.declared.{night.NightAsked.{NightAsked}, task.Task.{Task}, task.Chosen.{Chosen}, task.Asked.{Asked}}
+use Rattle.ocfl_arguments.specs.declared.task.Chosen.TheVariants as chosen
+use Rattle.ocfl_arguments.specs.declared.task.Split.TheVariants as split
+use Rattle.ocfl_arguments.specs.declared.task.Asked.TheVariants as asked
+use Rattle.ocfl_terminal.specs.Paths.{IsAsReports}
+
+-- leads from `/` on
+abbrev pub is_whole : Text → Bool
+is_whole path = slice_index path 0 == 47
+
+-- a path in a folder
+abbrev pub in_folder : Text → Text → Text
+in_folder here path = if slice_index here (length here - 1) == 47 then here ++ path else here ++ 47 ∷ path
+
+-- a path that leads from `/` on stays, and so does an empty one, which leads nowhere
+abbrev pub whole_in : Text → Text → Text
+whole_in here path = if length path == 0 || is_whole path then path else in_folder here path
+
+-- a part's file of separators is in the folder; a branch's path is one in the storage root
+abbrev pub IsChosenWhole : Text → Chosen → Chosen → Type 0
+IsChosenWhole here (chosen.Part parts number) (chosen.Part new count) = (string_bytes new ≡ whole_in here (string_bytes parts)) × (count ≡ number)
+IsChosenWhole here (chosen.Branch path) (chosen.Branch new) = IsAsReports (string_bytes path) (string_bytes new)
+IsChosenWhole here chosen.All chosen.All = ⊤
+IsChosenWhole here old new = ⊥
+
+-- the path that is checked is one in the storage root
+abbrev pub IsDeedWhole : Deed → Deed → Type 0
+IsDeedWhole (deed.Check path) (deed.Check new) = IsAsReports (string_bytes path) (string_bytes new)
+IsDeedWhole (deed.Check path) new = ⊥
+IsDeedWhole old new = new ≡ old
+
+pub record IsTaskWhole (here : Text) (old new : Task) : Type 0 where
+  pub deed : IsDeedWhole old.deed new.deed
+  pub chosen : IsChosenWhole here old.chosen new.chosen
+  pub root : option_map string_bytes new.root ≡ option_map (λ p. whole_in here (string_bytes p)) old.root
+  pub file : option_map string_bytes new.file ≡ option_map (λ p. whole_in here (string_bytes p)) old.file
+  pub quiet : new.quiet ≡ old.quiet
+
+-- showing a file reads no storage root
+abbrev pub is_show : Deed → Bool
+is_show deed.Show = true
+is_show _ = false
+
+pub record IsNightWhole (here : Text) (old new : NightAsked) : Type 0 where
+  pub state : string_bytes new.state ≡ whole_in here (string_bytes old.state)
+  pub root : string_bytes new.root ≡ whole_in here (string_bytes old.root)
+  pub chosen : IsChosenWhole here old.chosen new.chosen
+  pub known : option_map string_bytes new.known ≡ option_map (λ p. whole_in here (string_bytes p)) old.known
+  pub expected : option_map string_bytes new.expected ≡ option_map (λ p. whole_in here (string_bytes p)) old.expected
+  pub bounds : new.bounds ≡ old.bounds
+  pub create : new.create ≡ old.create
+  pub force_root : new.force_root ≡ old.force_root
+  pub stop_at_faults : new.stop_at_faults ≡ old.stop_at_faults
+
+-- what is asked for, with its paths from `/` on if a storage root is read for it
+abbrev pub IsAskedWhole : Text → Asked → Asked → Type 0
+IsAskedWhole here (asked.Task old) (asked.Task new) = (IsTrue (is_show old.deed) × (new ≡ old)) ⊎ ((is_show old.deed ≡ false) × IsTaskWhole here old new)
+IsAskedWhole here (asked.Night old) (asked.Night new) = IsNightWhole here old new
+IsAskedWhole here (asked.Split (split.Listing count root)) (asked.Split (split.Listing most new)) = (string_bytes new ≡ whole_in here (string_bytes root)) × (most ≡ count)
+IsAskedWhole here (asked.Task old) new = ⊥
+IsAskedWhole here (asked.Night old) new = ⊥
+IsAskedWhole here (asked.Split (split.Listing count root)) new = ⊥
+IsAskedWhole here old new = new ≡ old

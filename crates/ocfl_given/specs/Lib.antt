@@ -1,1 +1,2 @@
 pub mod Overlap
+pub mod Given

@@ -1,4 +1,6 @@
 //! When the clock shows the time of day at which a night ends.
+ghost use Rattle.std.specs.Prelude.{◌≡◌, IfOk, is_some};
+ghost use Rattle.ocfl_given.specs.Given.{is_time_of_day};
 
 use jiff::Error;
 use jiff::tz::{SystemTimeZone, TimeZone, TimeZoneDatabase};
@@ -15,6 +17,7 @@ use std::rt::{Env, Files};
 pub(crate) fn find_shown<R>(rt: &R, until: Until, now: u64) -> Result<Option<u64>, Failure>
 where
     R: Files + Env + AllocGlobal,
+    ensures { IfOk result (λ shown. is_some shown ≡ is_time_of_day until) }
 {
     match until {
         Until::TimeOfDay { hour, minute } => Ok(Some(time_of_day(rt, now, hour, minute)?)),

@@ -1,4 +1,7 @@
 //! What a night is made with.
+ghost use Rattle.std.specs.Prelude.{◌≡◌, IfOk, option_map, string_bytes};
+ghost use Rattle.ocfl_terminal.specs.Chosen.{part_number};
+ghost use Rattle.ocfl_given.specs.Given.{IsMadeWith};
 
 use crate::apart::refuse_overlap;
 use crate::ends::find_shown;
@@ -55,7 +58,9 @@ pub struct Found<'a> {
 }
 
 /// The text, if there is one.
-pub fn text_of(text: &Option<String>) -> Option<&str> {
+pub fn text_of(text: &Option<String>) -> Option<&str>
+    ensures { option_map (λ t. t.now) result ≡ option_map string_bytes text.now }
+{
     match text {
         Some(text) => Some(text.as_str()),
         None => None,
@@ -64,7 +69,11 @@ pub fn text_of(text: &Option<String>) -> Option<&str> {
 
 impl Given<'_> {
     /// How what the night speaks of is called.
-    pub fn names(&self) -> Names<'_> {
+    pub fn names(&self) -> Names<'_>
+        ensures root { result.root.now ≡ string_bytes self.now.root }
+        ensures part { result.part ≡ part_number self.now.asked.now.chosen }
+        ensures state { result.state.now ≡ string_bytes self.now.asked.now.state }
+    {
         Names {
             root: self.root.as_str(),
             part: part_number(&self.asked.chosen),
@@ -112,6 +121,7 @@ where
 pub fn find_given<'a, R>(rt: &R, asked: &'a NightAsked, began: u64) -> Result<Found<'a>, Failure>
 where
     R: Files + Env + AllocGlobal,
+    ensures { IfOk result (IsMadeWith asked.now began) }
 {
     let root = find_apart(rt, asked)?;
     let ends = find_ends(rt, &asked.chosen)?;

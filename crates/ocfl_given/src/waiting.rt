@@ -1,4 +1,6 @@
 //! Whether a night may begin the next cycle.
+ghost use Rattle.std.specs.Prelude.{◌≡◌, IfSome, None, Some};
+ghost use Rattle.ocfl_given.specs.Given.{wait_after};
 
 use crate::given::Given;
 use jiff::Timestamp;
@@ -69,15 +71,31 @@ where
 pub fn find_wait<R>(rt: &R, given: &Given<'_>, began: Standing) -> Option<Wait>
 where
     R: Files + AllocGlobal,
+    // The wait follows from the end that it tells.
+    ensures waits { IfSome result (λ wait. wait_after given.now.asked.now.bounds.every began
+        (Some wait.ended) given.now.began ≡ Some wait) }
+    ensures unasked { given.now.asked.now.bounds.every ≡ None → result ≡ None }
 {
-    let days = given.asked.bounds.every?;
+    let every = given.asked.bounds.every;
+    if every.is_none() {
+        return None;
+    }
     let ended = ended_at(rt, given.asked.state.as_str(), began.cycle);
-    if !must_wait(Some(days), !began.is_closed, ended, given.began) {
+    wait_after(every, began, ended, given.began)
+}
+
+/// The same by when the cycle ended where the nights stood, if that is known.
+fn wait_after(every: Option<u64>, began: Standing, ended: Option<u64>, now: u64) -> Option<Wait>
+    ensures value { result ≡ wait_after every began ended now }
+    ensures end { IfSome result (λ wait. ended ≡ Some wait.ended) }
+{
+    let (days, ended) = (every?, ended?);
+    if !must_wait(Some(days), !began.is_closed, Some(ended), now) {
         return None;
     }
     Some(Wait {
         cycle: began.cycle,
-        ended: ended?,
+        ended,
         days,
     })
 }

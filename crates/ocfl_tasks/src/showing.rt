@@ -1,4 +1,6 @@
 //! Showing a file, the checkpoint of a state folder or a cursor, and the table of codes.
+ghost use Rattle.std.specs.Prelude.{◌≡◌};
+ghost use Rattle.ocfl_tasks.specs.Tasks.{unshown_status};
 
 use crate::saying::say_note;
 use ocfl_codes::{codes_json, codes_text};
@@ -44,22 +46,25 @@ where
 }
 
 /// Says that bytes are refused as a checkpoint, and gives the status.
-fn say_refused<R: Eprint>(rt: &R, why: &Refused) -> u8 {
+fn say_refused<R: Eprint>(rt: &R, why: &Refused) -> u8
+    ensures { result ≡ 4 }
+{
     let _ = eprintln!(rt; "ocfl-scrub: checkpoint refused: {why}");
     REFUSED
 }
 
 /// Says why the checkpoint of a file is not shown, and gives the status.
-fn say_unshown<R: Eprint>(rt: &R, why: &NotShown) -> u8 {
-    match why {
-        NotShown::Memory | NotShown::Checkpoint(Refused::Memory) => say_out_of_memory(rt),
-        NotShown::Checkpoint(why) => say_refused(rt, why),
-        NotShown::Long => say_refused(rt, &Refused::NotA(TextKind::Checkpoint)),
-        NotShown::Read | NotShown::Cursor(_) => {
-            say(rt, "checkpoint file failed");
-            STOPPED
-        }
-    }
+fn say_unshown<R: Eprint>(rt: &R, why: &NotShown) -> u8
+    ensures { result ≡ unshown_status why.now }
+{
+    let line = match why {
+        NotShown::Memory | NotShown::Checkpoint(Refused::Memory) => "out of memory",
+        NotShown::Checkpoint(why) => return say_refused(rt, why),
+        NotShown::Long => return say_refused(rt, &Refused::NotA(TextKind::Checkpoint)),
+        NotShown::Read | NotShown::Cursor(_) => "checkpoint file failed",
+    };
+    say(rt, line);
+    STOPPED
 }
 
 /// Writes lines to standard output, and gives the exit status.

@@ -1,4 +1,7 @@
 //! Doing a deed over a folder: its store, its cursor's file, its progress.
+ghost use Rattle.std.specs.Prelude.{◌≡◌, ◌⊎◌, IfErr, IsNone, IsOk, MatchOption};
+ghost use Rattle.std.specs.Prelude.{None, codes, string_bytes};
+ghost use Rattle.ocfl_tasks.specs.Tasks.{IsFileNote, shown_on};
 
 use crate::saying::say_note;
 use crate::showing::show_file;
@@ -24,7 +27,9 @@ use std::rt::{Env, Files};
 use std::time::Clock;
 
 /// What is said of a cursor's file that could not be read or put in place.
-fn file_note(error: &io::Error) -> Note {
+fn file_note(error: &io::Error) -> Note
+    ensures { IsFileNote error.now result }
+{
     match error.kind() {
         io::ErrorKind::OutOfMemory => Note::OutOfMemory,
         _ => Note::CursorFileFailed,
@@ -32,7 +37,9 @@ fn file_note(error: &io::Error) -> Note {
 }
 
 /// Which terminals show progress and share it with the report: none if no progress is shown.
-fn shown_on(task: &Task, terminals: Terminals) -> Terminals {
+fn shown_on(task: &Task, terminals: Terminals) -> Terminals
+    ensures { result ≡ shown_on task.now terminals }
+{
     let is_long = matches!(&task.deed, Deed::Audit | Deed::Run(_) | Deed::Cycle(_, _));
     let error = is_long && !task.quiet && terminals.error;
     let output = error && terminals.output;
@@ -40,7 +47,10 @@ fn shown_on(task: &Task, terminals: Terminals) -> Terminals {
 }
 
 /// The folder that the command line names, and the current one if it names none.
-fn root_of(task: &Task) -> &str {
+fn root_of(task: &Task) -> &str
+    ensures { MatchOption task.now.root (result.now ≡ codes ".")
+        (λ root. result.now ≡ string_bytes root) }
+{
     match &task.root {
         Some(root) => root.as_str(),
         None => ".",
@@ -71,7 +81,9 @@ impl Drop for Done {
 
 impl Done {
     /// That it could not begin.
-    fn stopped(note: Note) -> Done {
+    fn stopped(note: Note) -> Done
+        ensures { result ≡ record { status = 3; note = note; cursor = None; reason = None } }
+    {
         Done {
             status: STOPPED,
             note,
@@ -81,7 +93,14 @@ impl Done {
     }
 
     /// That it was performed so.
-    fn performed(performed: Performed, reason: Option<String>) -> Done {
+    fn performed(performed: Performed, reason: Option<String>) -> Done
+        ensures { result ≡ record {
+          status = performed.status;
+          note = performed.note;
+          cursor = performed.cursor;
+          reason = reason;
+        } }
+    {
         let Performed {
             status,
             note,
@@ -194,11 +213,16 @@ where
 fn store_cursor<R>(rt: &R, task: &Task, done: &Done) -> Result<(), Note>
 where
     R: Files + AllocGlobal,
+    ensures none { IsNone task.now.file ⊎ IsNone done.now.cursor → IsOk result }
+    ensures note { IfErr result (λ why. (why ≡ Note.OutOfMemory) ⊎ (why ≡ Note.CursorFileFailed)) }
 {
     let (Some(file), Some(text)) = (&task.file, &done.cursor) else {
         return Ok(());
     };
-    put_in_place(rt, file.as_str(), text).map_err(|error| file_note(&error))
+    match put_in_place(rt, file.as_str(), text) {
+        Ok(()) => Ok(()),
+        Err(error) => Err(file_note(&error)),
+    }
 }
 
 /// Does the deed and stores its cursor.

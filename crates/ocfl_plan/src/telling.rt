@@ -5,8 +5,8 @@ ghost use Rattle.ocfl_tree.specs.Place.{Text};
 ghost use Rattle.ocfl_terms.specs.Output.{CountsFailure, Grew, HasFailed};
 ghost use Rattle.ocfl_plan.specs.Telling.{Went};
 
-use ocfl_terms::{Output, OutputFailed};
 use ocfl_report::write_all_of;
+use ocfl_terms::{Output, OutputFailed};
 use std::io::Write;
 
 /// What makes a message of the bytes of a report that it is given.

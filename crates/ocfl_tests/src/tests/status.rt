@@ -43,7 +43,11 @@ fn findings_have_statuses(rt: HostRuntime) -> Result<(), Fail> {
 
 #[test]
 fn counts_have_an_end(rt: HostRuntime) -> Result<(), Fail> {
-    for (old, more, count) in [(2, 3, 5), (u64::MAX - 1, 1, u64::MAX), (u64::MAX, 9, u64::MAX)] {
+    for (old, more, count) in [
+        (2, 3, 5),
+        (u64::MAX - 1, 1, u64::MAX),
+        (u64::MAX, 9, u64::MAX),
+    ] {
         assert_eq!(rt; counted(old, more), count, "{old} {more}");
     }
     Ok(())

@@ -2,7 +2,7 @@
 use Rattle.std.proofs.Common.{◌≡◌, ℕ, ◌-◌, ◌^◌, List, [], ◌∷◌, ◌++◌, Option, map, ap, sym, ◌∙◌}
 use Rattle.std.proofs.lemmas.List.{map-append}
 use Rattle.std.specs.Prelude.{unwrap_or}
-use Rattle.ocfl_night.specs.Clock.{Read}
+use Rattle.ocfl_terms.specs.Clock.{Read}
 use Rattle.ocfl_plan.specs.Stopping.{Answer, Seconds, event_of}
 
 pub told_more : (old new : List Answer) (a : Answer) → new ≡ old ++ a ∷ [] → map event_of new ≡ map event_of old ++ event_of a ∷ []

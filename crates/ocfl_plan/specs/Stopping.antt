@@ -1,7 +1,7 @@
 -- What the calls of the system answer that the clock of a night makes.
 use Rattle.std.specs.Prelude.{ℕ, ◌-◌, ◌^◌, Bool, Option, unwrap_or}
-use Rattle.ocfl_night.specs.Clock.{Event, Asked, Read, Heard}
-use Rattle.ocfl_night.specs.declared.slicing.Made.{Made}
+use Rattle.ocfl_terms.specs.Clock.{Event, Asked, Read, Heard}
+use Rattle.ocfl_terms.specs.declared.made.Made.{Made}
 
 -- the seconds since the epoch, none where the clock cannot be read; whether the file is there that asks
 -- a night to stop; and, between two calls, a run that was made

@@ -2,7 +2,7 @@
 ghost use Rattle.std.specs.Prelude.{◌≡◌, ◌++◌, ◌∷◌, [], Bool, IsTrue, List, false, map};
 ghost use Rattle.ocfl_plan.specs.Stopping.{Answer, HasStop, Ran, Seconds, event_of};
 
-use ocfl_night::{Clock, Made};
+use ocfl_terms::{Clock, Made};
 
 /// The calls of the system that the clock of a night makes: one tells the time, and one looks for
 /// the file that asks the night to stop.

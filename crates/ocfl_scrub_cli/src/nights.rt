@@ -194,10 +194,11 @@ where
     L: NightLog + Drop,
 {
     let given = &planned.given;
-    let beside = noting.beside(given.about(), log)?;
     let mut block = Block::new(rt.alloc())?;
-    let mut tree = FsTree::entering(rt, given.root.as_str())?;
     let stop = stop_file(rt, given.asked.state.as_str())?;
+    let mut tree = FsTree::entering(rt, given.root.as_str())?;
+    // (made last, so that no other failure lets its many fields go)
+    let beside = noting.beside(given.about(), log)?;
     Ok(runs_over(
         rt,
         planned,

@@ -18,6 +18,8 @@ Tried, and what comes of it:
 - A part that closed its cycle, and was killed before it said what was gone: it is named, status 3,
   and its cycle is joined once that was said.
 - A joined report: how many files of it are right, in one line, once. Before, nothing was said.
+- A full output, and a call that is killed before the joined report gets its name: nothing is put
+  whose word was not said; the next call joins it, and says its word. Before, nobody was told of it.
 - Two calls at once: one joins, and the other ends with 75; what a killed one left is replaced.
 - A part that lost whole lines of its report, or whose report has other ones, than it was closed
   with: it is named, status 3, and nothing is joined.
@@ -161,6 +163,20 @@ def untold(folder: str) -> None:
     check("it is joined then", parts.joined(1), (0, "".join(REPORTS), ""))
 
 
+def word_first(folder: str) -> None:
+    """The word on a joined report is said before it is there."""
+    parts = Parts(folder)
+    words = ["join", "--parts", parts.file, "--state", parts.folder]
+    path = parts.folder + "/reports/cycle-000001"
+    status, _, note = common.ran(words, ["sh", "-c", 'exec "$@" > /dev/full', "sh"])
+    check("a full output", (status, "output failed" in note, os.path.exists(path)),
+          (3, True, False))
+    _, out, _ = common.traced(["-e", "inject=rename,renameat,renameat2:signal=KILL:when=1"], words)
+    check("killed before it has its name", (out, os.path.exists(path)), (WORD, False))
+    check("the next call", (ran(words), os.listdir(parts.folder + "/reports")),
+          ((0, WORD, ""), ["cycle-000001"]))
+
+
 def at_once(folder: str) -> None:
     """Of two calls at once one joins, and the other does nothing."""
     parts = Parts(folder)
@@ -252,7 +268,7 @@ def lost_lines(folder: str) -> None:
     check("one that was not kept", parts.joined(), (0, "".join(REPORTS), ""))
 
 
-PARTS = [whole, later_cycles, untold, at_once, refused, incomplete, lost_lines]
+PARTS = [whole, later_cycles, untold, word_first, at_once, refused, incomplete, lost_lines]
 
 
 def check_all(folder: str) -> None:

@@ -2,14 +2,14 @@
 
 use std::time::{Clock, SystemTime};
 
-/// The time by the system's clock, in seconds since the epoch. A clock that cannot be read is past
-/// every end.
+/// The time by the system's clock, in seconds since the epoch. `None` if it cannot be read.
+pub fn read_seconds<R: Clock>(rt: &R) -> Option<u64> {
+    let now = SystemTime::now(rt).ok()?;
+    let since = now.duration_since(SystemTime::UNIX_EPOCH).ok()?;
+    Some(since.as_secs())
+}
+
+/// The same. A clock that cannot be read is past every end.
 pub fn seconds_now<R: Clock>(rt: &R) -> u64 {
-    let Ok(now) = SystemTime::now(rt) else {
-        return u64::MAX;
-    };
-    match now.duration_since(SystemTime::UNIX_EPOCH) {
-        Ok(since) => since.as_secs(),
-        Err(_) => u64::MAX,
-    }
+    read_seconds(rt).unwrap_or(u64::MAX)
 }

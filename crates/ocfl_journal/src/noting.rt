@@ -1,12 +1,8 @@
 //! A state folder whose checkpoints are noted as they are put.
 
 use crate::begun::{Begun, read_begun};
-use crate::clock::StopFile;
-use crate::heads::heads_before;
 use crate::logging::{Journal, NightLog, Reading, SystemLog};
-use crate::speaking::{Kept, Speaker};
-use crate::telling::Teller;
-use ocfl_disk::{Reason as StateReason, StateFile};
+use ocfl_disk::Reason as StateReason;
 use ocfl_files::failing::Failure;
 use ocfl_files::reasons::{Reason, Reasons, last_reason};
 use ocfl_kept::names::About;
@@ -15,6 +11,7 @@ use ocfl_kept::state::open_state;
 use ocfl_kept::state_dir::{Folder, StateDir};
 use ocfl_messages::Heads;
 use ocfl_report::Line;
+use ocfl_speaking::{Speaker, heads_before};
 use ocfl_state::{Checkpoint, Observed, Observer, StateFolder, decode_checkpoint};
 use std::alloc::{AllocError, Global};
 use std::cell::Cell;
@@ -70,9 +67,18 @@ pub type OnDisk<'a, R> = Noting<StateDir<'a, R>, SystemLog<'a, R>>;
 pub struct Beside<'n, L: Drop> {
     /// What logs the runs.
     pub journal: Journal<L>,
-    /// What makes the messages.
+    /// What makes the messages, and what it speaks by.
     pub speaker: Speaker<'n>,
+    pub spoken_by: SpokenBy,
     /// Why places of the storage root could not be read.
+    pub reasons: Rc<Cell<Reasons>>,
+}
+
+/// What a message goes by that is made: where the nights stand, and why places could not be read
+/// since the message before.
+#[derive(Drop)]
+pub struct SpokenBy {
+    pub now: Rc<Cell<Standing>>,
     pub reasons: Rc<Cell<Reasons>>,
 }
 
@@ -162,33 +168,6 @@ where
     Ok(noting_over(rt.alloc(), about, folder, log)?)
 }
 
-/// The clock of a night, and the file that asks it to stop.
-pub fn stop_file<'a, R>(rt: &'a R, state: &str) -> Result<StopFile<'a, R>, AllocError>
-where
-    R: Files + AllocGlobal,
-{
-    let path = format!(in rt.alloc(); "{state}/{}", StateFile::Stop)?;
-    Ok(StopFile { rt, path })
-}
-
-/// What makes the messages of a night, whose first line may be in the object of `heads`.
-fn speaker_of<'n>(
-    alloc: Global,
-    about: About<'n>,
-    heads: Heads,
-    reasons: &Rc<Cell<Reasons>>,
-    now: &Rc<Cell<Standing>>,
-) -> Result<Speaker<'n>, AllocError> {
-    let kept = Kept::new(alloc)?;
-    let (reasons, now) = (reasons.clone()?, now.clone()?);
-    let out = kept.shared()?;
-    Ok(Speaker {
-        teller: Teller::new(alloc, about.names, about.known, reasons, now, heads, out),
-        kept,
-        findings: 0,
-    })
-}
-
 impl<F: Folder + StateFolder + Drop, L: NightLog + Drop> Noting<F, L> {
     /// Where the night began.
     pub fn began(&self) -> Standing {
@@ -213,13 +192,16 @@ impl<F: Folder + StateFolder + Drop, L: NightLog + Drop> Noting<F, L> {
     /// What stands beside the folder in the night, whose runs are logged so.
     pub fn beside<'n>(&mut self, about: About<'n>, log: L) -> Result<Beside<'n, L>, AllocError> {
         let alloc = self.folder.observer.alloc;
-        let heads = heads_before(alloc, &mut self.folder.folder, self.begun.told);
+        let heads = heads_before(alloc, &mut self.folder.folder, self.begun.told).unwrap_or(
+            Heads::new(),
+        );
         let notes = &self.folder.observer;
-        let reasons = notes.reasons.clone()?;
+        let (now, reasons) = (notes.now.clone()?, notes.reasons.clone()?);
         Ok(Beside {
-            speaker: speaker_of(alloc, about, heads, &notes.reasons, &notes.now)?,
+            speaker: Speaker::new(alloc, about.names, about.known, now.get(), heads),
+            spoken_by: SpokenBy { now, reasons },
             journal: Journal::of(log, about.began, self.lost.clone()?),
-            reasons,
+            reasons: notes.reasons.clone()?,
         })
     }
 
@@ -228,8 +210,8 @@ impl<F: Folder + StateFolder + Drop, L: NightLog + Drop> Noting<F, L> {
         let now = self.folder.observer.now.get();
         Told {
             cost: self.begun.standing.spent_until(now),
-            findings: speaker.findings,
-            broken: speaker.teller.broken(),
+            findings: speaker.findings(),
+            broken: speaker.broken(),
             said: speaker.into_said(),
         }
     }

@@ -3,7 +3,7 @@ mod clock;
 mod ending;
 mod speaking;
 
-use crate::nights::clock::{RunLog, System};
+use crate::nights::clock::{RunLog, stop_file};
 use crate::nights::ending::{Runs, said_of};
 use crate::nights::speaking::Words;
 use ocfl_arguments::NightAsked;
@@ -16,7 +16,7 @@ use ocfl_folder::FsTree;
 use ocfl_given::given::{Found, Given, find_given, program_digest, text_of};
 use ocfl_given::waiting::{find_wait, say_wait};
 use ocfl_journal::ending::{Ended, EndedFolder, end_night, log_ended, log_unbegun, status_told};
-use ocfl_journal::noting::{Beside, Noting, open_noting, stop_file};
+use ocfl_journal::noting::{Beside, Noting, open_noting};
 use ocfl_journal::{NightLog, SystemLog};
 use ocfl_kept::room::Room;
 use ocfl_kept::stand::Standing;
@@ -157,6 +157,7 @@ where
     let Beside {
         journal,
         speaker,
+        spoken_by,
         reasons,
     } = beside;
     let began = planned.given.began;
@@ -164,7 +165,13 @@ where
         clock,
         listener: RunLog { journal, began },
     };
-    let mut out = Telling::over(Words { speaker }, out);
+    let words = Words {
+        alloc: rt.global(),
+        speaker,
+        state: planned.given.names().state,
+        spoken_by,
+    };
+    let mut out = Telling::over(words, out);
     let shown = Shown {
         is_shown,
         last_cost: last_cost(noting.began()),
@@ -205,7 +212,7 @@ where
         noting,
         beside,
         &mut tree,
-        Budgeted::of(given.asked, System { stop }),
+        Budgeted::of(given.asked, stop),
         &mut block,
         output_on(rt, shown_on),
         shown_on.error,

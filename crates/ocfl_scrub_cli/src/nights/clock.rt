@@ -1,31 +1,42 @@
 //! The clock of a night, and the log of its runs.
-ghost use Rattle.std.specs.Prelude.{[], false};
 
-use ocfl_journal::clock::StopFile;
+use ocfl_disk::StateFile;
+use ocfl_files::timing::read_seconds;
 use ocfl_journal::{Journal, NightLog, RunMade};
-use ocfl_plan::{Listener, is_kept, run_status};
+use ocfl_plan::{Listener, StopCalls, StopFile, is_kept, run_status};
 use ocfl_terms::Made;
+use std::alloc::AllocError;
+use std::fs;
 use std::rt::Files;
 use std::time::Clock;
 
-/// The clock of the system, which a file asks to stop a night.
+/// The calls of the system that the clock of a night makes. What they answer is not told.
 #[derive(Drop)]
 pub(crate) struct System<'a, R> {
-    pub(crate) stop: StopFile<'a, R>,
+    rt: &'a R,
+    /// The path of the file that asks the night to stop.
+    path: String,
 }
 
-/// What the system does is not told.
-impl<R: Files + Clock> ocfl_terms::Clock for System<'_, R> {
-    ghost told = { false };
+/// The clock of a night over a state folder, in which a file asks it to stop.
+pub(crate) fn stop_file<'a, R>(
+    rt: &'a R,
+    state: &str,
+) -> Result<StopFile<System<'a, R>>, AllocError>
+where
+    R: Files + AllocGlobal + Clock,
+{
+    let path = format!(in rt.alloc(); "{state}/{}", StateFile::Stop)?;
+    Ok(StopFile::over(System { rt, path }))
+}
 
-    ghost events = { λ _. [] };
-
-    fn now(&mut self) -> u64 {
-        self.stop.now()
+impl<R: Files + Clock> StopCalls for System<'_, R> {
+    fn seconds(&mut self) -> Option<u64> {
+        read_seconds(self.rt)
     }
 
-    fn is_stopped(&mut self) -> bool {
-        self.stop.is_there()
+    fn has_stop(&mut self) -> bool {
+        fs::symlink_metadata(self.rt, self.path.as_str()).is_ok()
     }
 
     fn hears(&mut self, _made: &Made) {}

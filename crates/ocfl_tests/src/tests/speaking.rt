@@ -23,7 +23,7 @@ const REPORT: &str = "ok\t.\t-\nok\to\t-\nok\to/v1/content/a\t5\nno line\n\
 E092\to/v1/content/b\tsha512 00 11\nS08\to/v1/content/c\t-\nok\to/v1/content/d\t5\nok\to/e\n";
 
 const MESSAGE: &str = "2 findings tonight in /srv/ocfl, cycle 1, runs 1 to 2:
-Object o, 3 of its 5 files are right:
+Object o, 3 of 5 files right:
 ";
 
 /// Where the nights stand in their first cycle, after so many runs.

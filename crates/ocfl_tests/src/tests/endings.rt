@@ -4,8 +4,8 @@ use ocfl_cursor::{Refused, TextKind};
 use ocfl_endings::ending_text;
 use ocfl_item::Fault;
 use ocfl_kept::names::Names;
-use ocfl_night::{Halt, Refusal, Stop};
 use ocfl_state::FolderTrouble;
+use ocfl_terms::{Halt, Refusal, Stop};
 use std::test::Fail;
 
 /// A night of part 2 of `/srv/root`, with its state in `/state`.
@@ -19,7 +19,7 @@ const NAMES: Names<'static> = Names {
 fn nights_that_ended_as_they_may_say_nothing(rt: HostRuntime) -> Result<(), Fail> {
     for halt in [Halt::CycleEnded(4), Halt::TimeUp, Halt::Spent, Halt::Asked] {
         let text = ending_text(rt.alloc(), &halt, Some("words"), Some("why"), NAMES)?;
-        assert!(rt; text.is_none(), "{halt:?}");
+        assert!(rt; text.is_none());
     }
     Ok(())
 }

@@ -50,7 +50,7 @@ impl Drop for Speaker<'_> {
 }
 
 impl<'n> Speaker<'n> {
-    ghost use Rattle.std.specs.Prelude.{◌≡◌, ◌==◌, OnOk, IfOk, [], if◌then◌else◌};
+    ghost use Rattle.std.specs.Prelude.{◌≡◌, ◌==◌, OnOk, OnErr, IfOk, [], if◌then◌else◌, true};
     ghost use Rattle.ocfl_speaking.specs.Sifting.{Given, first_given, given_on};
     ghost use Rattle.ocfl_speaking.specs.Speaking.{IsGiven, IsSaid};
 
@@ -104,6 +104,7 @@ impl<'n> Speaker<'n> {
             → IsGiven self.new (given_on g bytes.now)) }
         ensures same { self.new ≡ record self.old
             { sifting = self.new.sifting; has_failed = self.new.has_failed } }
+        ensures failed { OnErr result (self.new.has_failed ≡ true) }
     {
         if self.has_failed {
             return Err(AllocError);
@@ -123,6 +124,7 @@ impl<'n> Speaker<'n> {
     ) -> Result<Vec<u8>, AllocError>
         ensures said { IfOk result (λ text. (g : Given) → IsGiven self.old g
             → IsSaid self.old self.new g now reasons.now report.entry text.items) }
+        ensures failed { OnErr result (self.new.has_failed ≡ true) }
     {
         if self.has_failed {
             return Err(AllocError);

@@ -17,7 +17,7 @@ const NAMES: Names<'static> = Names {
     state: "/state",
 };
 
-/// An object with two files that are right, a line that is none, a damaged file and one that cannot
+/// An object with two files that are right, a line of no report, a damaged file and one that cannot
 /// be read. The last line of the object has no third field: it counts as a right file.
 const REPORT: &str = "ok\t.\t-\nok\to\t-\nok\to/v1/content/a\t5\nno line\n\
 E092\to/v1/content/b\tsha512 00 11\nS08\to/v1/content/c\t-\nok\to/v1/content/d\t5\nok\to/e\n";

@@ -1,7 +1,7 @@
 -- What the bytes of an `inventory.json` hold, or the line that stops (OCFL 1.1, 3.5 Inventory; RFC
 -- 8259).
 use Rattle.std.specs.Prelude.{◌==◌, ◌||◌, List, [], ◌∷◌, not, if◌then◌else◌, Option, Some, None, option_map, option_and_then, is_some, Result, Ok, Err, filter, codes}
-use Rattle.std.specs.{List.{list_any}, Str.{is_utf8}}
+use Rattle.std.specs.{List.{list_any}, Result.{result_ok}, Str.{is_utf8}}
 use Rattle.serde_json.specs.Data.{Data, Items, no_items, item, Members, no_members, member}
 use Rattle.serde_json.specs.{Find.{as_str, as_array, as_object, get_member}, Read.{read}}
 use Rattle.ocfl_tree.specs.{Place.{Text, text_cmp, text_eq}, Ascending.{ascending}}
@@ -109,6 +109,14 @@ pub record Inventory : Type 0 where
 
 abbrev pub algorithm_of : Text → Reading Algorithm
 algorithm_of bytes = object_of bytes >>= algorithm_in
+
+-- the version that is named as the newest, if that is a text; whether an inventory stops has no
+-- part in it
+abbrev pub head_in : Members → Option Text
+head_in ms = option_and_then as_str (get_member (codes "head") ms)
+
+abbrev pub head_of : Text → Option Text
+head_of bytes = option_and_then head_in (result_ok (object_of bytes))
 
 -- the keys are looked at in this order, after the algorithm: the first that stops is the answer
 abbrev pub behind_algorithm : Members → Algorithm → Reading Inventory

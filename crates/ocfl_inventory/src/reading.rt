@@ -4,7 +4,7 @@ ghost use Rattle.std.specs.Result.{result_ok};
 ghost use Rattle.serde_json.specs.{View.{view, members_view}, Find.{get_member}};
 ghost use Rattle.ocfl_tree.specs.Place.{text_eq};
 ghost use Rattle.ocfl_inventory.specs.Note.{note};
-ghost use Rattle.ocfl_inventory.specs.Reading.{object_of, digest_algorithm, algorithm_in, content_named, content_from, fixity_from, behind_algorithm, blocks_for, keys_of, unsupported_in, algorithm_of as algorithm_stated, manifest_from};
+ghost use Rattle.ocfl_inventory.specs.Reading.{object_of, digest_algorithm, algorithm_in, head_in, content_named, content_from, fixity_from, behind_algorithm, blocks_for, keys_of, unsupported_in, algorithm_of as algorithm_stated, manifest_from};
 ghost use Rattle.ocfl_inventory.specs.Internal.Parts.{Gives, Says, value_for, block_view, fixity_view, supported_view, with_block, inventory_view};
 ghost use Rattle.ocfl_digest.specs.Algorithm.{algorithm_name, algorithm_named, supported as all_supported};
 
@@ -68,6 +68,23 @@ pub(crate) fn read_algorithm(
         return Err(stop(alloc, Code::S03, "digestAlgorithm"));
     };
     named_algorithm(alloc, text)
+}
+
+/// A copy of the version that the members of an inventory name as the newest, if that is a text.
+pub(crate) fn head_text(
+    alloc: Global,
+    map: &Map<String, Value>,
+) -> Result<Option<String>, AllocError>
+    ensures { IfOk result (λ head. option_map string_bytes head
+        ≡ head_in (members_view map.now.entries)) }
+{
+    let Some(value) = member(map, "head") else {
+        return Ok(None);
+    };
+    let Some(text) = value.as_str() else {
+        return Ok(None);
+    };
+    Ok(Some(String::from_str(alloc, text)?))
 }
 
 fn content_text<'v>(alloc: Global, text: &'v str) -> Result<&'v str, InventoryStop>

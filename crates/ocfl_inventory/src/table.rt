@@ -6,7 +6,7 @@ ghost use Rattle.serde_json.specs.View.{members_view};
 ghost use Rattle.ocfl_tree.specs.{Place.{place_cmp}, Ascending.{IsAscending, ascending}};
 ghost use Rattle.ocfl_report.specs.Line.{line_of};
 ghost use Rattle.ocfl_inventory.specs.Note.{lines_at};
-ghost use Rattle.ocfl_inventory.specs.Reading.{algorithm_in, algorithm_of, behind_algorithm, inventory_in};
+ghost use Rattle.ocfl_inventory.specs.Reading.{algorithm_in, algorithm_of, behind_algorithm, head_in, head_of, inventory_in};
 ghost use Rattle.ocfl_inventory.specs.Notes.{inventory_notes, notes_of, reading_notes};
 ghost use Rattle.ocfl_inventory.specs.{Internal.Parts.{inventory_view}, Remark.{remark_view}};
 ghost use Rattle.ocfl_inventory.specs.Table.{IsFit, triple_cmp, table_from, table_from_reading, table_of, named as named_in};
@@ -16,7 +16,7 @@ ghost use Rattle.ocfl_inventory.specs.Internal.ReadInventory.{IsReading, SaysAlo
 use crate::gather::gather;
 use crate::inventory::Inventory;
 use crate::notes::{add_others, repeated_lines};
-use crate::reading::{object, read_algorithm, read_behind_algorithm};
+use crate::reading::{head_text, object, read_algorithm, read_behind_algorithm};
 use crate::remark::{InventoryStop, Remark};
 use crate::triple::{Named, Triple};
 use ocfl_digest::Algorithm;
@@ -211,6 +211,8 @@ fn to_lines(alloc: Global, remarks: Vec<Remark>) -> Result<Vec<Line>, AllocError
 pub struct InventoryReading {
     /// The digest algorithm that it names, `sha256` or `sha512`, if it names one of these.
     pub algorithm: Option<Algorithm>,
+    /// The version that it names as the newest, if that is a text.
+    pub head: Option<String>,
     /// What the lines about it say.
     pub remarks: Vec<Remark>,
     /// Its table, if nothing stops.
@@ -221,9 +223,11 @@ pub struct InventoryReading {
 fn stopped(
     alloc: Global,
     algorithm: Option<Algorithm>,
+    head: Option<String>,
     stop: InventoryStop,
 ) -> Result<InventoryReading, AllocError>
     ensures algorithm { IfOk result (λ r. r.algorithm ≡ algorithm) }
+    ensures head { IfOk result (λ r. r.head ≡ head) }
     ensures remarks { IfOk result (λ r. SaysAlone stop (map remark_view r.remarks.items)) }
     ensures table { IfOk result (λ r. r.table ≡ None) }
 {
@@ -234,6 +238,7 @@ fn stopped(
             remarks.push(remark)?;
             Ok(InventoryReading {
                 algorithm,
+                head,
                 remarks,
                 table: None,
             })
@@ -241,13 +246,15 @@ fn stopped(
     }
 }
 
-/// What the members of an inventory of an algorithm say: remarks, table and algorithm.
+/// What the members of an inventory of an algorithm say, beside the head that they name.
 fn reading_behind_algorithm(
     alloc: Global,
     members: Map<String, Value>,
     algorithm: Algorithm,
+    head: Option<String>,
 ) -> Result<InventoryReading, AllocError>
     ensures algorithm { IfOk result (λ r. r.algorithm ≡ Some algorithm) }
+    ensures head { IfOk result (λ r. r.head ≡ head) }
     ensures remarks { IfOk result (λ r. map remark_view r.remarks.items
         ≡ reading_notes (behind_algorithm (members_view members.entries) algorithm)) }
     ensures table { IfOk result (λ r. r.table
@@ -257,29 +264,33 @@ fn reading_behind_algorithm(
     match read_members(alloc, members, algorithm) {
         Ok((remarks, table)) => Ok(InventoryReading {
             algorithm: Some(algorithm),
+            head,
             remarks,
             table: Some(table),
         }),
-        Err(stop) => stopped(alloc, Some(algorithm), stop),
+        Err(stop) => stopped(alloc, Some(algorithm), head, stop),
     }
 }
 
-/// What the members of an inventory say: remarks, table and algorithm.
+/// What the members of an inventory say: algorithm, head, remarks and table.
 fn reading_of_members(
     alloc: Global,
     members: Map<String, Value>,
 ) -> Result<InventoryReading, AllocError>
     ensures algorithm { IfOk result (λ r. r.algorithm
         ≡ result_ok (algorithm_in (members_view members.entries))) }
+    ensures head { IfOk result (λ r. option_map string_bytes r.head
+        ≡ head_in (members_view members.entries)) }
     ensures remarks { IfOk result (λ r. map remark_view r.remarks.items
         ≡ reading_notes (inventory_in (members_view members.entries))) }
     ensures table { IfOk result (λ r. r.table
         ≡ table_from_reading (inventory_in (members_view members.entries))) }
     ensures fit { IfOk result (λ r. IfSome r.table (λ t. IsFit t)) }
 {
+    let head = head_text(alloc, &members)?;
     match read_algorithm(alloc, &members) {
-        Ok(algorithm) => reading_behind_algorithm(alloc, members, algorithm),
-        Err(stop) => stopped(alloc, None, stop),
+        Ok(algorithm) => reading_behind_algorithm(alloc, members, algorithm, head),
+        Err(stop) => stopped(alloc, None, head, stop),
     }
 }
 
@@ -293,16 +304,18 @@ fn reading_of_members(
 /// form (S03); `fixity` of a wrong form (S03). Else there is a table, and the lines are, in this
 /// order: digests that several keys have (E096, E097), bad paths (E100, E099, S06), paths that
 /// conflict (E101), and algorithms of fixity that are not computed (S07). The algorithm is that of
-/// `algorithm_of`, even if a later key stops. The error is running out of memory.
+/// `algorithm_of`, and the head is that of `head_of`, even if another key stops. The error is running
+/// out of memory.
 pub fn read_inventory(alloc: Global, bytes: &[u8]) -> Result<InventoryReading, AllocError>
     ensures algorithm { IfOk result (λ r. r.algorithm ≡ result_ok (algorithm_of bytes.now)) }
+    ensures head { IfOk result (λ r. option_map string_bytes r.head ≡ head_of bytes.now) }
     ensures remarks { IfOk result (λ r. map remark_view r.remarks.items ≡ notes_of bytes.now) }
     ensures table { IfOk result (λ r. r.table ≡ table_of bytes.now) }
     ensures fit { IfOk result (λ r. IfSome r.table (λ t. IsFit t)) }
 {
     match object(alloc, bytes) {
         Ok(members) => reading_of_members(alloc, members),
-        Err(why) => stopped(alloc, None, why),
+        Err(why) => stopped(alloc, None, None, why),
     }
 }
 

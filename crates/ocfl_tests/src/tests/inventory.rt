@@ -555,6 +555,27 @@ fn reads_as_its_parts(rt: &impl Runtime, row: &str, bytes: &[u8]) -> Result<(), 
     Ok(())
 }
 
+/// The version that an inventory names as the newest is a text, whether the inventory stops or not.
+#[test]
+fn the_head_is_a_text(rt: HostRuntime) -> Result<(), Fail> {
+    for (row, bytes, head) in [
+        ("no manifest", r#"{"head":"v3"}"#, Some("v3")),
+        (
+            "any text",
+            r#"{"digestAlgorithm":"sha512","head":""}"#,
+            Some(""),
+        ),
+        ("the last of two", r#"{"head":1,"head":"v2"}"#, Some("v2")),
+        ("a number", r#"{"head":3}"#, None),
+        ("no head", "{}", None),
+        ("an array", r#"["head"]"#, None),
+    ] {
+        let read = read_inventory(rt.alloc(), bytes.as_bytes())?;
+        assert_eq!(rt; read.head.as_deref(), head, "{row}");
+    }
+    Ok(())
+}
+
 #[test]
 fn one_parse_gives_algorithm_lines_and_table(rt: HostRuntime) -> Result<(), Fail> {
     let alloc = rt.alloc();

@@ -1,5 +1,5 @@
 -- What is known of a content place, and of a file that is hashed.
-use Rattle.std.proofs.Common.{◌≡◌, ◌≢◌, ℕ, ◌+◌, ◌≤◌, List, [], ◌∷◌, ◌++◌, length, cond, refl, sym, ◌∙◌, ap, subst, true, false, Bool, Option, Some, None, arith, ltb-false}
+use Rattle.std.proofs.Common.{◌≡◌, ◌≢◌, ℕ, ◌+◌, ◌≤◌, List, [], ◌∷◌, ◌++◌, length, cond, refl, sym, ◌∙◌, ap, subst, true, false, Bool, Option, Some, None, arith}
 use Rattle.std.proofs.lemmas.Bool.{lt-ltb}
 use Rattle.std.specs.{Prelude.{option_map, nat_lt}, List.{list_all}}
 use Rattle.ocfl_tree.specs.{Place.{Place, Text}, Ascending.{IsAscending, IsAmong}}
@@ -7,20 +7,23 @@ use Rattle.ocfl_tree.specs.StorageRoot.{StorageRoot, Leaf, file, dir, other, at}
 use Rattle.ocfl_inventory.specs.ListedPath.{is_content_path}
 use Rattle.ocfl_inventory.specs.Table.{Table, Named, named_cmp, named, paths_of}
 use Rattle.ocfl_rules.specs.Zone.{Zone, skipped, hierarchy, inside, zone, seen, table_at, is_entered, beginnings}
-use Rattle.ocfl_rules.specs.Lines.{content_notes, object_notes, notes_in, notes, named_in, named_at, cost_of, cost, is_hashed, file_notes, missing_notes}
+use Rattle.ocfl_rules.specs.Lines.{content_notes, object_notes, notes_in, named_in, named_at, cost_of, file_notes, missing_notes}
+use Rattle.ocfl_rules.specs.{Inventories.{version_inventory, notes, cost, is_hashed}, Trail.{is_head}}
+use Rattle.ocfl_rules.proofs.AuditExists.{some_not_none, zone_is, path_among}
+use Rattle.ocfl_rules.proofs.BoundLaws.{table_from_inventory, kept_paths, kept_short}
+use Rattle.ocfl_rules.proofs.PathLaws.{deep_path, named_path, notes_at}
 use Rattle.ocfl_item.specs.Internal.Content.{content_in, content_at, IsSight, is_read, sight_notes}
 use Rattle.ocfl_item.specs.declared.sight.Sight.{Sight}
 use Rattle.ocfl_item.specs.declared.sight.Sight.TheVariants as sight
 use Rattle.ocfl_tree.proofs.Orders.{true_not_false}
-use Rattle.ocfl_rules.proofs.AuditExists.{some_not_none, zone_is, path_among}
-use Rattle.ocfl_rules.proofs.BoundLaws.{table_from_inventory, kept_paths, kept_short}
-use Rattle.ocfl_rules.proofs.PathLaws.{deep_path, notes_at}
-use Rattle.ocfl_item.proofs.{AuditingLaws.{front_of_none}, NamedLaws.{named_ascend}}
+use Rattle.ocfl_item.proofs.{AuditingLaws.{front_of_none}, CommonLaws.{no_version}, NamedLaws.{named_ascend}}
 
 pub record IsContent (root : StorageRoot) (p : Place) (ns : List Named) : Type 0 where
-  pub lines : (u : Option ℕ) → notes root u p ≡ content_notes root p ns u (seen root p)
+  pub lines : (u : Option ℕ) → notes None root u p ≡ content_notes root p ns u (seen root p)
   pub digests : named_at root p ≡ ns
   pub ascend : IsAscending named_cmp ns
+  pub head : is_head (zone root p) ≡ false
+  pub version : version_inventory root p ≡ None
 
 pub not_root : (root : StorageRoot) (p o q : Place) → zone root p ≡ inside o q → p ≢ []
 not_root root p o q z e = let is = zone_is root p o q z in is.below (front_of_none o (q, sym e ∙ is.whole))
@@ -32,6 +35,8 @@ content_by_table root p o v c n r t z h = record {
   lines = λ u. notes_at root u p (not_root root p o _ z) ∙ ap (notes_in root p u) z ∙ ap (λ y. object_notes root p u y (v ∷ c ∷ n ∷ r)) h;
   digests = ap (named_in root) z ∙ ap named_of h;
   ascend = let k = table_from_inventory root o t h in subst (λ x. IsAscending named_cmp (named x (v ∷ c ∷ n ∷ r))) (sym k.1) (named_ascend k.0 _);
+  head = ap is_head z;
+  version = no_version root p _ z refl;
 }
   where
     named_of : Option Table → List Named
@@ -64,12 +69,12 @@ pub record IsHashedFile (root : StorageRoot) (p : Place) : Type 0 where
   pub bytes : Text
   pub is_file : at root p ≡ Some (file bytes)
   pub digests : named_at root p ≢ []
-  pub lines : (u : Option ℕ) → notes root u p ≡ file_notes bytes (named_at root p) u
-  pub whole : cost root None p ≡ length bytes + 1
-  pub part : (given : ℕ) → cost root (Some given) p ≡ given + 1
+  pub lines : (u : Option ℕ) → notes None root u p ≡ file_notes bytes (named_at root p) u
+  pub whole : cost None root None p ≡ length bytes + 1
+  pub part : (given : ℕ) → cost None root (Some given) p ≡ given + 1
 
 -- what is seen is there
-there : (root : StorageRoot) (p : Place) (leaf : Leaf) → seen root p ≡ Some leaf → at root p ≡ Some leaf
+pub there : (root : StorageRoot) (p : Place) (leaf : Leaf) → seen root p ≡ Some leaf → at root p ≡ Some leaf
 there root p leaf h = by (list_all (is_entered root) (beginnings p)) h
   where
     by : (b : Bool) → cond b (at root p) None ≡ Some leaf → at root p ≡ Some leaf
@@ -111,7 +116,7 @@ named_content root p some = by (zone root p) refl some
         go None e l = absurd (l refl)
         go (Some t) e l = in_table o q t z e l
 
-pub hashed_file : (root : StorageRoot) (p : Place) → is_hashed root p ≡ true → IsHashedFile root p
+pub hashed_file : (root : StorageRoot) (p : Place) → is_hashed None root p ≡ true → IsHashedFile root p
 hashed_file root p h =
     let r = read_file (named_at root p) (seen root p) h in
     let c = named_content root p r.some in
@@ -124,11 +129,21 @@ hashed_file root p h =
       part = r.part;
     }
 
-pub unhashed_cost : (root : StorageRoot) (p : Place) → is_hashed root p ≡ false → cost root None p ≡ 0
-unhashed_cost root p h = by (cost root None p) h
+abbrev path_in : Zone → Place
+path_in skipped = []
+path_in hierarchy = []
+path_in (inside o q) = q
+
+-- no digest is named for a place of fewer than three names more
+pub named_short : (root : StorageRoot) (e o q : Place) → zone root e ≡ inside o q → length q ≤ 2 → named_at root e ≡ []
+named_short root e o q z short = by (named_at root e) refl
   where
-    by : (n : ℕ) → nat_lt 0 n ≡ false → n ≡ 0
-    by n e = let small : n ≤ 0 = ltb-false 0 n e in omega (arith, small)
+    by : (ns : List Named) → named_at root e ≡ ns → named_at root e ≡ []
+    by [] h = h
+    by (n ∷ ns) h =
+        let k = named_path root e (λ g. cc) in
+        let long : length q ≡ length (k.version ∷ k.content ∷ k.name ∷ k.rest) = ap (λ x. length (path_in x)) (sym z ∙ k.lies) in
+        absurd (omega (arith, long, short))
 
 -- ---- what is known by sight
 

@@ -1,8 +1,8 @@
 -- What reading an object's inventory, and its head, did.
-use Rattle.std.proofs.Common.{◌≡◌, ◌≢◌, ℕ, List, [], ◌∷◌, ◌++◌, refl, sym, ◌∙◌, ap, subst, true, false, Bool, Option, Some, None, arith, length}
+use Rattle.std.proofs.Common.{◌≡◌, ◌≢◌, ℕ, List, [], ◌∷◌, ◌++◌, refl, sym, ◌∙◌, ap, subst, true, false, Bool, Option, Some, None, arith, length, append-nil}
 use Rattle.std.proofs.{lemmas.Bool.{le-leb, lt-leb}, lemmas.Map.Made.{AllPairs-from_IsDistinct}}
 use Rattle.std.specs.List.{IsDistinct, list_all}
-use Rattle.std.specs.Prelude.{cond, IfOk, ◌||◌, not, nat_le, AllPairs, Result, Ok, Err, Vec, option_and_then}
+use Rattle.std.specs.Prelude.{cond, IfOk, ◌||◌, not, nat_le, AllPairs, Result, Ok, Err, Vec, option_and_then, option_map}
 use Rattle.std.specs.declared.alloc.Global.{Global}
 use Rattle.ocfl_tree.proofs.Places.{text_eq-Decides}
 use Rattle.ocfl_tree.specs.{Place.{Text, Place, text_eq}, StorageRoot.{StorageRoot, file_at}}
@@ -20,7 +20,11 @@ use Rattle.ocfl_digest.specs.declared.bounded.Bounded.TheVariants as bounded
 use Rattle.ocfl_inventory.specs.declared.declaration.Level.TheVariants as level
 use Rattle.ocfl_rules.specs.Zone.{skipped, hierarchy, inside, zone, root_declared, object_declared, inventory_name, inventory_limit, table_at, is_known}
 use Rattle.ocfl_rules.specs.Head.{on, or_clean, is_exact_declaration, sidecar_name, sidecars_notes, inventory_part, inventory_file_notes, head_notes_by}
-use Rattle.ocfl_rules.specs.{Lines.{notes, notes_in}, Trail.{is_meta, is_object_meta}}
+use Rattle.ocfl_rules.specs.declared.further.NewCodes.{NewCodes}
+use Rattle.ocfl_rules.specs.Inventories.{Further, notes, RootInventory, head_notes, root_inventory, root_inventory_of, root_inventory_notes, version_notes}
+use Rattle.ocfl_rules.specs.Lines.{notes_in}
+use Rattle.ocfl_rules.specs.Trail.{is_meta, is_object_meta}
+use Rattle.ocfl_rules.proofs.PathLaws.{notes_at}
 use Rattle.ocfl_item.specs.{Internal.Lines.{Adds, HasLines}, Ways.{IsObject}}
 use Rattle.ocfl_item.specs.Internal.Ways.{ReadsTable, IsDeclared, IsHeadOf, IsListedObject}
 use Rattle.ocfl_item.specs.HeadFiles.{OpensJust, ReadsFiles, FilesStop}
@@ -28,9 +32,9 @@ use Rattle.ocfl_item.specs.Internal.HeadFiles.{IsFileAt, ReadsFile, ReadsSome, h
 use Rattle.ocfl_item.specs.{declared.fault.Fault.{Fault}, declared.lines.PlaceLines.{PlaceLines}}
 use Rattle.ocfl_item.specs.declared.fault.Fault.TheVariants as fault
 use Rattle.ocfl_item.proofs.HeadTrails.{inventory_alone, inventory_opened}
-use Rattle.ocfl_item.proofs.LinesLaws.{adds_both, has_more}
+use Rattle.ocfl_item.specs.Root.{root_at, root_by, root_in, root_notes_if}
+use Rattle.ocfl_item.proofs.{CommonLaws.{no_version}, LinesLaws.{adds_both, has_more}}
 use Rattle.ocfl_item.proofs.FileLaws.{file_is_meta, files_then, some_of, some_more, stop_more, stop_then, memory_after, some_is_meta, stop_is_meta}
-use Rattle.ocfl_rules.proofs.PathLaws.{notes_at}
 
 -- ---- the table
 
@@ -54,13 +58,14 @@ module _ (root : StorageRoot) (o : Place) (es : List Entry) (h : IsObject root o
   one_apart : AllPairs (λ n m. n ≢ m) (inventory_name ∷ [])
   one_apart i j d l k = absurd (omega (arith, l, k))
 
-  pub table_read_from : (s t : Store) (r : Result (Option Table) Fault) → OpensJust root s t o (inventory_name ∷ []) r → IfOk r (λ table. table ≡ table_at root o) → ReadsTable root s t o r
+module _ (further : Further) (root : StorageRoot) (o : Place) (es : List Entry) (h : IsObject root o es) where
+  pub table_read_from : (s t : Store) (r : Result (Option Table) Fault) → OpensJust further root s t o (inventory_name ∷ []) r → IfOk r (λ table. table ≡ table_at root o) → ReadsTable further root s t o r
   table_read_from s t (Ok table) k is =
-      let some = some_of root o s t (inventory_name ∷ []) k in
+      let some = some_of further root o s t (inventory_name ∷ []) k in
       record {
         gives = (
           record {
-            reads = some_is_meta root o h.zone (inventory_name ∷ []) refl one_apart s t some;
+            reads = some_is_meta further root o h.zone (inventory_name ∷ []) refl (one_apart root o es h) s t some;
             heads =
                 inventory_opened root o h.zone some.trail h.known some.opened;
           },
@@ -70,48 +75,24 @@ module _ (root : StorageRoot) (o : Place) (es : List Entry) (h : IsObject root o
       }
   table_read_from s t (Err why) k is = record {
     gives = (
-      record { stops = stop_is_meta root o h.zone (inventory_name ∷ []) refl one_apart s t why k; heads = inventory_opened root o h.zone k.trail h.known k.opened },
+      record { stops = stop_is_meta further root o h.zone (inventory_name ∷ []) refl (one_apart root o es h) s t why k; heads = inventory_opened root o h.zone k.trail h.known k.opened },
       inventory_alone root o h.zone k.trail k.opened,
     );
   }
 
   pub table_whole : (s t : Store) (v : Vec ℕ Global) (table : Option Table) (bytes : Text)
-      → ReadsFile root s t o inventory_name inventory_limit (Ok (Some (bounded.Whole v))) → bytes ≡ v.items → table ≡ table_of bytes → table ≡ table_at root o
-  table_whole s t v table bytes k same e = e ∙ ap table_of same ∙ sym (table_is_given (Some (bounded.Whole v)) k.gives.1)
+      → ReadsFile further root s t o inventory_name inventory_limit (Ok (Some (bounded.Whole v))) → bytes ≡ v.items → table ≡ table_of bytes → table ≡ table_at root o
+  table_whole s t v table bytes k same e = e ∙ ap table_of same ∙ sym (table_is_given root o es h (Some (bounded.Whole v)) k.gives.1)
 
-  pub table_over : (s t : Store) → ReadsFile root s t o inventory_name inventory_limit (Ok (Some bounded.Over)) → None ≡ table_at root o
-  table_over s t k = sym (table_is_given (Some bounded.Over) k.gives.1)
+  pub table_over : (s t : Store) → ReadsFile further root s t o inventory_name inventory_limit (Ok (Some bounded.Over)) → None ≡ table_at root o
+  table_over s t k = sym (table_is_given root o es h (Some bounded.Over) k.gives.1)
 
-  pub table_absent : (s t : Store) → ReadsFile root s t o inventory_name inventory_limit (Ok None) → None ≡ table_at root o
-  table_absent s t k = sym (table_is_given None k.gives.1)
+  pub table_absent : (s t : Store) → ReadsFile further root s t o inventory_name inventory_limit (Ok None) → None ≡ table_at root o
+  table_absent s t k = sym (table_is_given root o es h None k.gives.1)
 
 -- ---- one file after the other
 
 module _ (root : StorageRoot) (o : Place) where
-  pub over_file : (s t : Store) (n : Text) (limit : ℕ) (f : Option Bounded) → ReadsFile root s t o n limit (Ok f) → t.tree ≡ root
-  over_file s t n limit f h = h.gives.0.did.tree ∙ h.gives.0.over
-
-  pub first_stops : (s t : Store) (n : Text) (ns : List Text) (limit : ℕ) (why : Fault) → ReadsFile root s t o n limit (Err why) → FilesStop root s t o (n ∷ ns) why
-  first_stops s t n ns limit why h = stop_more root o s t (n ∷ []) ns why h.gives
-
-  pub later_stops : (s t u : Store) (n : Text) (ns : List Text) (limit : ℕ) (f : Option Bounded) (why : Fault) → ReadsFile root s t o n limit (Ok f)
-      → FilesStop root t u o ns why → FilesStop root s u o (n ∷ ns) why
-  later_stops s t u n ns limit f why h k = stop_then root o s t u (n ∷ []) ns why h.gives.0 k
-
-  pub second_stops : (s t u : Store) (n m : Text) (limit : ℕ) (f : Option Bounded) (why : Fault) → ReadsFile root s t o n limit (Ok f)
-      → ReadsFile root t u o m limit (Err why) → FilesStop root s u o (n ∷ m ∷ []) why
-  second_stops s t u n m limit f why h k = later_stops s t u n (m ∷ []) limit f why h k.gives
-
-  pub both_read : (s t u : Store) (n m : Text) (limit : ℕ) (f g : Option Bounded) → ReadsFile root s t o n limit (Ok f) → ReadsFile root t u o m limit (Ok g)
-      → ReadsFiles root s u o (n ∷ m ∷ []) × IsFileAt root (o ++ n ∷ []) limit f × IsFileAt root (o ++ m ∷ []) limit g
-  both_read s t u n m limit f g h k = (files_then root o s t u (n ∷ []) (m ∷ []) h.gives.0 k.gives.0, h.gives.1, k.gives.1)
-
-  pub first_some : (s t : Store) (n : Text) (ns : List Text) (limit : ℕ) (f : Option Bounded) → ReadsFile root s t o n limit (Ok f) → ReadsSome root s t o (n ∷ ns)
-  first_some s t n ns limit f h = some_more root o s t (n ∷ []) ns (some_of root o s t (n ∷ []) h.gives.0)
-
-  pub first_memory : (s t : Store) (n : Text) (ns : List Text) (limit : ℕ) (f : Option Bounded) → ReadsFile root s t o n limit (Ok f) → FilesStop root s t o (n ∷ ns) fault.Memory
-  first_memory s t n ns limit f h = memory_after root o s t (n ∷ ns) (first_some s t n ns limit f h)
-
   -- ---- the table of an inventory
 
   pub no_inventory_table : file_at root (o ++ inventory_name ∷ []) ≡ None → None ≡ table_in (file_at root (o ++ inventory_name ∷ []))
@@ -125,6 +106,21 @@ module _ (root : StorageRoot) (o : Place) where
       → table ≡ table_in (file_at root (o ++ inventory_name ∷ []))
   inventory_table v bytes table is same h =
       h ∙ ap table_of (same ∙ is.2.0) ∙ sym (ap table_in is.1 ∙ ap (λ b. cond b (table_of is.0) None) (le-leb (length is.0) inventory_limit is.2.1))
+
+  -- ---- what it is
+
+  pub no_inventory_root : (further : Further) → file_at root (o ++ inventory_name ∷ []) ≡ None → None ≡ root_in further (file_at root (o ++ inventory_name ∷ []))
+  no_inventory_root further none = sym (ap (root_in further) none)
+
+  pub long_inventory_root : (further : Further) → IsFileAt root (o ++ inventory_name ∷ []) inventory_limit (Some bounded.Over) → None ≡ root_in further (file_at root (o ++ inventory_name ∷ []))
+  long_inventory_root further is = sym (ap (root_in further) is.1 ∙ ap (λ b. cond b (root_by further is.0 (table_of is.0)) None) (lt-leb (length is.0) inventory_limit is.2))
+
+  pub inventory_root : (further : Further) (v : Vec ℕ Global) (bytes : Text) (r : Option RootInventory)
+      → IsFileAt root (o ++ inventory_name ∷ []) inventory_limit (Some (bounded.Whole v)) → bytes ≡ v.items → r ≡ root_by further bytes (table_of bytes)
+      → r ≡ root_in further (file_at root (o ++ inventory_name ∷ []))
+  inventory_root further v bytes r is same h =
+      h ∙ ap (λ b. root_by further b (table_of b)) (same ∙ is.2.0)
+      ∙ sym (ap (root_in further) is.1 ∙ ap (λ b. cond b (root_by further is.0 (table_of is.0)) None) (le-leb (length is.0) inventory_limit is.2.1))
 
   -- ---- the lines about an inventory
 
@@ -148,6 +144,31 @@ module _ (root : StorageRoot) (o : Place) where
       subst (λ f. Adds old new (inventory_file_notes root o f)) (sym is.1)
       (subst (λ b. Adds old new (cond b (sidecars_notes root o is.0 ++ inventory_part root o is.0 (algorithm_of is.0)) (plain S02 ∷ []))) (sym (le-leb (length is.0) inventory_limit is.2.1)) k)
 
+module _ (further : Further) (root : StorageRoot) (o : Place) where
+  pub over_file : (s t : Store) (n : Text) (limit : ℕ) (f : Option Bounded) → ReadsFile further root s t o n limit (Ok f) → t.tree ≡ root
+  over_file s t n limit f h = h.gives.0.did.tree ∙ h.gives.0.over
+
+  pub first_stops : (s t : Store) (n : Text) (ns : List Text) (limit : ℕ) (why : Fault) → ReadsFile further root s t o n limit (Err why) → FilesStop further root s t o (n ∷ ns) why
+  first_stops s t n ns limit why h = stop_more further root o s t (n ∷ []) ns why h.gives
+
+  pub later_stops : (s t u : Store) (n : Text) (ns : List Text) (limit : ℕ) (f : Option Bounded) (why : Fault) → ReadsFile further root s t o n limit (Ok f)
+      → FilesStop further root t u o ns why → FilesStop further root s u o (n ∷ ns) why
+  later_stops s t u n ns limit f why h k = stop_then further root o s t u (n ∷ []) ns why h.gives.0 k
+
+  pub second_stops : (s t u : Store) (n m : Text) (limit : ℕ) (f : Option Bounded) (why : Fault) → ReadsFile further root s t o n limit (Ok f)
+      → ReadsFile further root t u o m limit (Err why) → FilesStop further root s u o (n ∷ m ∷ []) why
+  second_stops s t u n m limit f why h k = later_stops s t u n (m ∷ []) limit f why h k.gives
+
+  pub both_read : (s t u : Store) (n m : Text) (limit : ℕ) (f g : Option Bounded) → ReadsFile further root s t o n limit (Ok f) → ReadsFile further root t u o m limit (Ok g)
+      → ReadsFiles further root s u o (n ∷ m ∷ []) × IsFileAt root (o ++ n ∷ []) limit f × IsFileAt root (o ++ m ∷ []) limit g
+  both_read s t u n m limit f g h k = (files_then further root o s t u (n ∷ []) (m ∷ []) h.gives.0 k.gives.0, h.gives.1, k.gives.1)
+
+  pub first_some : (s t : Store) (n : Text) (ns : List Text) (limit : ℕ) (f : Option Bounded) → ReadsFile further root s t o n limit (Ok f) → ReadsSome further root s t o (n ∷ ns)
+  first_some s t n ns limit f h = some_more further root o s t (n ∷ []) ns (some_of further root o s t (n ∷ []) h.gives.0)
+
+  pub first_memory : (s t : Store) (n : Text) (ns : List Text) (limit : ℕ) (f : Option Bounded) → ReadsFile further root s t o n limit (Ok f) → FilesStop further root s t o (n ∷ ns) fault.Memory
+  first_memory s t n ns limit f h = memory_after further root o s t (n ∷ ns) (first_some s t n ns limit f h)
+
 -- ---- the head
 
 pub inside_not_root : (root : StorageRoot) (o q : Place) → zone root [] ≡ inside o q → ⊥
@@ -157,8 +178,16 @@ inside_not_root root o q z = by (not (is_known (root_declared root))) z
     by true e = cc
     by false e = cc
 
-pub head_notes_are : (root : StorageRoot) (o : Place) → zone root o ≡ inside o [] → notes root None o ≡ head_notes_by root o (object_declared root o)
+pub head_notes_are : (root : StorageRoot) (o : Place) → zone root o ≡ inside o [] → notes None root None o ≡ head_notes_by root o (object_declared root o)
 head_notes_are root o z = notes_at root None o (λ e. inside_not_root root o [] (ap (zone root) (sym e) ∙ z)) ∙ ap (notes_in root o None) z
+
+-- and with the note on the root inventory
+all_head_notes : (further : Further) (root : StorageRoot) (o : Place) → zone root o ≡ inside o []
+    → notes further root None o ≡ head_notes_by root o (object_declared root o) ++ root_notes_if further (root_at further root o)
+all_head_notes None root o z = head_notes_are root o z ∙ sym (append-nil _)
+all_head_notes (Some k) root o z =
+    (λ i. head_notes_are root o z i ++ (head_notes k root (z i) ++ version_notes k root None (no_version root o _ z refl i)))
+    ∙ ap (λ ns. head_notes_by root o (object_declared root o) ++ ns) (append-nil (root_inventory_notes k (root_inventory root o)))
 
 names_distinct : (v : Version) → IsDistinct text_eq (head_names v)
 unfolding IsDistinct
@@ -218,28 +247,66 @@ declaration_is_meta V1_0 = refl
 declaration_is_meta V1_1 = refl
 
 -- a file of an object was read, by a name that is the same
-pub reads_as : (root : StorageRoot) (o : Place) (es : List Entry) (s t : Store) (n m : Text) (limit : ℕ) (r : Result (Option Bounded) Fault) → n ≡ m → is_object_meta (m ∷ []) ≡ true
-    → IsListedObject root o es → (IsListing root o es → is_meta root (o ++ n ∷ []) ≡ true → ReadsFile root s t o n limit r) → ReadsFile root s t o m limit r
-reads_as root o es s t n m limit r e meta here read =
-    subst (λ x. ReadsFile root s t o x limit r) e (read here.listing (file_is_meta root o n here.zone (ap (λ x. is_object_meta (x ∷ [])) e ∙ meta)))
+pub reads_as : (further : Further) (root : StorageRoot) (o : Place) (es : List Entry) (s t : Store) (n m : Text) (limit : ℕ) (r : Result (Option Bounded) Fault) → n ≡ m → is_object_meta (m ∷ []) ≡ true
+    → IsListedObject root o es → (IsListing root o es → is_meta further root (o ++ n ∷ []) ≡ true → ReadsFile further root s t o n limit r) → ReadsFile further root s t o m limit r
+reads_as further root o es s t n m limit r e meta here read =
+    subst (λ x. ReadsFile further root s t o x limit r) e (read here.listing (file_is_meta further root o n here.zone (ap (λ x. is_object_meta (x ∷ [])) e ∙ meta)))
 
-module _ (root : StorageRoot) (o : Place) (z : zone root o ≡ inside o []) (v : Version) where
-  pub known_lines : (none a b c : PlaceLines) → object_declared root o ≡ known v → HasLines none []
+module _ (further : Further) (root : StorageRoot) (o : Place) (z : zone root o ≡ inside o []) (v : Version) where
+  pub known_lines : (none a b c d : PlaceLines) (r : Option RootInventory) → object_declared root o ≡ known v → HasLines none []
       → Adds none a (on (not (is_exact_declaration root o level.Object v)) (plain E007)) → Adds a b (inventory_file_notes root o (file_at root (o ++ inventory_name ∷ [])))
-      → ((ns : List Note) → HasLines b ns → HasLines c (or_clean ns)) → HasLines c (notes root None o)
-  known_lines none a b c is has h k clean =
-      clean (on (not (is_exact_declaration root o level.Object v)) (plain E007) ++ inventory_file_notes root o (file_at root (o ++ inventory_name ∷ [])))
-      (has_more none b [] _ has (adds_both none a b _ _ h k))
-      ∙ sym (head_notes_are root o z ∙ ap (head_notes_by root o) is)
+      → ((ns : List Note) → HasLines b ns → HasLines c (or_clean ns)) → Adds c d (root_notes_if further r) → r ≡ root_at further root o → HasLines d (notes further root None o)
+  known_lines none a b c d r is has h k clean l same =
+      let lines = clean (on (not (is_exact_declaration root o level.Object v)) (plain E007) ++ inventory_file_notes root o (file_at root (o ++ inventory_name ∷ [])))
+      (has_more none b [] _ has (adds_both none a b _ _ h k)) in
+      has_more c d _ _ lines l
+      ∙ sym (all_head_notes further root o z ∙ (λ i. head_notes_by root o (is i) ++ root_notes_if further (sym same i)))
 
 pub known_table : (root : StorageRoot) (o : Place) (v : Version) (table : Option Table) → object_declared root o ≡ known v
     → table ≡ table_in (file_at root (o ++ inventory_name ∷ [])) → table ≡ table_at root o
 known_table root o v table same given = given ∙ sym (ap (λ d. table_in (cond (is_known d) (file_at root (o ++ inventory_name ∷ [])) None)) same)
 
-pub stopped_head : (root : StorageRoot) (o : Place) (es : List Entry) (m : MadeDeclared) (lines : PlaceLines) → IsDeclared root o es m
+-- the root inventory, by the file
+abbrev root_of_file : Option Text → Option RootInventory
+root_of_file file = option_and_then (λ bytes. option_map (root_inventory_of bytes) (table_in file)) file
+
+root_by_file : (k : NewCodes) (file : Option Text) → root_of_file file ≡ root_in (Some k) file
+root_by_file k None = refl
+root_by_file k (Some bytes) = by (nat_le (length bytes) inventory_limit)
+  where
+    by : (b : Bool) → option_map (root_inventory_of bytes) (cond b (table_of bytes) None) ≡ cond b (option_map (root_inventory_of bytes) (table_of bytes)) None
+    by true = refl
+    by false = refl
+
+none_asked : (file : Option Text) → root_in None file ≡ None
+none_asked None = refl
+none_asked (Some bytes) = by (nat_le (length bytes) inventory_limit)
+  where
+    by : (b : Bool) → ◌≡◌ {A = Option RootInventory} (cond b None None) None
+    by true = refl
+    by false = refl
+
+pub known_root : (further : Further) (root : StorageRoot) (o : Place) (v : Version) (r : Option RootInventory) → object_declared root o ≡ known v
+    → r ≡ root_in further (file_at root (o ++ inventory_name ∷ [])) → r ≡ root_at further root o
+known_root None root o v r same given = given ∙ none_asked (file_at root (o ++ inventory_name ∷ []))
+known_root (Some k) root o v r same given =
+    given ∙ sym (ap (λ d. root_of_file (cond (is_known d) (file_at root (o ++ inventory_name ∷ [])) None)) same ∙ root_by_file k (file_at root (o ++ inventory_name ∷ [])))
+
+stopped_root : (further : Further) (root : StorageRoot) (o : Place) → is_known (object_declared root o) ≡ false → None ≡ root_at further root o
+stopped_root None root o stops = refl
+stopped_root (Some k) root o stops = sym (ap (λ b. root_of_file (cond b (file_at root (o ++ inventory_name ∷ [])) None)) stops)
+
+pub stopped_head : (further : Further) (root : StorageRoot) (o : Place) (es : List Entry) (m : MadeDeclared) (lines : PlaceLines) → IsDeclared root o es m
     → is_known (meaning level.Object es m) ≡ false → HasLines lines (head_notes_by root o (meaning level.Object es m))
-    → IsHeadOf root o (lines, None)
-stopped_head root o es m lines h stops k = (
-  k ∙ sym (head_notes_are root o h.zone ∙ ap (head_notes_by root o) (sym h.says)),
-  sym (ap (λ b. table_in (cond b (file_at root (o ++ inventory_name ∷ [])) None)) (ap is_known (sym h.says) ∙ stops)),
-)
+    → IsHeadOf further root o (lines, None, None)
+stopped_head further root o es m lines h stops k =
+    let unknown : is_known (object_declared root o) ≡ false = ap is_known (sym h.says) ∙ stops in
+    let none = stopped_root further root o unknown in (
+      k ∙ sym (all_head_notes further root o h.zone ∙ (λ i. head_notes_by root o (sym h.says i) ++ root_notes_if further (sym none i)) ∙ noteless further _),
+      sym (ap (λ b. table_in (cond b (file_at root (o ++ inventory_name ∷ [])) None)) unknown),
+      none,
+    )
+  where
+    noteless : (further : Further) (ns : List Note) → ns ++ root_notes_if further None ≡ ns
+    noteless None ns = append-nil ns
+    noteless (Some c) ns = append-nil ns

@@ -14,6 +14,7 @@ use Rattle.ocfl_inventory.specs.declared.declaration.Declared.{Declared as MadeD
 use Rattle.ocfl_inventory.specs.declared.declaration.Version.{Version}
 use Rattle.ocfl_inventory.specs.declared.declaration.Declared.TheVariants as made
 use Rattle.ocfl_inventory.specs.declared.declaration.Level.TheVariants as level
+use Rattle.ocfl_rules.specs.Inventories.{Further}
 use Rattle.ocfl_rules.specs.Head.{sidecar_name}
 use Rattle.ocfl_rules.specs.Zone.{inventory_name, inventory_limit, object_declared, is_known}
 use Rattle.ocfl_item.specs.HeadFiles.{FilesStop, ReadsFiles, files_there}
@@ -44,22 +45,6 @@ module _ (root : StorageRoot) (o : Place) where
   pub sidecars_within : (v : Vec ℕ Global) → IsFileAt root (o ++ inventory_name ∷ []) inventory_limit (Some (bounded.Whole v)) → sidecars_for (file_at root (o ++ inventory_name ∷ [])) ≡ both
   sidecars_within v is = ap sidecars_for is.1 ∙ ap (λ b. cond b both []) (le-leb (length is.0) inventory_limit is.2.1)
 
-  -- ---- what is read about an inventory
-
-  pub inventory_alone : (s t : Store) → sidecars_for (file_at root (o ++ inventory_name ∷ [])) ≡ [] → ReadsFiles root s t o (inventory_name ∷ []) → ReadsFiles root s t o (inventory_files root o)
-  inventory_alone s t e h = subst (λ ns. ReadsFiles root s t o (inventory_name ∷ ns)) (sym e) h
-
-  pub with_sidecars : (s t u : Store) (f : Option Bounded) → sidecars_for (file_at root (o ++ inventory_name ∷ [])) ≡ both
-      → ReadsFile root s t o inventory_name inventory_limit (Ok f) → ReadsFiles root t u o both → ReadsFiles root s u o (inventory_files root o)
-  with_sidecars s t u f e h k = subst (λ ns. ReadsFiles root s u o (inventory_name ∷ ns)) (sym e) (files_then root o s t u (inventory_name ∷ []) both h.gives.0 k)
-
-  pub sidecars_stop : (s t u : Store) (f : Option Bounded) (why : Fault) → sidecars_for (file_at root (o ++ inventory_name ∷ [])) ≡ both
-      → ReadsFile root s t o inventory_name inventory_limit (Ok f) → FilesStop root t u o both why → FilesStop root s u o (inventory_files root o) why
-  sidecars_stop s t u f why e h k = subst (λ ns. FilesStop root s u o (inventory_name ∷ ns) why) (sym e) (later_stops root o s t u inventory_name both inventory_limit f why h k)
-
-  pub one_memory : (s t : Store) (n : Text) (limit : ℕ) (f : Option Bounded) → ReadsFile root s t o n limit (Ok f) → FilesStop root s t o (n ∷ []) fault.Memory
-  one_memory s t n limit f h = memory_after root o s t (n ∷ []) (some_of root o s t (n ∷ []) h.gives.0)
-
   -- ---- nothing
 
   no_head_files : (d : Declared) → is_known d ≡ false → head_files root o d ≡ []
@@ -68,13 +53,30 @@ module _ (root : StorageRoot) (o : Place) where
   no_head_files (unknown t) h = refl
   no_head_files several h = refl
 
+module _ (further : Further) (root : StorageRoot) (o : Place) where
+  -- ---- what is read about an inventory
+
+  pub inventory_alone : (s t : Store) → sidecars_for (file_at root (o ++ inventory_name ∷ [])) ≡ [] → ReadsFiles further root s t o (inventory_name ∷ []) → ReadsFiles further root s t o (inventory_files root o)
+  inventory_alone s t e h = subst (λ ns. ReadsFiles further root s t o (inventory_name ∷ ns)) (sym e) h
+
+  pub with_sidecars : (s t u : Store) (f : Option Bounded) → sidecars_for (file_at root (o ++ inventory_name ∷ [])) ≡ both
+      → ReadsFile further root s t o inventory_name inventory_limit (Ok f) → ReadsFiles further root t u o both → ReadsFiles further root s u o (inventory_files root o)
+  with_sidecars s t u f e h k = subst (λ ns. ReadsFiles further root s u o (inventory_name ∷ ns)) (sym e) (files_then further root o s t u (inventory_name ∷ []) both h.gives.0 k)
+
+  pub sidecars_stop : (s t u : Store) (f : Option Bounded) (why : Fault) → sidecars_for (file_at root (o ++ inventory_name ∷ [])) ≡ both
+      → ReadsFile further root s t o inventory_name inventory_limit (Ok f) → FilesStop further root t u o both why → FilesStop further root s u o (inventory_files root o) why
+  sidecars_stop s t u f why e h k = subst (λ ns. FilesStop further root s u o (inventory_name ∷ ns) why) (sym e) (later_stops further root o s t u inventory_name both inventory_limit f why h k)
+
+  pub one_memory : (s t : Store) (n : Text) (limit : ℕ) (f : Option Bounded) → ReadsFile further root s t o n limit (Ok f) → FilesStop further root s t o (n ∷ []) fault.Memory
+  one_memory s t n limit f h = memory_after further root o s t (n ∷ []) (some_of further root o s t (n ∷ []) h.gives.0)
+
   pub stop_opens_none : (es : List Entry) (m : MadeDeclared) (s : Store) → s.tree ≡ root → IsDeclared root o es m → is_known (meaning level.Object es m) ≡ false
-      → ReadsFiles root s s o (head_files root o (object_declared root o))
+      → ReadsFiles further root s s o (head_files root o (object_declared root o))
   stop_opens_none es m s over h stops =
-      subst (ReadsFiles root s s o) (sym (ap (head_files root o) (sym h.says) ∙ no_head_files (meaning level.Object es m) stops))
+      subst (ReadsFiles further root s s o) (sym (ap (head_files root o) (sym h.says) ∙ no_head_files root o (meaning level.Object es m) stops))
       (record { over = over; trail = []; did = did_nothing s; read = refl; opened = refl })
 
-  pub none_memory : (s : Store) (ns : List Text) → s.tree ≡ root → FilesStop root s s o ns fault.Memory
+  pub none_memory : (s : Store) (ns : List Text) → s.tree ≡ root → FilesStop further root s s o ns fault.Memory
   none_memory s ns over = record {
     trail = [];
     stops = record { goes = record { over = over; listings = []; did = did_nothing s; read = λ e. refl; listed = ([], refl) }; store = λ q e. absurd (memory_no_store q e) };
@@ -90,19 +92,20 @@ module _ (root : StorageRoot) (o : Place) (es : List Entry) (m : MadeDeclared) (
   names_are : head_files root o (known v) ≡ head_files root o (object_declared root o)
   names_are = ap (head_files root o) (sym declared_known)
 
-  pub declaration_stops : (s t : Store) (why : Fault) → FilesStop root s t o (declaration_name level.Object v ∷ []) why → FilesStop root s t o (head_files root o (object_declared root o)) why
-  declaration_stops s t why h = subst (λ ns. FilesStop root s t o ns why) names_are (stop_more root o s t (declaration_name level.Object v ∷ []) (inventory_files root o) why h)
+module _ (further : Further) (root : StorageRoot) (o : Place) (es : List Entry) (m : MadeDeclared) (v : Version) (is : m ≡ made.One v) (here : IsDeclared root o es m) where
+  pub declaration_stops : (s t : Store) (why : Fault) → FilesStop further root s t o (declaration_name level.Object v ∷ []) why → FilesStop further root s t o (head_files root o (object_declared root o)) why
+  declaration_stops s t why h = subst (λ ns. FilesStop further root s t o ns why) (names_are root o es m v is here) (stop_more further root o s t (declaration_name level.Object v ∷ []) (inventory_files root o) why h)
 
-  pub inventory_stops : (s t u : Store) (why : Fault) → ReadsFiles root s t o (declaration_name level.Object v ∷ [])
-      → FilesStop root t u o (inventory_files root o) why → FilesStop root s u o (head_files root o (object_declared root o)) why
-  inventory_stops s t u why h k = subst (λ ns. FilesStop root s u o ns why) names_are (stop_then root o s t u (declaration_name level.Object v ∷ []) (inventory_files root o) why h k)
+  pub inventory_stops : (s t u : Store) (why : Fault) → ReadsFiles further root s t o (declaration_name level.Object v ∷ [])
+      → FilesStop further root t u o (inventory_files root o) why → FilesStop further root s u o (head_files root o (object_declared root o)) why
+  inventory_stops s t u why h k = subst (λ ns. FilesStop further root s u o ns why) (names_are root o es m v is here) (stop_then further root o s t u (declaration_name level.Object v ∷ []) (inventory_files root o) why h k)
 
-  pub head_opened : (s t u : Store) → ReadsFiles root s t o (declaration_name level.Object v ∷ [])
-      → ReadsFiles root t u o (inventory_files root o) → ReadsFiles root s u o (head_files root o (object_declared root o))
-  head_opened s t u h k = subst (ReadsFiles root s u o) names_are (files_then root o s t u (declaration_name level.Object v ∷ []) (inventory_files root o) h k)
+  pub head_opened : (s t u : Store) → ReadsFiles further root s t o (declaration_name level.Object v ∷ [])
+      → ReadsFiles further root t u o (inventory_files root o) → ReadsFiles further root s u o (head_files root o (object_declared root o))
+  head_opened s t u h k = subst (ReadsFiles further root s u o) (names_are root o es m v is here) (files_then further root o s t u (declaration_name level.Object v ∷ []) (inventory_files root o) h k)
 
-  pub head_memory : (s t u : Store) → ReadsFiles root s t o (declaration_name level.Object v ∷ [])
-      → ReadsFiles root t u o (inventory_files root o) → FilesStop root s u o (head_files root o (object_declared root o)) fault.Memory
+  pub head_memory : (s t u : Store) → ReadsFiles further root s t o (declaration_name level.Object v ∷ [])
+      → ReadsFiles further root t u o (inventory_files root o) → FilesStop further root s u o (head_files root o (object_declared root o)) fault.Memory
   head_memory s t u h k =
       let names = head_files root o (object_declared root o) in
-      memory_after root o s u names (some_of root o s u names (head_opened s t u h k))
+      memory_after further root o s u names (some_of further root o s u names (head_opened s t u h k))

@@ -12,7 +12,9 @@ mod PendingLaws
 mod LinesLaws
 mod PieceLaws
 mod DigitLaws
-mod WrongLaws
+mod ExpectedLaws
+mod CostLaws
+mod CommonLaws
 mod JudgeLaws
 mod InventoryLaws
 mod HeadLaws

@@ -3,7 +3,8 @@ use Rattle.std.proofs.Common.{◌≡◌, ◌≢◌, List, [], ◌++◌, Bool, fa
 use Rattle.std.proofs.lemmas.List.{append-nil}
 use Rattle.ocfl_tree.specs.{Place.{Place}, StorageRoot.{StorageRoot}}
 use Rattle.ocfl_inventory.specs.{Note.{Note}, Remark.{remark_view}}
-use Rattle.ocfl_rules.specs.{Head.{on}, Lines.{named_at, notes}}
+use Rattle.ocfl_rules.specs.Head.{on}
+use Rattle.ocfl_rules.specs.Inventories.{Further, notes, is_hashed}
 use Rattle.ocfl_item.specs.Internal.Lines.{Adds, HasLines, IsUnhashed}
 use Rattle.ocfl_item.specs.declared.lines.PlaceLines.{PlaceLines}
 
@@ -31,9 +32,10 @@ adds_three old one two new r ls ms ns h k l = adds_two old two new r (ls ++ ms) 
 
 -- ---- an item of lines alone
 
-pub unhashed_at : (root : StorageRoot) (l : PlaceLines) (p : Place) → l.place ≡ p → notes root None p ≢ [] → named_at root p ≡ [] → HasLines l (notes root None p) → IsUnhashed root l
-unhashed_at root l p at some unnamed are = record {
-  some = subst (λ x. notes root None x ≢ []) (sym at) some;
-  named = ap (named_at root) at ∙ unnamed;
-  lines = are ∙ ap (notes root None) (sym at);
+pub unhashed_at : (further : Further) (root : StorageRoot) (l : PlaceLines) (p : Place) → l.place ≡ p → notes further root None p ≢ [] → is_hashed further root p ≡ false
+    → HasLines l (notes further root None p) → IsUnhashed further root l
+unhashed_at further root l p at some unhashed are = record {
+  some = subst (λ x. notes further root None x ≢ []) (sym at) some;
+  unhashed = ap (is_hashed further root) at ∙ unhashed;
+  lines = are ∙ ap (notes further root None) (sym at);
 }

@@ -18,13 +18,14 @@ use Rattle.ocfl_item.specs.{declared.folder.Head.{Head}, Looking.{way_to}}
 use Rattle.ocfl_item.specs.Ways.{Stops, is_listable, Enters, IsHead, InHierarchy, IsObject, is_extensions_name, way_below}
 use Rattle.ocfl_item.specs.Internal.Ways.{fault_by, is_file_kind, IsDeclared, head_by}
 use Rattle.ocfl_item.specs.declared.folder.Head.TheVariants as head
-use Rattle.ocfl_rules.specs.Zone.{is_entered, object_declared, seen, beginnings, is_known, is_declared}
-use Rattle.ocfl_rules.specs.Lines.{cost_of, named_at, is_hashed}
+use Rattle.ocfl_rules.specs.Zone.{Zone, skipped, hierarchy, inside, zone, is_entered, object_declared, seen, beginnings, is_known, is_declared}
+use Rattle.ocfl_rules.specs.Lines.{cost_of, named_at}
+use Rattle.ocfl_rules.specs.Inventories.{Further, version_inventory_in, is_hashed}
+use Rattle.ocfl_rules.proofs.StepLaws.{all_beginnings_step}
 use Rattle.ocfl_item.specs.declared.fault.Fault.TheVariants as fault
 use Rattle.ocfl_tree.proofs.Orders.{true_not_false}
-use Rattle.ocfl_item.proofs.AuditingLaws.{failed_listing}
+use Rattle.ocfl_item.proofs.{AuditingLaws.{failed_listing}, CommonLaws.{hashed_alone}}
 use Rattle.ocfl_item.proofs.LooksZones.{listable_dir, declared_object, declared_root, hierarchy_on, object_zone_here, at_root}
-use Rattle.ocfl_rules.proofs.StepLaws.{all_beginnings_step}
 
 -- ---- one call after the other
 
@@ -40,9 +41,30 @@ cost_of_none [] u = refl
 cost_of_none (n ∷ ns) None = refl
 cost_of_none (n ∷ ns) (Some given) = refl
 
-pub dir_not_hashed : (root : StorageRoot) (d : Place) → at root d ≡ Some dir → is_hashed root d ≡ false
-dir_not_hashed root d h = ap (nat_lt 0) (by (seen root d) (seen_as _ (at root d)))
+pub dir_not_hashed : (further : Further) (root : StorageRoot) (d : Place) → at root d ≡ Some dir → is_hashed further root d ≡ false
+dir_not_hashed further root d h =
+    hashed_alone root d (no_inventory (seen root d) (seen_as _ (at root d))) further ∙ ap (nat_lt 0) (by (seen root d) (seen_as _ (at root d)))
   where
+    nothing_in : (z : Zone) → version_inventory_in z None ≡ None
+    nothing_in skipped = refl
+    nothing_in hierarchy = refl
+    nothing_in (inside o []) = refl
+    nothing_in (inside o (n ∷ [])) = refl
+    nothing_in (inside o (v ∷ n ∷ [])) = refl
+    nothing_in (inside o (v ∷ c ∷ n ∷ q)) = refl
+
+    dir_in : (z : Zone) → version_inventory_in z (Some dir) ≡ None
+    dir_in skipped = refl
+    dir_in hierarchy = refl
+    dir_in (inside o []) = refl
+    dir_in (inside o (n ∷ [])) = refl
+    dir_in (inside o (v ∷ n ∷ [])) = refl
+    dir_in (inside o (v ∷ c ∷ n ∷ q)) = refl
+
+    no_inventory : (leaf : Option Leaf) → (leaf ≡ at root d) ⊎ (leaf ≡ None) → version_inventory_in (zone root d) leaf ≡ None
+    no_inventory leaf (inl e) = ap (version_inventory_in (zone root d)) (e ∙ h) ∙ dir_in (zone root d)
+    no_inventory leaf (inr e) = ap (version_inventory_in (zone root d)) e ∙ nothing_in (zone root d)
+
     seen_as : (b : Bool) (leaf : Option Leaf) → (cond b leaf None ≡ leaf) ⊎ (cond b leaf None ≡ None)
     seen_as true leaf = inl refl
     seen_as false leaf = inr refl
@@ -57,14 +79,14 @@ store_place p q e = cc
 pub memory_no_store : (q : Place) → fault.Memory ≡ fault.Store q → ⊥
 memory_no_store q e = cc
 
-pub list_stops : (root : StorageRoot) (s t : Store) (p : Place) (trouble : Trouble) → s.tree ≡ root → is_listable root p ≡ true → ListFails s t p trouble
-    → Stops root s t (p ∷ []) [] (fault_by p trouble)
-list_stops root s t p Device over l h = record {
+pub list_stops : (further : Further) (root : StorageRoot) (s t : Store) (p : Place) (trouble : Trouble) → s.tree ≡ root → is_listable root p ≡ true → ListFails s t p trouble
+    → Stops further root s t (p ∷ []) [] (fault_by p trouble)
+list_stops further root s t p Device over l h = record {
   goes = record { over = over; listings = p ∷ []; did = h.fails.did; read = λ e. refl; listed = ([], refl) };
-  store = λ q e. (ap (is_hashed root) (sym (store_place p q e)) ∙ dir_not_hashed root p (listable_dir root p l), failed_listing root s t p q (store_place p q e) h.fails.did);
+  store = λ q e. (ap (is_hashed further root) (sym (store_place p q e)) ∙ dir_not_hashed further root p (listable_dir root p l), failed_listing further root s t p q (store_place p q e) h.fails.did);
 }
-list_stops root s t p Absent over l h = absurd (h.absent refl (ap (λ x. at x p) over ∙ listable_dir root p l))
-list_stops root s t p Memory over l h = record {
+list_stops further root s t p Absent over l h = absurd (h.absent refl (ap (λ x. at x p) over ∙ listable_dir root p l))
+list_stops further root s t p Memory over l h = record {
   goes = record { over = over; listings = []; did = h.fails.did; read = λ e. refl; listed = (p ∷ [], refl) };
   store = λ q e. absurd (memory_no_store q e);
 }

@@ -1,5 +1,5 @@
 -- The item at a place at which nothing is seen.
-use Rattle.std.proofs.Common.{◌≡◌, ◌≢◌, List, [], ◌∷◌, refl, sym, subst, ◌∙◌, ap, Option, Some, None, length, drop, map}
+use Rattle.std.proofs.Common.{◌≡◌, ◌≢◌, List, [], ◌∷◌, refl, sym, subst, ◌∙◌, ap, Option, Some, None, false, length, drop, map}
 use Rattle.std.proofs.Math.Seq.{drop-append_seam}
 use Rattle.std.specs.Prelude.{Result, Ok, Err, IfOk, IfSome}
 use Rattle.ocfl_tree.specs.Place.{Place, Text}
@@ -8,12 +8,15 @@ use Rattle.ocfl_inventory.specs.Table.{Table, Named, named}
 use Rattle.ocfl_inventory.specs.TripleView.{named_view}
 use Rattle.ocfl_inventory.specs.declared.triple.Named.{Named as MadeNamed}
 use Rattle.ocfl_rules.specs.Zone.{Zone, skipped, hierarchy, inside, zone, seen, table_at}
-use Rattle.ocfl_rules.specs.Lines.{content_notes, hierarchy_notes, named_at, named_in, notes, notes_in, object_entry_notes, object_notes, version_entry_notes, within_notes}
+use Rattle.ocfl_rules.specs.Lines.{content_notes, hierarchy_notes, named_at, named_in, notes_in, object_entry_notes, object_notes, version_entry_notes, within_notes}
+use Rattle.ocfl_rules.specs.{Inventories.{Further, notes}, Trail.{is_head}}
+use Rattle.ocfl_rules.proofs.AuditExists.{append_nothing, path_among, some_not_none, zone_is}
+use Rattle.ocfl_rules.proofs.PathLaws.{named_path, notes_at}
+use Rattle.ocfl_rules.proofs.WayLaws.{head_seen, is_closed}
 use Rattle.ocfl_item.specs.Internal.Content.{content_at, content_in}
 use Rattle.ocfl_item.specs.{Around.{IsNamedIn, IsTableAround}, declared.meeting.Around.{Around}}
 use Rattle.ocfl_item.specs.declared.pending.Pending.{Pending}
-use Rattle.ocfl_rules.proofs.AuditExists.{append_nothing, path_among, some_not_none, zone_is}
-use Rattle.ocfl_rules.proofs.{PathLaws.{named_path, notes_at}, WayLaws.{head_seen, is_closed}}
+use Rattle.ocfl_item.proofs.CommonLaws.{lines_alone, unseen_version}
 
 abbrev named_of : Place → Option Table → List Named
 named_of q None = []
@@ -61,7 +64,7 @@ module _ (root : StorageRoot) (p : Place) where
         ∙ ap (λ q. Some (a.table, q)) (sym (inner ∙ shape))
 
   -- if nothing is seen only named digests have lines
-  pub unseen_notes : seen root p ≡ None → named_at root p ≡ [] → notes root None p ≡ []
+  pub unseen_notes : seen root p ≡ None → named_at root p ≡ [] → notes None root None p ≡ []
   unseen_notes h none = notes_at root None p not_base ∙ by (zone root p) refl
     where
       not_base : p ≢ []
@@ -87,3 +90,13 @@ module _ (root : StorageRoot) (p : Place) where
       by hierarchy e = ap (notes_in root p None) e ∙ ap (hierarchy_notes root p) h
       by (inside o []) e = absurd (at_object o e)
       by (inside o (n ∷ q)) e = ap (notes_in root p None) e ∙ in_object o n q e (table_at root o) refl
+
+  -- and so it is where further inventories are checked
+  pub unseen_lines : (further : Further) → seen root p ≡ None → named_at root p ≡ [] → notes further root None p ≡ []
+  unseen_lines further h none = lines_alone root p (unseen_version root p h) further (no_head (zone root p) refl) None ∙ unseen_notes h none
+    where
+      no_head : (z : Zone) → zone root p ≡ z → is_head (zone root p) ≡ false
+      no_head skipped e = ap is_head e
+      no_head hierarchy e = ap is_head e
+      no_head (inside o []) e = absurd (some_not_none dir (sym h ∙ ap (seen root) ((zone_is root p o [] e).whole ∙ append_nothing o) ∙ head_seen root (is_closed root) p o [] e))
+      no_head (inside o (n ∷ q)) e = ap is_head e

@@ -3,7 +3,8 @@ use Rattle.std.proofs.Common.{◌≡◌, ◌+◌, ◌⊎◌, inl, inr, ◌&&◌,
 use Rattle.std.proofs.lemmas.Bool.{false≢true}
 use Rattle.ocfl_tree.specs.{Place.{Place}, Ascending.{IsAmong}, StorageRoot.{StorageRoot}}
 use Rattle.ocfl_tree.specs.{Store.{Store}, declared.store.Opening.{Opening}}
-use Rattle.ocfl_rules.specs.{Lines.{is_hashed}, Trail.{is_meta, unread_of}}
+use Rattle.ocfl_rules.specs.Inventories.{Further, is_hashed}
+use Rattle.ocfl_rules.specs.Trail.{is_meta, unread_of}
 use Rattle.ocfl_item.specs.Auditing.{Audits, Fails, FailedAt, in_listing, in_opening}
 use Rattle.ocfl_item.proofs.AuditingLaws.{audits_well}
 
@@ -20,26 +21,26 @@ second_false : (a b : Bool) → a ≡ true → (a && b) ≡ false → b ≡ fals
 second_false true b e k = k
 second_false false b e k = absurd (false≢true e)
 
-module _ (root : StorageRoot) (s t : Store) (places listed heads : List Place) (trail : List Opening) where
-  no_metadata : filter (λ o. o.failed && is_meta root o.place) trail ≡ [] → (o : Opening) → IsAmong trail o → o.failed ≡ true → is_meta root o.place ≡ false
-  no_metadata e o there failed = second_false o.failed (is_meta root o.place) failed (none_passes (λ x. x.failed && is_meta root x.place) trail e o there)
+module _ (further : Further) (root : StorageRoot) (s t : Store) (places listed heads : List Place) (trail : List Opening) where
+  no_metadata : filter (λ o. o.failed && is_meta further root o.place) trail ≡ [] → (o : Opening) → IsAmong trail o → o.failed ≡ true → is_meta further root o.place ≡ false
+  no_metadata e o there failed = second_false o.failed (is_meta further root o.place) failed (none_passes (λ x. x.failed && is_meta further root x.place) trail e o there)
 
-  pub only_content_failed : Audits root s t places listed heads trail → (s.tree ≡ root)
-      × ((t.tree ≡ root) × ((t.failed_listings ≡ s.failed_listings) × ((o : Opening) → IsAmong trail o → o.failed ≡ true → is_meta root o.place ≡ false)))
-  only_content_failed h = (h.over, (h.did.tree ∙ h.over, (audits_well root s t places listed heads trail h, no_metadata h.read)))
+  pub only_content_failed : Audits further root s t places listed heads trail → (s.tree ≡ root)
+      × ((t.tree ≡ root) × ((t.failed_listings ≡ s.failed_listings) × ((o : Opening) → IsAmong trail o → o.failed ≡ true → is_meta further root o.place ≡ false)))
+  only_content_failed h = (h.over, (h.did.tree ∙ h.over, (audits_well further root s t places listed heads trail h, no_metadata h.read)))
 
-  pub no_hashed_file_stops : (q : Place) → Fails root s t places listed heads trail (Some q) → (is_hashed root q ≡ false) × (t.failures ≡ s.failures + (length (unread_of root trail) + 1))
+  pub no_hashed_file_stops : (q : Place) → Fails further root s t places listed heads trail (Some q) → (is_hashed further root q ≡ false) × (t.failures ≡ s.failures + (length (unread_of further root trail) + 1))
   no_hashed_file_stops q h = ((h.store q refl).0, h.did.failures_are)
 
-  pub last_call_failed : (q : Place) → Fails root s t places listed heads trail (Some q)
+  pub last_call_failed : (q : Place) → Fails further root s t places listed heads trail (Some q)
       → ((before : List Place) × ((listed ≡ before ++ q ∷ [])
-      × ((t.failed_listings ≡ s.failed_listings ++ q ∷ []) × ((o : Opening) → IsAmong trail o → o.failed ≡ true → is_meta root o.place ≡ false))))
+      × ((t.failed_listings ≡ s.failed_listings ++ q ∷ []) × ((o : Opening) → IsAmong trail o → o.failed ≡ true → is_meta further root o.place ≡ false))))
       ⊎ ((before : List Opening) × ((given : ℕ) × ((trail ≡ before ++ record { place = q; given = given; failed = true } ∷ []) × (t.failed_listings ≡ s.failed_listings))))
   last_call_failed q h = by (h.store q refl).1
     where
-      by : FailedAt root s t listed trail q
+      by : FailedAt further root s t listed trail q
           → ((before : List Place) × ((listed ≡ before ++ q ∷ [])
-          × ((t.failed_listings ≡ s.failed_listings ++ q ∷ []) × ((o : Opening) → IsAmong trail o → o.failed ≡ true → is_meta root o.place ≡ false))))
+          × ((t.failed_listings ≡ s.failed_listings ++ q ∷ []) × ((o : Opening) → IsAmong trail o → o.failed ≡ true → is_meta further root o.place ≡ false))))
           ⊎ ((before : List Opening) × ((given : ℕ) × ((trail ≡ before ++ record { place = q; given = given; failed = true } ∷ []) × (t.failed_listings ≡ s.failed_listings))))
       by (in_listing before e failed read) = inl (before, (e, (failed, no_metadata read)))
       by (in_opening before given e none) = inr (before, (given, (e, none)))

@@ -1,7 +1,7 @@
 -- What is met at an entry.
 use Rattle.std.proofs.Common.{◌≡◌, ◌≢◌, ◌<◌, ◌≤◌, List, [], ◌∷◌, refl, sym, ◌∙◌, ap, subst, true, false, Bool, Option, Some, None, arith, length, map}
 use Rattle.std.proofs.lemmas.Bool.{le-leb, lt-ltb, le-ltb}
-use Rattle.std.specs.Prelude.{cond, nat_lt, nat_le, option_map, IsErrAnd, Result, Ok, Err, ◌&&◌, ◌||◌, not, codes}
+use Rattle.std.specs.Prelude.{cond, nat_lt, nat_le, option_map, IfSome, IsErrAnd, Result, Ok, Err, ◌&&◌, ◌||◌, not, codes}
 use Rattle.std.specs.List.{list_all}
 use Rattle.ocfl_tree.specs.Place.{Place, Text, text_eq}
 use Rattle.ocfl_tree.specs.StorageRoot.{StorageRoot, Leaf, file, dir, other, at, is_dir, is_dir_leaf, names_in}
@@ -10,20 +10,23 @@ use Rattle.ocfl_tree.specs.{declared.store.Entry.{Entry}, declared.store.Kind.{K
 use Rattle.ocfl_tree.specs.declared.store.Kind.TheVariants as kind
 use Rattle.ocfl_tree.proofs.{Orders.{true_not_false}, Bools.{and_both}, Stores.{did_nothing}}
 use Rattle.ocfl_inventory.specs.{Note.{Note, plain}, Remark.{remark_view}}
-use Rattle.ocfl_inventory.specs.{Table.{Table, Named, named}, TripleView.{named_view}}
+use Rattle.ocfl_inventory.specs.Table.{Table, named}
 use Rattle.ocfl_inventory.specs.{Declaration.{is_declaration}, ListedPath.{is_version_name}}
 use Rattle.ocfl_report.specs.declared.code.Code.{Code}
 use Rattle.ocfl_report.specs.declared.code.Code.TheVariants.{E001, E015, E024, S04, S05}
 use Rattle.ocfl_rules.specs.Zone.{Zone, skipped, hierarchy, inside, zone, seen, table_at, is_entered, is_listed_zone, is_listed_in_object, max_listed_depth, beginnings}
-use Rattle.ocfl_rules.specs.Lines.{notes, notes_in, object_notes, object_entry_notes, version_entry_notes, is_inventory_or_sidecar, named_at, cost_of, is_hashed, is_empty, listed_dir_notes}
-use Rattle.ocfl_rules.specs.{Head.{on}, Walk.{is_reached, seen_names}}
+use Rattle.ocfl_rules.specs.Inventories.{Further, notes, is_hashed}
+use Rattle.ocfl_rules.specs.Lines.{cost_of, notes_in, object_notes, object_entry_notes, version_entry_notes, is_inventory_or_sidecar, is_empty, listed_dir_notes}
+use Rattle.ocfl_rules.specs.Head.{on}
+use Rattle.ocfl_rules.specs.Walk.{is_reached, seen_names}
 use Rattle.ocfl_rules.specs.Trail.{heads_of, is_head, reads_inventory}
 use Rattle.ocfl_rules.specs.Between.{is_looked_into, shows_entries}
+use Rattle.ocfl_rules.proofs.PathLaws.{notes_at}
 use Rattle.ocfl_inventory.specs.declared.declaration.Level.TheVariants as level
 use Rattle.ocfl_item.specs.{Auditing.{FailedAt}, Looking.{IsFront, failures_by}, Internal.Content.{IsSight, content_in, content_at}}
 use Rattle.ocfl_item.specs.{Pending.{IsPending}, Internal.Lines.{HasLines, IsUnhashed}}
-use Rattle.ocfl_item.specs.Ways.{Enters, Stops, is_listable}
-use Rattle.ocfl_item.specs.Meeting.{IsFolderAt, IsItemAt, IsTableAt, IsVisit, Meets, MeetFails, Visits}
+use Rattle.ocfl_item.specs.{Root.{root_at, root_view}, Ways.{Enters, Stops, is_listable}}
+use Rattle.ocfl_item.specs.Meeting.{IsFolderAt, IsItemAt, IsRootAt, IsTableAt, IsVisit, Meets, MeetFails, Visits}
 use Rattle.ocfl_item.specs.Internal.Visiting.{HasRole, IsEntryAt, IsListedAt, IsPlainAt, IsShut}
 use Rattle.ocfl_item.specs.{declared.fault.Fault.{Fault}, declared.folder.Folder.{Folder}}
 use Rattle.ocfl_item.specs.declared.lines.PlaceLines.{PlaceLines}
@@ -31,26 +34,25 @@ use Rattle.ocfl_item.specs.{declared.pending.Pending.{Pending}, declared.visit.V
 use Rattle.ocfl_item.specs.declared.fault.Fault.TheVariants as fault
 use Rattle.ocfl_item.specs.declared.role.Role.TheVariants as role
 use Rattle.ocfl_item.specs.declared.sight.Sight.TheVariants as sight
-use Rattle.ocfl_item.proofs.{ContentLaws.{not_root}, LooksZones.{dir_from_leaf, entered_from}}
+use Rattle.ocfl_item.proofs.{ContentLaws.{named_short, not_root}, CommonLaws.{lines_alone, no_version, unnamed_unhashed}, LooksZones.{dir_from_leaf, entered_from}}
 use Rattle.ocfl_item.proofs.LooksEntries.{emptied, kind_file, not_emptied}
 use Rattle.ocfl_item.proofs.AuditingLaws.{front_all, front_none, near_none, none_once}
 use Rattle.ocfl_item.proofs.ShutLaws.{listed_shows, looked_at, no_head_unread, shut_no_dir, shut_zone}
 use Rattle.ocfl_item.proofs.LinesLaws.{unhashed_at}
-use Rattle.ocfl_rules.proofs.PathLaws.{named_path, notes_at}
 
 -- ---- the item of one line
 
-pub unhashed_pending : (root : StorageRoot) (l : PlaceLines) (made : Pending) → IsUnhashed root l → made.place ≡ l.place → made.remarks ≡ l.remarks
-    → made.hashed ≡ false → made.named.items ≡ [] → IsPending root made
-unhashed_pending root l made h place lines unhashed unnamed = record {
-  some = subst (λ x. notes root None x ≢ []) (sym place) h.some;
-  hashed = unhashed ∙ sym (ap (is_hashed root) place ∙ ap (λ ns. nat_lt 0 (cost_of ns None (seen root l.place))) h.named);
-  named = ap (map named_view) unnamed ∙ sym (ap (named_at root) place ∙ h.named);
-  lines = λ g. ap (λ v. map remark_view v.items) lines ∙ h.lines ∙ ap (notes root None) (sym place);
+pub unhashed_pending : (further : Further) (root : StorageRoot) (l : PlaceLines) (made : Pending) → IsUnhashed further root l → made.place ≡ l.place → made.remarks ≡ l.remarks
+    → made.hashed ≡ false → IsPending further root made
+unhashed_pending further root l made h place lines unhashed = record {
+  some = subst (λ x. notes further root None x ≢ []) (sym place) h.some;
+  hashed = unhashed ∙ sym (ap (is_hashed further root) place ∙ h.unhashed);
+  lines = λ g. ap (λ v. map remark_view v.items) lines ∙ h.lines ∙ ap (notes further root None) (sym place);
+  judged = λ g. absurd (true_not_false (sym g ∙ unhashed));
 }
 
-pub plain_unhashed : (root : StorageRoot) (e : Place) (code : Code) (l : PlaceLines) → IsPlainAt root e (plain code ∷ []) → l.place ≡ e → HasLines l (plain code ∷ []) → IsUnhashed root l
-plain_unhashed root e code l h at are = unhashed_at root l e at (λ g. let both = sym h.lines ∙ g in cc) h.named (are ∙ sym h.lines)
+pub plain_unhashed : (further : Further) (root : StorageRoot) (e : Place) (code : Code) (l : PlaceLines) → IsPlainAt further root e (plain code ∷ []) → l.place ≡ e → HasLines l (plain code ∷ []) → IsUnhashed further root l
+plain_unhashed further root e code l h at are = unhashed_at further root l e at (λ g. let both = sym h.lines ∙ g in cc) h.unhashed (are ∙ sym h.lines)
 
 -- ---- directories
 
@@ -78,9 +80,9 @@ no_notes root e h = short_notes root e [] h ∙ same_either (is_empty (names_in 
 -- ---- what was done
 
 -- no file was opened
-abbrev pub meets_unopened : (root : StorageRoot) (s t : Store) (e : Place) (listings : List Place) → s.tree ≡ root → Did s t [] listings 0
-    → listings ≡ on (is_looked_into root e) e → reads_inventory root e ≡ false → Meets root s t e
-meets_unopened root s t e listings over did listed read = record {
+abbrev pub meets_unopened : (further : Further) (root : StorageRoot) (s t : Store) (e : Place) (listings : List Place) → s.tree ≡ root → Did s t [] listings 0
+    → listings ≡ on (is_looked_into root e) e → reads_inventory root e ≡ false → Meets further root s t e
+meets_unopened further root s t e listings over did listed read = record {
   over = over;
   trail = [];
   listings = listings;
@@ -89,18 +91,18 @@ meets_unopened root s t e listings over did listed read = record {
   meta = refl;
   once = none_once;
   elsewhere = λ g k. refl;
-  near = near_none root listings;
+  near = near_none further root listings;
   listed = listed;
   heads = sym (ap (λ b. on b e) read);
 }
 
 -- nothing, at a place that is shut
-pub meets_shut : (root : StorageRoot) (s : Store) (e : Place) → s.tree ≡ root → IsShut root e → Meets root s s e
-meets_shut root s e over h = meets_unopened root s s e [] over (did_nothing s) (sym (ap (λ b. on b e) h.looked)) h.read
+pub meets_shut : (further : Further) (root : StorageRoot) (s : Store) (e : Place) → s.tree ≡ root → IsShut root e → Meets further root s s e
+meets_shut further root s e over h = meets_unopened further root s s e [] over (did_nothing s) (sym (ap (λ b. on b e) h.looked)) h.read
 
-fails_unopened : (root : StorageRoot) (s t : Store) (e : Place) (why : Fault) (listings : List Place) → s.tree ≡ root → Did s t [] listings (failures_by why)
-    → IsFront listings (on (is_looked_into root e) e) → ((q : Place) → why ≡ fault.Store q → (is_hashed root q ≡ false) × FailedAt root s t listings [] q) → MeetFails root s t e why
-fails_unopened root s t e why listings over did listed store = record {
+fails_unopened : (further : Further) (root : StorageRoot) (s t : Store) (e : Place) (why : Fault) (listings : List Place) → s.tree ≡ root → Did s t [] listings (failures_by why)
+    → IsFront listings (on (is_looked_into root e) e) → ((q : Place) → why ≡ fault.Store q → (is_hashed further root q ≡ false) × FailedAt further root s t listings [] q) → MeetFails further root s t e why
+fails_unopened further root s t e why listings over did listed store = record {
   over = over;
   trail = [];
   listings = listings;
@@ -109,17 +111,17 @@ fails_unopened root s t e why listings over did listed store = record {
   meta = refl;
   once = none_once;
   elsewhere = λ g k. refl;
-  near = near_none root listings;
+  near = near_none further root listings;
   listed = listed;
   heads = front_none (on (reads_inventory root e) e);
   store = store;
 }
 
-pub meet_stop : (root : StorageRoot) (s t : Store) (e : Place) (why : Fault) → is_looked_into root e ≡ true → Stops root s t (e ∷ []) [] why → MeetFails root s t e why
-meet_stop root s t e why looked h = fails_unopened root s t e why h.goes.listings h.goes.over h.goes.did (subst (λ b. IsFront h.goes.listings (on b e)) (sym looked) h.goes.listed) h.store
+pub meet_stop : (further : Further) (root : StorageRoot) (s t : Store) (e : Place) (why : Fault) → is_looked_into root e ≡ true → Stops further root s t (e ∷ []) [] why → MeetFails further root s t e why
+meet_stop further root s t e why looked h = fails_unopened further root s t e why h.goes.listings h.goes.over h.goes.did (subst (λ b. IsFront h.goes.listings (on b e)) (sym looked) h.goes.listed) h.store
 
-pub meet_out : (root : StorageRoot) (s t : Store) (e : Place) → Meets root s t e → MeetFails root s t e fault.Memory
-meet_out root s t e h = record {
+pub meet_out : (further : Further) (root : StorageRoot) (s t : Store) (e : Place) → Meets further root s t e → MeetFails further root s t e fault.Memory
+meet_out further root s t e h = record {
   over = h.over;
   trail = h.trail;
   listings = h.listings;
@@ -135,29 +137,35 @@ meet_out root s t e h = record {
 }
 
 -- nothing was done, and memory was refused
-pub meet_nothing : (root : StorageRoot) (s : Store) (e : Place) → s.tree ≡ root → MeetFails root s s e fault.Memory
-meet_nothing root s e over = fails_unopened root s s e fault.Memory [] over (did_nothing s) (front_none (on (is_looked_into root e) e)) (λ q g. absurd cc)
+pub meet_nothing : (further : Further) (root : StorageRoot) (s : Store) (e : Place) → s.tree ≡ root → MeetFails further root s s e fault.Memory
+meet_nothing further root s e over = fails_unopened further root s s e fault.Memory [] over (did_nothing s) (front_none (on (is_looked_into root e) e)) (λ q g. absurd cc)
 
-pub visits_stop : (root : StorageRoot) (s t : Store) (e : Place) (why : Fault) → is_looked_into root e ≡ true → Stops root s t (e ∷ []) [] why → Visits root s t e (Err why)
-visits_stop root s t e why looked h = record { gives = meet_stop root s t e why looked h }
+pub visits_stop : (further : Further) (root : StorageRoot) (s t : Store) (e : Place) (why : Fault) → is_looked_into root e ≡ true → Stops further root s t (e ∷ []) [] why → Visits further root s t e (Err why)
+visits_stop further root s t e why looked h = record { gives = meet_stop further root s t e why looked h }
+
+-- nothing is known of a root inventory without a table
+pub rootless : (further : Further) (root : StorageRoot) (e : Place) (v : Visit) → v.table ≡ None → IsRootAt further root e v
+rootless further root e v none = subst (λ t. IfSome t (λ _. option_map root_view v.root ≡ root_at further root e)) (sym none) tt
 
 -- ---- a directory that is listed
 
 -- its listing, and no table
-pub visit_of_folder : (root : StorageRoot) (e : Place) (v : Visit) (f : Folder) → IsItemAt root e v.item → v.folder ≡ Some f → v.table ≡ None
-    → is_head (zone root e) ≡ false → f.place ≡ e → is_reached root e ≡ true → IsListing root e f.entries.items → IsVisit root e v
-visit_of_folder root e v f item folder table head place reached listing = record {
+pub visit_of_folder : (further : Further) (root : StorageRoot) (e : Place) (v : Visit) (f : Folder) → IsItemAt further root e v.item → v.folder ≡ Some f → v.table ≡ None
+    → is_head (zone root e) ≡ false → f.place ≡ e → is_reached root e ≡ true → IsListing root e f.entries.items → IsVisit further root e v
+visit_of_folder further root e v f item folder table head place reached listing = record {
   item = item;
   folder = subst (IsFolderAt root e) (sym folder) (place, reached, listing);
   table = subst (IsTableAt root e) (sym table) (λ h. absurd (true_not_false (sym h ∙ head)));
+  root_inventory = rootless further root e v table;
 }
 
 -- an item, and nothing else
-pub visit_of_item : (root : StorageRoot) (e : Place) (v : Visit) → IsItemAt root e v.item → v.folder ≡ None → v.table ≡ None → is_head (zone root e) ≡ false → seen_names root e ≡ [] → IsVisit root e v
-visit_of_item root e v item folder table head none = record {
+pub visit_of_item : (further : Further) (root : StorageRoot) (e : Place) (v : Visit) → IsItemAt further root e v.item → v.folder ≡ None → v.table ≡ None → is_head (zone root e) ≡ false → seen_names root e ≡ [] → IsVisit further root e v
+visit_of_item further root e v item folder table head none = record {
   item = item;
   folder = subst (IsFolderAt root e) (sym folder) none;
   table = subst (IsTableAt root e) (sym table) (λ h. absurd (true_not_false (sym h ∙ head)));
+  root_inventory = rootless further root e v table;
 }
 
 -- ---- content
@@ -226,27 +234,27 @@ module _ (root : StorageRoot) (e : Place) (h : IsListedAt root e) where
 
 -- ---- answers
 
-pub relined : (root : StorageRoot) (e : Place) (ns ms : List Note) → ns ≡ ms → IsPlainAt root e ns → IsPlainAt root e ms
-relined root e ns ms is h = record { lines = h.lines ∙ is; named = h.named; head = h.head }
+pub relined : (further : Further) (root : StorageRoot) (e : Place) (ns ms : List Note) → ns ≡ ms → IsPlainAt further root e ns → IsPlainAt further root e ms
+relined further root e ns ms is h = record { lines = h.lines ∙ is; unhashed = h.unhashed; head = h.head }
 
-pub visits_memory : (root : StorageRoot) (s t : Store) (e : Place) → Meets root s t e → Visits root s t e (Err fault.Memory)
-visits_memory root s t e h = record { gives = meet_out root s t e h }
+pub visits_memory : (further : Further) (root : StorageRoot) (s t : Store) (e : Place) → Meets further root s t e → Visits further root s t e (Err fault.Memory)
+visits_memory further root s t e h = record { gives = meet_out further root s t e h }
 
-pub visits_told : (root : StorageRoot) (s t : Store) (e : Place) (v : Visit) → Meets root s t e → IsVisit root e v → Visits root s t e (Ok v)
-visits_told root s t e v h told = record { gives = (h, told) }
+pub visits_told : (further : Further) (root : StorageRoot) (s t : Store) (e : Place) (v : Visit) → Meets further root s t e → IsVisit further root e v → Visits further root s t e (Ok v)
+visits_told further root s t e v h told = record { gives = (h, told) }
 
 -- nothing was done, and memory was refused
-pub visits_nothing : (root : StorageRoot) (s : Store) (e : Place) → s.tree ≡ root → Visits root s s e (Err fault.Memory)
-visits_nothing root s e over = record { gives = meet_nothing root s e over }
+pub visits_nothing : (further : Further) (root : StorageRoot) (s : Store) (e : Place) → s.tree ≡ root → Visits further root s s e (Err fault.Memory)
+visits_nothing further root s e over = record { gives = meet_nothing further root s e over }
 
-pub visits_refused : (root : StorageRoot) (s : Store) (e : Place) (r : Result Visit Fault) → s.tree ≡ root → IsErrAnd r (λ why. why ≡ fault.Memory) → Visits root s s e r
-visits_refused root s e (Ok v) over is = absurd is
-visits_refused root s e (Err why) over is = rw is (visits_nothing root s e over)
+pub visits_refused : (further : Further) (root : StorageRoot) (s : Store) (e : Place) (r : Result Visit Fault) → s.tree ≡ root → IsErrAnd r (λ why. why ≡ fault.Memory) → Visits further root s s e r
+visits_refused further root s e (Ok v) over is = absurd is
+visits_refused further root s e (Err why) over is = rw is (visits_nothing further root s e over)
 
 -- a directory that is no object was listed
-pub entered_meets : (root : StorageRoot) (s t : Store) (e d : Place) (es : List Entry) → s.tree ≡ root → Enters root s t e d es → is_looked_into root e ≡ true
-    → is_head (zone root e) ≡ false → Meets root s t e
-entered_meets root s t e d es over h looked head = meets_unopened root s t e (e ∷ []) over h.did (sym (ap (λ b. on b e) looked)) (no_head_unread root e head)
+pub entered_meets : (further : Further) (root : StorageRoot) (s t : Store) (e d : Place) (es : List Entry) → s.tree ≡ root → Enters root s t e d es → is_looked_into root e ≡ true
+    → is_head (zone root e) ≡ false → Meets further root s t e
+entered_meets further root s t e d es over h looked head = meets_unopened further root s t e (e ∷ []) over h.did (sym (ap (λ b. on b e) looked)) (no_head_unread root e head)
 
 -- one that is listed
 pub looked_listed : (root : StorageRoot) (e : Place) → IsListedAt root e → length e ≤ 127 → is_looked_into root e ≡ true
@@ -263,102 +271,88 @@ listed_entry root e k h is listed = record { way = h.way; directory = dir_here r
 
 -- ---- entries of an object's root and of its versions
 
-abbrev path_in : Zone → Place
-path_in skipped = []
-path_in hierarchy = []
-path_in (inside o q) = q
-
--- no digest is named for a place of fewer than three names more
-pub named_short : (root : StorageRoot) (e o q : Place) → zone root e ≡ inside o q → length q ≤ 2 → named_at root e ≡ []
-named_short root e o q z short = by (named_at root e) refl
-  where
-    by : (ns : List Named) → named_at root e ≡ ns → named_at root e ≡ []
-    by [] h = h
-    by (n ∷ ns) h =
-        let k = named_path root e (λ g. cc) in
-        let long : length q ≡ length (k.version ∷ k.content ∷ k.name ∷ k.rest) = ap (λ x. length (path_in x)) (sym z ∙ k.lies) in
-        absurd (omega (arith, long, short))
-
-pub object_plain : (root : StorageRoot) (e o : Place) (n : Text) (t : Table) → zone root e ≡ inside o (n ∷ []) → table_at root o ≡ Some t → IsPlainAt root e (object_entry_notes root e n (seen root e))
-object_plain root e o n t z h = record {
-  lines = notes_at root None e (not_root root e o (n ∷ []) z) ∙ ap (notes_in root e None) z ∙ ap (λ y. object_notes root e None y (n ∷ [])) h;
-  named = named_short root e o (n ∷ []) z (omega arith);
+pub object_plain : (further : Further) (root : StorageRoot) (e o : Place) (n : Text) (t : Table) → zone root e ≡ inside o (n ∷ []) → table_at root o ≡ Some t → IsPlainAt further root e (object_entry_notes root e n (seen root e))
+object_plain further root e o n t z h = record {
+  lines = lines_alone root e (no_version root e _ z refl) further (ap is_head z) None ∙ notes_at root None e (not_root root e o (n ∷ []) z) ∙ ap (notes_in root e None) z ∙ ap (λ y. object_notes root e None y (n ∷ [])) h;
+  unhashed = unnamed_unhashed root e (no_version root e _ z refl) further (named_short root e o (n ∷ []) z (omega arith));
   head = ap is_head z;
 }
 
 pub version_plain : (root : StorageRoot) (e o : Place) (v n : Text) (t : Table) → zone root e ≡ inside o (v ∷ n ∷ []) → table_at root o ≡ Some t
-    → IsPlainAt root e (version_entry_notes root t e n (seen root e))
+    → IsPlainAt None root e (version_entry_notes root t e n (seen root e))
 version_plain root e o v n t z h = record {
   lines = notes_at root None e (not_root root e o (v ∷ n ∷ []) z) ∙ ap (notes_in root e None) z ∙ ap (λ y. object_notes root e None y (v ∷ n ∷ [])) h;
-  named = named_short root e o (v ∷ n ∷ []) z (omega arith);
+  unhashed = ap (λ ns. nat_lt 0 (cost_of ns None (seen root e))) (named_short root e o (v ∷ n ∷ []) z (omega arith));
   head = ap is_head z;
 }
 
 -- ---- at a place that is not entered
 
-module _ (root : StorageRoot) (s : Store) (e : Place) (over : s.tree ≡ root) (shut : IsShut root e) where
-  pub shut_visits : (v : Visit) → (seen_names root e ≡ [] → IsVisit root e v) → Visits root s s e (Ok v)
-  shut_visits v told = visits_told root s s e v (meets_shut root s e over shut) (told shut.names)
+module _ (further : Further) (root : StorageRoot) (s : Store) (e : Place) (over : s.tree ≡ root) (shut : IsShut root e) where
+  pub shut_visits : (v : Visit) → (seen_names root e ≡ [] → IsVisit further root e v) → Visits further root s s e (Ok v)
+  shut_visits v told = visits_told further root s s e v (meets_shut further root s e over shut) (told shut.names)
 
-  pub nothing_visits : (v : Visit) → IsPlainAt root e [] → v.item ≡ None → v.folder ≡ None → v.table ≡ None → Visits root s s e (Ok v)
-  nothing_visits v plain item folder table = shut_visits v (visit_of_item root e v (subst (IsItemAt root e) (sym item) plain.lines) folder table plain.head)
+  pub nothing_visits : (v : Visit) → IsPlainAt further root e [] → v.item ≡ None → v.folder ≡ None → v.table ≡ None → Visits further root s s e (Ok v)
+  nothing_visits v plain item folder table = shut_visits v (visit_of_item further root e v (subst (IsItemAt further root e) (sym item) plain.lines) folder table plain.head)
 
 module _ (root : StorageRoot) (e o : Place) (n : Text) (t : Table) (k : Kind) (h : IsEntryAt root e k) (z : zone root e ≡ inside o (n ∷ [])) (table : table_at root o ≡ Some t) where
-  of_object : (leaf : Leaf) (ns : List Note) → seen root e ≡ Some leaf → object_entry_notes root e n (Some leaf) ≡ ns → IsPlainAt root e ns
-  of_object leaf ns s is = relined root e (object_entry_notes root e n (seen root e)) ns (ap (object_entry_notes root e n) s ∙ is) (object_plain root e o n t z table)
-
-  pub object_file_known : k ≡ kind.File → is_declaration level.Object n || is_inventory_or_sidecar n ≡ true → HasRole root e role.LeftAlone
-  object_file_known is b = let f = entry_file root e k h is in (of_object (file f.0) [] f.1 (ap (λ x. on (not x) (plain E001)) b), file_shut root e k h is)
-
-  pub object_file_other : k ≡ kind.File → is_declaration level.Object n || is_inventory_or_sidecar n ≡ false → HasRole root e (role.Plain E001)
-  object_file_other is b = let f = entry_file root e k h is in (of_object (file f.0) (plain E001 ∷ []) f.1 (ap (λ x. on (not x) (plain E001)) b), file_shut root e k h is)
-
-  pub object_other : k ≡ kind.Other → HasRole root e (role.Plain S04)
-  object_other is = (of_object other (plain S04 ∷ []) (entry_other root e k h is) refl, other_shut root e k h is)
-
-  pub object_version : k ≡ kind.Dir → is_version_name n ≡ true → HasRole root e role.Listed
-  object_version is b = (
-    listed_entry root e k h is (ap (is_listed_zone root) z ∙ ap (λ x. is_listed_in_object x (n ∷ [])) table ∙ b),
-    of_object dir (listed_dir_notes root e []) (entry_dir root e k h is)
-        (ap (λ x. cond x (listed_dir_notes root e []) (on (not (text_eq n (codes "extensions") || text_eq n (codes "logs"))) (plain E001))) b),
-  )
-
   dir_else : k ≡ kind.Dir → is_version_name n ≡ false → object_entry_notes root e n (Some dir) ≡ on (not (text_eq n (codes "extensions") || text_eq n (codes "logs"))) (plain E001)
   dir_else is b = ap (λ x. cond x (listed_dir_notes root e []) (on (not (text_eq n (codes "extensions") || text_eq n (codes "logs"))) (plain E001))) b
 
   dir_shut : is_version_name n ≡ false → IsShut root e
   dir_shut b = shut_zone root e (not_root root e o (n ∷ []) z) (ap (shows_entries root) z ∙ ap (λ x. is_listed_in_object x (n ∷ [])) table ∙ b)
 
-  pub object_dir_known : k ≡ kind.Dir → is_version_name n ≡ false → text_eq n (codes "extensions") || text_eq n (codes "logs") ≡ true → HasRole root e role.LeftAlone
-  object_dir_known is b a = (of_object dir [] (entry_dir root e k h is) (dir_else is b ∙ ap (λ x. on (not x) (plain E001)) a), dir_shut b)
+module _ (further : Further) (root : StorageRoot) (e o : Place) (n : Text) (t : Table) (k : Kind) (h : IsEntryAt root e k) (z : zone root e ≡ inside o (n ∷ [])) (table : table_at root o ≡ Some t) where
+  of_object : (leaf : Leaf) (ns : List Note) → seen root e ≡ Some leaf → object_entry_notes root e n (Some leaf) ≡ ns → IsPlainAt further root e ns
+  of_object leaf ns s is = relined further root e (object_entry_notes root e n (seen root e)) ns (ap (object_entry_notes root e n) s ∙ is) (object_plain further root e o n t z table)
 
-  pub object_dir_other : k ≡ kind.Dir → is_version_name n ≡ false → text_eq n (codes "extensions") || text_eq n (codes "logs") ≡ false → HasRole root e (role.Plain E001)
-  object_dir_other is b a = (of_object dir (plain E001 ∷ []) (entry_dir root e k h is) (dir_else is b ∙ ap (λ x. on (not x) (plain E001)) a), dir_shut b)
+  pub object_file_known : k ≡ kind.File → is_declaration level.Object n || is_inventory_or_sidecar n ≡ true → HasRole further root e role.LeftAlone
+  object_file_known is b = let f = entry_file root e k h is in (of_object (file f.0) [] f.1 (ap (λ x. on (not x) (plain E001)) b), file_shut root e k h is)
+
+  pub object_file_other : k ≡ kind.File → is_declaration level.Object n || is_inventory_or_sidecar n ≡ false → HasRole further root e (role.Plain E001)
+  object_file_other is b = let f = entry_file root e k h is in (of_object (file f.0) (plain E001 ∷ []) f.1 (ap (λ x. on (not x) (plain E001)) b), file_shut root e k h is)
+
+  pub object_other : k ≡ kind.Other → HasRole further root e (role.Plain S04)
+  object_other is = (of_object other (plain S04 ∷ []) (entry_other root e k h is) refl, other_shut root e k h is)
+
+  pub object_version : k ≡ kind.Dir → is_version_name n ≡ true → HasRole further root e role.Listed
+  object_version is b = (
+    listed_entry root e k h is (ap (is_listed_zone root) z ∙ ap (λ x. is_listed_in_object x (n ∷ [])) table ∙ b),
+    of_object dir (listed_dir_notes root e []) (entry_dir root e k h is)
+        (ap (λ x. cond x (listed_dir_notes root e []) (on (not (text_eq n (codes "extensions") || text_eq n (codes "logs"))) (plain E001))) b),
+  )
+
+  pub object_dir_known : k ≡ kind.Dir → is_version_name n ≡ false → text_eq n (codes "extensions") || text_eq n (codes "logs") ≡ true → HasRole further root e role.LeftAlone
+  object_dir_known is b a = (of_object dir [] (entry_dir root e k h is) (dir_else root e o n t k h z table is b ∙ ap (λ x. on (not x) (plain E001)) a), dir_shut root e o n t k h z table b)
+
+  pub object_dir_other : k ≡ kind.Dir → is_version_name n ≡ false → text_eq n (codes "extensions") || text_eq n (codes "logs") ≡ false → HasRole further root e (role.Plain E001)
+  object_dir_other is b a = (of_object dir (plain E001 ∷ []) (entry_dir root e k h is) (dir_else root e o n t k h z table is b ∙ ap (λ x. on (not x) (plain E001)) a), dir_shut root e o n t k h z table b)
 
 module _ (root : StorageRoot) (e o : Place) (v n : Text) (t : Table) (k : Kind) (h : IsEntryAt root e k) (z : zone root e ≡ inside o (v ∷ n ∷ [])) (table : table_at root o ≡ Some t) where
-  of_version : (leaf : Leaf) (ns : List Note) → seen root e ≡ Some leaf → version_entry_notes root t e n (Some leaf) ≡ ns → IsPlainAt root e ns
-  of_version leaf ns s is = relined root e (version_entry_notes root t e n (seen root e)) ns (ap (version_entry_notes root t e n) s ∙ is) (version_plain root e o v n t z table)
-
-  pub version_file_known : k ≡ kind.File → is_inventory_or_sidecar n ≡ true → HasRole root e role.LeftAlone
-  version_file_known is b = let f = entry_file root e k h is in (of_version (file f.0) [] f.1 (ap (λ x. on (not x) (plain E015)) b), file_shut root e k h is)
-
-  pub version_file_other : k ≡ kind.File → is_inventory_or_sidecar n ≡ false → HasRole root e (role.Plain E015)
-  version_file_other is b = let f = entry_file root e k h is in (of_version (file f.0) (plain E015 ∷ []) f.1 (ap (λ x. on (not x) (plain E015)) b), file_shut root e k h is)
-
-  pub version_other : k ≡ kind.Other → HasRole root e (role.Plain S04)
-  version_other is = (of_version other (plain S04 ∷ []) (entry_other root e k h is) refl, other_shut root e k h is)
-
   in_version : (b : Bool) → is_version_name v ≡ true → text_eq n t.content ≡ b → is_listed_in_object (table_at root o) (v ∷ n ∷ []) ≡ b
   in_version b named is = ap (λ x. is_listed_in_object x (v ∷ n ∷ [])) table ∙ ap (λ x. x && text_eq n t.content) named ∙ is
 
-  pub version_content : k ≡ kind.Dir → is_version_name v ≡ true → text_eq n t.content ≡ true → HasRole root e role.Listed
+module _ (root : StorageRoot) (e o : Place) (v n : Text) (t : Table) (k : Kind) (h : IsEntryAt root e k) (z : zone root e ≡ inside o (v ∷ n ∷ [])) (table : table_at root o ≡ Some t) where
+  of_version : (leaf : Leaf) (ns : List Note) → seen root e ≡ Some leaf → version_entry_notes root t e n (Some leaf) ≡ ns → IsPlainAt None root e ns
+  of_version leaf ns s is = relined None root e (version_entry_notes root t e n (seen root e)) ns (ap (version_entry_notes root t e n) s ∙ is) (version_plain root e o v n t z table)
+
+  pub version_file_known : k ≡ kind.File → is_inventory_or_sidecar n ≡ true → HasRole None root e role.LeftAlone
+  version_file_known is b = let f = entry_file root e k h is in (of_version (file f.0) [] f.1 (ap (λ x. on (not x) (plain E015)) b), file_shut root e k h is)
+
+  pub version_file_other : k ≡ kind.File → is_inventory_or_sidecar n ≡ false → HasRole None root e (role.Plain E015)
+  version_file_other is b = let f = entry_file root e k h is in (of_version (file f.0) (plain E015 ∷ []) f.1 (ap (λ x. on (not x) (plain E015)) b), file_shut root e k h is)
+
+  pub version_other : k ≡ kind.Other → HasRole None root e (role.Plain S04)
+  version_other is = (of_version other (plain S04 ∷ []) (entry_other root e k h is) refl, other_shut root e k h is)
+
+  pub version_content : k ≡ kind.Dir → is_version_name v ≡ true → text_eq n t.content ≡ true → HasRole None root e role.Listed
   version_content is named b = (
-    listed_entry root e k h is (ap (is_listed_zone root) z ∙ in_version true named b),
+    listed_entry root e k h is (ap (is_listed_zone root) z ∙ in_version root e o v n t k h z table true named b),
     of_version dir (listed_dir_notes root e []) (entry_dir root e k h is) (ap (λ x. cond x (listed_dir_notes root e []) []) b),
   )
 
-  pub version_dir : k ≡ kind.Dir → is_version_name v ≡ true → text_eq n t.content ≡ false → HasRole root e role.LeftAlone
+  pub version_dir : k ≡ kind.Dir → is_version_name v ≡ true → text_eq n t.content ≡ false → HasRole None root e role.LeftAlone
   version_dir is named b = (
     of_version dir [] (entry_dir root e k h is) (ap (λ x. cond x (listed_dir_notes root e []) []) b),
-    shut_zone root e (not_root root e o (v ∷ n ∷ []) z) (ap (shows_entries root) z ∙ in_version false named b),
+    shut_zone root e (not_root root e o (v ∷ n ∷ []) z) (ap (shows_entries root) z ∙ in_version root e o v n t k h z table false named b),
   )

@@ -3,7 +3,7 @@ use Rattle.std.proofs.Common.{◌≡◌, ◌≢◌, suc, ◌+◌, ◌-◌, ◌<�
 use Rattle.std.proofs.lemmas.List.{length-append}
 use Rattle.std.proofs.Math.Bool.{and-false}
 use Rattle.std.proofs.lemmas.Bool.{eqb-true, le-leb, lt-ltb, le-ltb, lt-leb}
-use Rattle.std.specs.Prelude.{cond, nat_eq, nat_le, option_map, codes, ◌&&◌, Result, Ok, Err, IfOk}
+use Rattle.std.specs.Prelude.{cond, nat_eq, nat_le, option_map, codes, ◌&&◌, Result, Ok, Err, IfOk, option_map, IfSome}
 use Rattle.std.specs.List.{list_all}
 use Rattle.ocfl_tree.specs.Place.{Place, Text, text_eq}
 use Rattle.ocfl_tree.specs.StorageRoot.{StorageRoot, Leaf, file, other, at, is_dir, names_in}
@@ -21,10 +21,14 @@ use Rattle.ocfl_inventory.specs.declared.declaration.Declared.TheVariants as mad
 use Rattle.ocfl_inventory.specs.declared.declaration.Level.TheVariants as level
 use Rattle.ocfl_rules.specs.Head.{on}
 use Rattle.ocfl_rules.specs.Zone.{skipped, hierarchy, inside, zone, seen, table_at, is_entered, is_listed_zone, is_listed_in_object, max_listed_depth, object_declared, beginnings, files_in, is_declared}
-use Rattle.ocfl_rules.specs.Lines.{notes, notes_in, named_in, is_empty, listed_dir_notes, hierarchy_notes}
+use Rattle.ocfl_rules.specs.Inventories.{Further, notes}
+use Rattle.ocfl_rules.specs.Lines.{notes_in, named_in, is_empty, listed_dir_notes, hierarchy_notes}
 use Rattle.ocfl_rules.specs.Walk.{is_extensions, is_reached, seen_names, step_zone}
 use Rattle.ocfl_rules.specs.Trail.{is_head}
 use Rattle.ocfl_rules.specs.Between.{is_looked_into, shows_entries}
+use Rattle.ocfl_rules.proofs.AuditExists.{not_empty}
+use Rattle.ocfl_rules.proofs.PathLaws.{notes_at}
+use Rattle.ocfl_rules.proofs.StepLaws.{all_beginnings_step, zone_step}
 use Rattle.ocfl_item.specs.{Looking.{IsFront, failures_by}, Pending.{IsPending}}
 use Rattle.ocfl_item.specs.{Internal.Lines.{HasLines, IsUnhashed}, Ways.{Enters, is_listable}}
 use Rattle.ocfl_item.specs.Internal.Ways.{IsDeclared}
@@ -36,13 +40,13 @@ use Rattle.ocfl_item.specs.declared.lines.PlaceLines.{PlaceLines}
 use Rattle.ocfl_item.specs.{declared.pending.Pending.{Pending}, declared.meeting.Around.{Around}}
 use Rattle.ocfl_item.specs.declared.visit.Visit.{Visit}
 use Rattle.ocfl_item.specs.declared.role.Role.TheVariants as role
-use Rattle.ocfl_rules.proofs.{AuditExists.{not_empty}, PathLaws.{notes_at}}
-use Rattle.ocfl_rules.proofs.StepLaws.{all_beginnings_step, zone_step}
 use Rattle.ocfl_item.proofs.AuditingLaws.{failed_behind, front_all}
 use Rattle.ocfl_item.proofs.{LooksCalls.{declares_one}, LooksEntries.{emptied, not_emptied}, ItemLaws.{head_unhashed}}
 use Rattle.ocfl_item.proofs.LooksZones.{declared_object, entered_from, out_of_zone}
 use Rattle.ocfl_item.proofs.ShutLaws.{hidden, looked_at, shut_zone}
-use Rattle.ocfl_item.proofs.VisitLaws.{deep_notes, entered_meets, entry_dir, entry_file, entry_other, file_shut, no_dir, other_shut, relined, short_notes, dir_here, visit_of_folder}
+use Rattle.ocfl_item.proofs.VisitLaws.{deep_notes, entered_meets, entry_dir, entry_file, entry_other, file_shut, no_dir, other_shut, relined, short_notes, dir_here, visit_of_folder, rootless}
+use Rattle.ocfl_item.specs.Root.{root_at, root_view}
+use Rattle.ocfl_item.proofs.CommonLaws.{lines_alone, no_version, unnamed_unhashed}
 
 -- ---- an entry that is next
 
@@ -58,17 +62,17 @@ filled_by e d n is g = not_empty d n (sym is ∙ g)
 and_false : (a b : Bool) → b ≡ false → a && b ≡ false
 and_false a b h = ap (λ x. a && x) h ∙ and-false a
 
-pub hierarchy_plain : (root : StorageRoot) (e : Place) → e ≢ [] → zone root e ≡ hierarchy → IsPlainAt root e (hierarchy_notes root e (seen root e))
-hierarchy_plain root e some z = record {
-  lines = notes_at root None e some ∙ ap (notes_in root e None) z;
-  named = ap (named_in root) z;
+pub hierarchy_plain : (further : Further) (root : StorageRoot) (e : Place) → e ≢ [] → zone root e ≡ hierarchy → IsPlainAt further root e (hierarchy_notes root e (seen root e))
+hierarchy_plain further root e some z = record {
+  lines = lines_alone root e (no_version root e _ z refl) further (ap is_head z) None ∙ notes_at root None e some ∙ ap (notes_in root e None) z;
+  unhashed = unnamed_unhashed root e (no_version root e _ z refl) further (ap (named_in root) z);
   head = ap is_head z;
 }
 
-pub skipped_plain : (root : StorageRoot) (e : Place) → e ≢ [] → zone root e ≡ skipped → IsPlainAt root e []
-skipped_plain root e some z = record {
-  lines = notes_at root None e some ∙ ap (notes_in root e None) z;
-  named = ap (named_in root) z;
+pub skipped_plain : (further : Further) (root : StorageRoot) (e : Place) → e ≢ [] → zone root e ≡ skipped → IsPlainAt further root e []
+skipped_plain further root e some z = record {
+  lines = lines_alone root e (no_version root e _ z refl) further (ap is_head z) None ∙ notes_at root None e some ∙ ap (notes_in root e None) z;
+  unhashed = unnamed_unhashed root e (no_version root e _ z refl) further (ap (named_in root) z);
   head = ap is_head z;
 }
 
@@ -120,9 +124,10 @@ module _ (root : StorageRoot) (e d : Place) (n : Text) (is : e ≡ d ++ n ∷ []
   zone_no_dir : is_dir root e ≡ false → zone root e ≡ hierarchy
   zone_no_dir h = zone_passed (no_extensions h) ∙ ap (λ x. cond (is_declared x) (inside e []) hierarchy) (undeclared_no_dir root e h)
 
+module _ (further : Further) (root : StorageRoot) (e d : Place) (n : Text) (is : e ≡ d ++ n ∷ []) (part : zone root d ≡ hierarchy) where
   module _ (k : Kind) (h : IsEntryAt root e k) where
-    in_hierarchy : (leaf : Leaf) (ns : List Note) → is_dir root e ≡ false → seen root e ≡ Some leaf → hierarchy_notes root e (Some leaf) ≡ ns → IsPlainAt root e ns
-    in_hierarchy leaf ns not s k = relined root e (hierarchy_notes root e (seen root e)) ns (ap (hierarchy_notes root e) s ∙ k) (hierarchy_plain root e (filled_by e d n is) (zone_no_dir not))
+    in_hierarchy : (leaf : Leaf) (ns : List Note) → is_dir root e ≡ false → seen root e ≡ Some leaf → hierarchy_notes root e (Some leaf) ≡ ns → IsPlainAt further root e ns
+    in_hierarchy leaf ns not s k = relined further root e (hierarchy_notes root e (seen root e)) ns (ap (hierarchy_notes root e) s ∙ k) (hierarchy_plain further root e (filled_by e d n is) (zone_no_dir root e d n is part not))
 
     no_file_dir : k ≡ kind.File → is_dir root e ≡ false
     no_file_dir g = no_dir root e k h (λ x. cc)
@@ -130,36 +135,29 @@ module _ (root : StorageRoot) (e d : Place) (n : Text) (is : e ≡ d ++ n ∷ []
     no_other_dir : k ≡ kind.Other → is_dir root e ≡ false
     no_other_dir g = no_dir root e k h (λ x. cc)
 
-    pub file_deeper : k ≡ kind.File → 1 < length e → HasRole root e (role.Plain E072)
+    pub file_deeper : k ≡ kind.File → 1 < length e → HasRole further root e (role.Plain E072)
     file_deeper g deep = let f = entry_file root e k h g in
         (in_hierarchy (file f.0) (plain E072 ∷ []) (no_file_dir g) f.1 (ap (λ b. on b (plain E072)) (lt-ltb 1 (length e) deep)), file_shut root e k h g)
 
-    pub file_in_root : k ≡ kind.File → length e ≤ 1 → HasRole root e role.LeftAlone
+    pub file_in_root : k ≡ kind.File → length e ≤ 1 → HasRole further root e role.LeftAlone
     file_in_root g short = let f = entry_file root e k h g in (in_hierarchy (file f.0) [] (no_file_dir g) f.1 (ap (λ b. on b (plain E072)) (le-ltb 1 (length e) short)), file_shut root e k h g)
 
-    pub other_in_hierarchy : k ≡ kind.Other → HasRole root e (role.Plain S04)
+    pub other_in_hierarchy : k ≡ kind.Other → HasRole further root e (role.Plain S04)
     other_in_hierarchy g = (in_hierarchy other (plain S04 ∷ []) (no_other_dir g) (entry_other root e k h g) refl, other_shut root e k h g)
 
-    pub extensions_alone : k ≡ kind.Dir → nat_eq (length e - 1) 0 && text_eq n (codes "extensions") ≡ true → HasRole root e role.LeftAlone
+    pub extensions_alone : k ≡ kind.Dir → nat_eq (length e - 1) 0 && text_eq n (codes "extensions") ≡ true → HasRole further root e role.LeftAlone
     extensions_alone g x =
-        let z : zone root e ≡ skipped = zone_skipped (extensions_from x (dir_here root e k h g)) in
-        (skipped_plain root e (filled_by e d n is) z, shut_zone root e (filled_by e d n is) (ap (shows_entries root) z))
+        let z : zone root e ≡ skipped = zone_skipped root e d n is part (extensions_from root e d n is part x (dir_here root e k h g)) in
+        (skipped_plain further root e (filled_by e d n is) z, shut_zone root e (filled_by e d n is) (ap (shows_entries root) z))
 
-    pub other_directory : k ≡ kind.Dir → nat_eq (length e - 1) 0 && text_eq n (codes "extensions") ≡ false → HasRole root e role.Directory
-    other_directory g x = record { here = subst (IsEntryAt root e) g h; below = filled_by e d n is; zone = zone_passed (extensions_not x) }
+    pub other_directory : k ≡ kind.Dir → nat_eq (length e - 1) 0 && text_eq n (codes "extensions") ≡ false → HasRole further root e role.Directory
+    other_directory g x = record { here = subst (IsEntryAt root e) g h; below = filled_by e d n is; zone = zone_passed root e d n is part (extensions_not root e d n is part x) }
 
 -- ---- a directory of the hierarchy, or an object
 
 module _ (root : StorageRoot) (e : Place) (h : IsDirectoryAt root e) where
   undeclared_zone : object_declared root e ≡ undeclared → zone root e ≡ hierarchy
   undeclared_zone g = h.zone ∙ ap (λ x. cond (is_declared x) (inside e []) hierarchy) g
-
-  directory_plain : (ns : List Note) → object_declared root e ≡ undeclared → listed_dir_notes root e (plain E073 ∷ []) ≡ ns → IsPlainAt root e ns
-  directory_plain ns g k = relined root e (hierarchy_notes root e (seen root e)) ns (ap (hierarchy_notes root e) (entry_dir root e kind.Dir h.here refl) ∙ k)
-      (hierarchy_plain root e h.below (undeclared_zone g))
-
-  pub deep_plain : 127 < length e → IsPlainAt root e (plain S05 ∷ [])
-  deep_plain deep = directory_plain (plain S05 ∷ []) (undeclared_deep root e deep) (deep_notes root e (plain E073 ∷ []) deep)
 
   pub short_listable : length e ≤ 127 → is_listable root e ≡ true
   short_listable short = and_both (nat_le (length e) max_listed_depth) (is_dir root e) (le-leb (length e) 127 short) (dir_here root e kind.Dir h.here refl)
@@ -176,15 +174,17 @@ module _ (root : StorageRoot) (e : Place) (h : IsDirectoryAt root e) where
   directory_reached short g = and_both (list_all (is_entered root) (beginnings e)) (is_entered root e) h.here.way
       (entered_from root e (short_listable short) (ap (is_listed_zone root) (undeclared_zone g)))
 
+module _ (further : Further) (root : StorageRoot) (e : Place) (h : IsDirectoryAt root e) where
+  directory_plain : (ns : List Note) → object_declared root e ≡ undeclared → listed_dir_notes root e (plain E073 ∷ []) ≡ ns → IsPlainAt further root e ns
+  directory_plain ns g k = relined further root e (hierarchy_notes root e (seen root e)) ns (ap (hierarchy_notes root e) (entry_dir root e kind.Dir h.here refl) ∙ k)
+      (hierarchy_plain further root e h.below (undeclared_zone root e h g))
+
+  pub deep_plain : 127 < length e → IsPlainAt further root e (plain S05 ∷ [])
+  deep_plain deep = directory_plain (plain S05 ∷ []) (undeclared_deep root e deep) (deep_notes root e (plain E073 ∷ []) deep)
+
 -- ---- one that was listed, and declares nothing
 
 module _ (root : StorageRoot) (e : Place) (es : List Entry) (h : IsUndeclaredAt root e es) where
-  listed_plain : (ns : List Note) (b : Bool) → is_empty (names_in root e) ≡ b → cond b (plain E073 ∷ []) [] ≡ ns → IsPlainAt root e ns
-  listed_plain ns b is k = directory_plain root e h.directory ns h.none (short_notes root e (plain E073 ∷ []) h.short ∙ ap (λ x. cond x (plain E073 ∷ []) []) is ∙ k)
-
-  pub empty_plain : es ≡ [] → IsPlainAt root e (plain E073 ∷ [])
-  empty_plain none = listed_plain (plain E073 ∷ []) true (emptied root e es h.listing none) refl
-
   pub empty_names : es ≡ [] → seen_names root e ≡ []
   empty_names none = by (is_reached root e) (names_in root e) (emptied root e es h.listing none)
     where
@@ -193,16 +193,23 @@ module _ (root : StorageRoot) (e : Place) (es : List Entry) (h : IsUndeclaredAt 
       by true (n ∷ ns) g = absurd (true_not_false (sym g))
       by false ns g = refl
 
-  pub full_visit : (v : Visit) (f : Folder) → es ≢ [] → v.item ≡ None → v.folder ≡ Some f → v.table ≡ None → f.place ≡ e → f.entries.items ≡ es → IsVisit root e v
+module _ (further : Further) (root : StorageRoot) (e : Place) (es : List Entry) (h : IsUndeclaredAt root e es) where
+  listed_plain : (ns : List Note) (b : Bool) → is_empty (names_in root e) ≡ b → cond b (plain E073 ∷ []) [] ≡ ns → IsPlainAt further root e ns
+  listed_plain ns b is k = directory_plain further root e h.directory ns h.none (short_notes root e (plain E073 ∷ []) h.short ∙ ap (λ x. cond x (plain E073 ∷ []) []) is ∙ k)
+
+  pub empty_plain : es ≡ [] → IsPlainAt further root e (plain E073 ∷ [])
+  empty_plain none = listed_plain (plain E073 ∷ []) true (emptied root e es h.listing none) refl
+
+  pub full_visit : (v : Visit) (f : Folder) → es ≢ [] → v.item ≡ None → v.folder ≡ Some f → v.table ≡ None → f.place ≡ e → f.entries.items ≡ es → IsVisit further root e v
   full_visit v f full item folder table place entries =
       let k = listed_plain [] false (not_emptied root e es h.listing full) refl in
-      visit_of_folder root e v f (subst (IsItemAt root e) (sym item) k.lines) folder table k.head place (directory_reached root e h.directory h.short h.none)
+      visit_of_folder further root e v f (subst (IsItemAt further root e) (sym item) k.lines) folder table k.head place (directory_reached root e h.directory h.short h.none)
       (subst (IsListing root e) (sym entries) h.listing)
 
 -- the listing, and then what the head reads
-pub listed_then : (root : StorageRoot) (s t u : Store) (e : Place) → is_head (zone root e) ≡ true → s.tree ≡ root → Did s t [] (e ∷ []) 0
-    → is_looked_into root e ≡ true → ReadsOne root t u e → Meets root s u e
-listed_then root s t u e head over did looked h = record {
+pub listed_then : (further : Further) (root : StorageRoot) (s t u : Store) (e : Place) → is_head (zone root e) ≡ true → s.tree ≡ root → Did s t [] (e ∷ []) 0
+    → is_looked_into root e ≡ true → ReadsOne further root t u e → Meets further root s u e
+listed_then further root s t u e head over did looked h = record {
   over = over;
   trail = h.trail;
   listings = e ∷ [];
@@ -216,9 +223,9 @@ listed_then root s t u e head over did looked h = record {
   heads = h.heads;
 }
 
-listed_fails : (root : StorageRoot) (s t u : Store) (e : Place) (why : Fault) → is_head (zone root e) ≡ true → s.tree ≡ root → Did s t [] (e ∷ []) 0
-    → is_looked_into root e ≡ true → ReadOneFails root t u e why → MeetFails root s u e why
-listed_fails root s t u e why head over did looked h = record {
+listed_fails : (further : Further) (root : StorageRoot) (s t u : Store) (e : Place) (why : Fault) → is_head (zone root e) ≡ true → s.tree ≡ root → Did s t [] (e ∷ []) 0
+    → is_looked_into root e ≡ true → ReadOneFails further root t u e why → MeetFails further root s u e why
+listed_fails further root s t u e why head over did looked h = record {
   over = over;
   trail = h.trail;
   listings = e ∷ [];
@@ -230,13 +237,13 @@ listed_fails root s t u e why head over did looked h = record {
   near = h.near;
   listed = subst (λ b. IsFront (e ∷ []) (on b e)) (sym looked) (front_all (e ∷ []));
   heads = h.heads;
-  store = λ q g. let w = h.store q g in (w.0, failed_behind root s t u (e ∷ []) [] [] h.trail q refl (listed_well s t [] (e ∷ []) 0 (omega arith) did) w.1);
+  store = λ q g. let w = h.store q g in (w.0, failed_behind further root s t u (e ∷ []) [] [] h.trail q refl (listed_well s t [] (e ∷ []) 0 (omega arith) did) w.1);
 }
 
-pub visits_then : (root : StorageRoot) (s t u : Store) (e : Place) (r : Result Visit Fault) → is_head (zone root e) ≡ true → s.tree ≡ root
-    → Did s t [] (e ∷ []) 0 → is_looked_into root e ≡ true → VisitsHead root t u e r → Visits root s u e r
-visits_then root s t u e (Ok v) head over did looked h = record { gives = (listed_then root s t u e head over did looked h.gives.0, h.gives.1) }
-visits_then root s t u e (Err why) head over did looked h = record { gives = listed_fails root s t u e why head over did looked h.gives }
+pub visits_then : (further : Further) (root : StorageRoot) (s t u : Store) (e : Place) (r : Result Visit Fault) → is_head (zone root e) ≡ true → s.tree ≡ root
+    → Did s t [] (e ∷ []) 0 → is_looked_into root e ≡ true → VisitsHead further root t u e r → Visits further root s u e r
+visits_then further root s t u e (Ok v) head over did looked h = record { gives = (listed_then further root s t u e head over did looked h.gives.0, h.gives.1) }
+visits_then further root s t u e (Err why) head over did looked h = record { gives = listed_fails further root s t u e why head over did looked h.gives }
 
 -- ---- one that was listed, by what it declares
 
@@ -270,22 +277,23 @@ module _ (root : StorageRoot) (s t : Store) (e : Place) (f : Folder) (m : MadeDe
   says : object_declared root e ≡ meaning level.Object f.entries.items m
   says = declared_object root e f.entries.items (short_listable root e h.directory h.short) h.ordinary h.there.listing ∙ sym h.says
 
+module _ (further : Further) (root : StorageRoot) (s t : Store) (e : Place) (f : Folder) (m : MadeDeclared) (h : IsListedAs root s t e f m) where
   -- just it was listed, and it is a directory of the hierarchy
-  pub undeclared_met : m ≡ made.None → Meets root s t e × IsUndeclaredAt root f.place f.entries.items
+  pub undeclared_met : m ≡ made.None → Meets further root s t e × IsUndeclaredAt root f.place f.entries.items
   undeclared_met is =
-      let none : object_declared root e ≡ undeclared = says ∙ ap (meaning level.Object f.entries.items) is in
+      let none : object_declared root e ≡ undeclared = says root s t e f m h ∙ ap (meaning level.Object f.entries.items) is in
       let here : IsUndeclaredAt root e f.entries.items = record { directory = h.directory; short = h.short; listing = h.there.listing; none = none } in (
-        entered_meets root s t e f.place f.entries.items h.over h.there looked (ap is_head (undeclared_zone root e h.directory none)),
+        entered_meets further root s t e f.place f.entries.items h.over h.there (looked root s t e f m h) (ap is_head (undeclared_zone root e h.directory none)),
         subst (λ x. IsUndeclaredAt root x f.entries.items) (sym h.there.is) here,
       )
 
-  pub object_visits : (u : Store) (r : Result Visit Fault) → m ≢ made.None → (t.tree ≡ root → IsDeclared root f.place f.entries.items m → VisitsHead root t u f.place r) → Visits root s u e r
+  pub object_visits : (u : Store) (r : Result Visit Fault) → m ≢ made.None → (t.tree ≡ root → IsDeclared root f.place f.entries.items m → VisitsHead further root t u f.place r) → Visits further root s u e r
   object_visits u r not told =
-      let z : zone root e ≡ inside e [] = h.directory.zone ∙ ap (λ b. cond b (inside e []) hierarchy) (ap is_declared says ∙ declares_one f.entries.items m h.points not) in
+      let z : zone root e ≡ inside e [] = h.directory.zone ∙ ap (λ b. cond b (inside e []) hierarchy) (ap is_declared (says root s t e f m h) ∙ declares_one f.entries.items m h.points not) in
       let object : IsDeclared root e f.entries.items m = record
-      { listing = h.there.listing; way = h.directory.here.way; listable = short_listable root e h.directory h.short; zone = z; says = sym says; points = h.points } in
-      visits_then root s t u e r (ap is_head z) h.over h.there.did looked
-      (subst (λ x. VisitsHead root t u x r) h.there.is (told (h.there.did.tree ∙ h.over) (subst (λ x. IsDeclared root x f.entries.items m) (sym h.there.is) object)))
+      { listing = h.there.listing; way = h.directory.here.way; listable = short_listable root e h.directory h.short; zone = z; says = sym (says root s t e f m h); points = h.points } in
+      visits_then further root s t u e r (ap is_head z) h.over h.there.did (looked root s t e f m h)
+      (subst (λ x. VisitsHead further root t u x r) h.there.is (told (h.there.did.tree ∙ h.over) (subst (λ x. IsDeclared root x f.entries.items m) (sym h.there.is) object)))
 
 -- ---- an object
 
@@ -293,21 +301,23 @@ module _ (root : StorageRoot) (o : Place) (es : List Entry) (m : MadeDeclared) (
   pub head_here : is_head (zone root o) ≡ true
   head_here = ap is_head h.zone
 
-  pub head_item : (l : PlaceLines) (made : Pending) → HasLines l (notes root None o) → l.place ≡ o → made.place ≡ l.place
-      → (IsUnhashed root l → IsPending root made) → IsPending root made × (made.place ≡ o)
-  head_item l made are at same told = (told (head_unhashed root o l head_here at are), same ∙ at)
+module _ (further : Further) (root : StorageRoot) (o : Place) (es : List Entry) (m : MadeDeclared) (h : IsDeclared root o es m) where
+  pub head_item : (l : PlaceLines) (made : Pending) → HasLines l (notes further root None o) → l.place ≡ o → made.place ≡ l.place
+      → (IsUnhashed further root l → IsPending further root made) → IsPending further root made × (made.place ≡ o)
+  head_item l made are at same told = (told (head_unhashed further root o l (head_here root o es m h) at are), same ∙ at)
 
-  pub stopped_visit : (v : Visit) (p : Pending) → v.item ≡ Some p → v.folder ≡ None → v.table ≡ None → IsPending root p × (p.place ≡ o) → table_at root o ≡ None → IsVisit root o v
+  pub stopped_visit : (v : Visit) (p : Pending) → v.item ≡ Some p → v.folder ≡ None → v.table ≡ None → IsPending further root p × (p.place ≡ o) → table_at root o ≡ None → IsVisit further root o v
   stopped_visit v p item folder table pending none = record {
-    item = subst (IsItemAt root o) (sym item) pending;
+    item = subst (IsItemAt further root o) (sym item) pending;
     folder = subst (IsFolderAt root o) (sym folder) (hidden root o (out_of_zone root o (ap (is_listed_zone root) h.zone ∙ ap (λ x. is_listed_in_object x []) none)));
     table = subst (IsTableAt root o) (sym table) (λ g. none);
+    root_inventory = rootless further root o v table;
   }
 
-  pub open_visit : (v : Visit) (p : Pending) (f : Folder) (t : Table) → v.item ≡ Some p → v.folder ≡ Some f → v.table ≡ Some t → IsPending root p
-      × (p.place ≡ o) → f.place ≡ o → f.entries.items ≡ es → table_at root o ≡ Some t → IsVisit root o v
-  open_visit v p f t item folder table pending place entries is = record {
-    item = subst (IsItemAt root o) (sym item) pending;
+  pub open_visit : (v : Visit) (p : Pending) (f : Folder) (t : Table) → v.item ≡ Some p → v.folder ≡ Some f → v.table ≡ Some t → IsPending further root p
+      × (p.place ≡ o) → f.place ≡ o → f.entries.items ≡ es → table_at root o ≡ Some t → option_map root_view v.root ≡ root_at further root o → IsVisit further root o v
+  open_visit v p f t item folder table pending place entries is known = record {
+    item = subst (IsItemAt further root o) (sym item) pending;
     folder = subst (IsFolderAt root o) (sym folder) (
       place,
       and_both (list_all (is_entered root) (beginnings o)) (is_entered root o) h.way
@@ -315,6 +325,7 @@ module _ (root : StorageRoot) (o : Place) (es : List Entry) (m : MadeDeclared) (
       subst (IsListing root o) (sym entries) h.listing,
     );
     table = subst (IsTableAt root o) (sym table) (h.zone, is);
+    root_inventory = subst (λ x. IfSome x (λ _. option_map root_view v.root ≡ root_at further root o)) (sym table) known;
   }
 
 -- what is fair of a directory that was listed

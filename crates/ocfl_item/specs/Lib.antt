@@ -1,6 +1,7 @@
 pub mod Looking
 pub mod Auditing
 pub mod Ways
+pub mod Root
 pub mod Around
 pub mod Meeting
 pub mod HeadFiles

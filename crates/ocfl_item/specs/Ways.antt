@@ -7,7 +7,9 @@ use Rattle.ocfl_tree.specs.{declared.store.Kind.{Kind}, declared.store.Opening.{
 use Rattle.ocfl_tree.specs.declared.store.Kind.TheVariants as kind
 use Rattle.ocfl_inventory.specs.Declaration.{Declared}
 use Rattle.ocfl_rules.specs.Zone.{max_listed_depth, hierarchy, inside, zone, is_entered, object_declared, beginnings, is_known, is_declared}
-use Rattle.ocfl_rules.specs.{Lines.{is_hashed}, Trail.{heads_of}, Walk.{is_reached}}
+use Rattle.ocfl_rules.specs.Inventories.{Further, is_hashed}
+use Rattle.ocfl_rules.specs.Trail.{heads_of}
+use Rattle.ocfl_rules.specs.Walk.{is_reached}
 use Rattle.ocfl_item.specs.{Looking.{IsFront, failures_by}, Auditing.{FailedAt, IsMetadataRead}}
 use Rattle.ocfl_item.specs.{declared.fault.Fault.{Fault}, declared.folder.Head.{Head}}
 use Rattle.ocfl_item.specs.declared.fault.Fault.TheVariants as fault
@@ -21,17 +23,17 @@ way_below d (n ∷ p) = (d ++ n ∷ []) ∷ way_below (d ++ n ∷ []) p
 -- ---- what was done
 
 -- from s to t the first directories of a way were listed, and these files were opened
-pub record Goes (root : StorageRoot) (s t : Store) (way : List Place) (trail : List Opening) (failures : ℕ) : Type 0 where
+pub record Goes (further : Further) (root : StorageRoot) (s t : Store) (way : List Place) (trail : List Opening) (failures : ℕ) : Type 0 where
   pub over : s.tree ≡ root
   pub listings : List Place
   pub did : Did s t trail listings failures
-  pub read : failures ≡ 0 → IsMetadataRead root trail
+  pub read : failures ≡ 0 → IsMetadataRead further root trail
   pub listed : IsFront listings way
 
 -- and then there was a fault; one of the store names the place at which it failed
-pub record Stops (root : StorageRoot) (s t : Store) (way : List Place) (trail : List Opening) (why : Fault) : Type 0 where
-  pub goes : Goes root s t way trail (failures_by why)
-  pub store : (q : Place) → why ≡ fault.Store q → (is_hashed root q ≡ false) × FailedAt root s t goes.listings trail q
+pub record Stops (further : Further) (root : StorageRoot) (s t : Store) (way : List Place) (trail : List Opening) (why : Fault) : Type 0 where
+  pub goes : Goes further root s t way trail (failures_by why)
+  pub store : (q : Place) → why ≡ fault.Store q → (is_hashed further root q ≡ false) × FailedAt further root s t goes.listings trail q
 
 -- ---- one name further
 

@@ -4,6 +4,7 @@ ghost use Rattle.ocfl_tree.specs.{StorageRoot.{StorageRoot}, Store.{IfTold}};
 ghost use Rattle.ocfl_inventory.specs.Note.{plain};
 ghost use Rattle.ocfl_inventory.specs.Declaration.{declaration_name as declaration_name_of, known};
 ghost use Rattle.ocfl_inventory.specs.{Entries.{meaning}, Sidecar.{side_limit}};
+ghost use Rattle.ocfl_rules.specs.Inventories.{Further};
 ghost use Rattle.ocfl_rules.specs.{Zone.{is_known}, Head.{root_notes_by}};
 ghost use Rattle.ocfl_inventory.specs.declared.declaration.Level.TheVariants as level;
 ghost use Rattle.ocfl_item.specs.{HeadFiles.{OpensJust}, Internal.HeadFiles.{IsFileAt}};
@@ -40,11 +41,13 @@ fn known_code(version: Version, declaration: &Option<Bounded>) -> Code
 fn known_item<T: Tree>(store: &mut T, folder: &Folder, version: Version) -> Result<Pending, Fault>
     ensures place { IfOk result (λ item. item.place ≡ folder.now.place) }
     ensures told { IfTold T.told (T.state store.old) (λ root.
-        IsBase root folder.now.place folder.now.entries.items (Declared.One version)
-        → IfOk result (λ item. IsPending root item)) }
+        (further : Further)
+        → IsBase root folder.now.place folder.now.entries.items (Declared.One version)
+        → IfOk result (λ item. IsPending further root item)) }
     ensures opened { IfTold T.told (T.state store.old) (λ root.
-        IsBase root folder.now.place folder.now.entries.items (Declared.One version)
-        → OpensJust root (T.state store.old) (T.state store.new) folder.now.place
+        (further : Further)
+        → IsBase root folder.now.place folder.now.entries.items (Declared.One version)
+        → OpensJust further root (T.state store.old) (T.state store.new) folder.now.place
         (declaration_name_of level.Root version ∷ []) result) }
 {
     let name = declaration_name(Level::Root, version);
@@ -56,10 +59,10 @@ fn known_item<T: Tree>(store: &mut T, folder: &Folder, version: Version) -> Resu
 /// The item of a storage root that is not of one known version.
 fn stopped_item(folder: &Folder, declared: Declared) -> Result<Pending, AllocError>
     ensures place { IfOk result (λ item. item.place ≡ folder.now.place) }
-    ensures told { (root : StorageRoot)
+    ensures told { (further : Further) (root : StorageRoot)
         → IsBase root folder.now.place folder.now.entries.items declared
         → is_known (meaning level.Root folder.now.entries.items declared) ≡ false
-        → IfOk result (λ item. IsPending root item) }
+        → IfOk result (λ item. IsPending further root item) }
 {
     let lines = stopped_lines(folder, Level::Root, declared)?;
     Ok(Pending::of_lines(lines))
@@ -69,7 +72,8 @@ fn stopped_item(folder: &Folder, declared: Declared) -> Result<Pending, AllocErr
 pub fn visit_base<T: Tree>(alloc: Global, store: &mut T) -> Result<Visit, Fault>
     ensures fair { IfOk result (λ v. IsFairVisit [] v) }
     ensures told { IfTold T.told (T.state store.old) (λ root.
-        Visits root (T.state store.old) (T.state store.new) [] result) }
+        (further : Further)
+        → Visits further root (T.state store.old) (T.state store.new) [] result) }
 {
     let folder = list(store, Place::root(alloc))?;
     match declaration(&folder.entries, Level::Root) {

@@ -1,13 +1,16 @@
 //! What is met in a content directory, by the digests that name it.
-ghost use Rattle.std.specs.Prelude.{◌≡◌, ◌++◌, IfOk, IfSome, OnOk, Some, map};
+ghost use Rattle.std.specs.Prelude.{◌≡◌, ◌++◌, IfOk, IfSome, OnOk, Some, map, true};
 ghost use Rattle.ocfl_tree.specs.{Ascending.{IsAscending}, Place.{Place as ModelPlace}};
 ghost use Rattle.ocfl_tree.specs.StorageRoot.{StorageRoot};
 ghost use Rattle.ocfl_inventory.specs.Table.{Table, named as digests_of, named_cmp};
-ghost use Rattle.ocfl_inventory.specs.TripleView.{named_view};
-ghost use Rattle.ocfl_rules.specs.Lines.{missing_notes};
+ghost use Rattle.ocfl_inventory.specs.{Remark.{remark_view}, TripleView.{named_view}};
+ghost use Rattle.ocfl_rules.specs.{Inventories.{Further}, Lines.{missing_notes, unnamed_notes}};
 ghost use Rattle.ocfl_item.specs.Internal.Content.{IsSight, content_at, is_read, sight_notes};
 ghost use Rattle.ocfl_item.specs.{Meeting.{IsItemAt}, Internal.Lines.{Adds, HasLines}};
+ghost use Rattle.ocfl_item.specs.{Internal.FileLines.{expected_by_name}, Pending.{expected_view}};
 
+use crate::expected::expected_of_named;
+use crate::file_lines::add_unnamed;
 use crate::lines::PlaceLines;
 use crate::missing::add_missing;
 use crate::pending::Pending;
@@ -58,6 +61,21 @@ fn is_hashed(named: &[Named], sight: Sight) -> bool
     }
 }
 
+/// The item of a file that is hashed.
+fn hashed_item(alloc: Global, place: Place, named: Vec<Named>) -> Result<Pending, AllocError>
+    ensures place { IfOk result (λ item. item.place ≡ place) }
+    ensures hashed { IfOk result (λ item. item.hashed ≡ true) }
+    ensures remarks { IfOk result (λ item. map remark_view item.remarks.items
+        ≡ unnamed_notes (map named_view named.items)) }
+    ensures expected { IfOk result (λ item. map expected_view item.expected.items
+        ≡ map (λ n. expected_by_name (named_view n)) named.items) }
+{
+    let mut lines = PlaceLines::new(alloc, place);
+    add_unnamed(&mut lines, &named)?;
+    let expected = expected_of_named(alloc, named)?;
+    Ok(Pending::of_file(lines, expected))
+}
+
 /// The item at a content place, from the digests that the object's table names for it and from what
 /// is seen there; none if the place has no lines.
 pub(crate) fn content_item(
@@ -67,29 +85,19 @@ pub(crate) fn content_item(
     sight: Sight,
 ) -> Result<Option<Pending>, AllocError>
     ensures place { IfOk result (λ item. IfSome item (λ pending. pending.place ≡ place)) }
-    ensures told { (root : StorageRoot) (t : Table) (q : ModelPlace)
+    ensures told { (further : Further) (root : StorageRoot) (t : Table) (q : ModelPlace)
         → content_at root place ≡ Some (t, q)
         → map named_view named.items ≡ digests_of t q → IsSight root place sight
-        → IfOk result (λ item. IsItemAt root place item) }
+        → IfOk result (λ item. IsItemAt further root place item) }
 {
     if is_hashed(&named, sight) {
-        return Ok(Some(Pending {
-            place,
-            hashed: true,
-            named,
-            remarks: Vec::new(alloc),
-        }));
+        return Ok(Some(hashed_item(alloc, place, named)?));
     }
     let known = known_lines(alloc, place, &named, sight)?;
     if known.remarks.is_empty() {
         return Ok(None);
     }
-    Ok(Some(Pending {
-        place: known.place,
-        hashed: false,
-        named,
-        remarks: known.remarks,
-    }))
+    Ok(Some(Pending::of_lines(known)))
 }
 
 /// The same of a place that is kept: it is copied for its item.
@@ -100,10 +108,10 @@ pub(crate) fn content_item_at(
     sight: Sight,
 ) -> Result<Option<Pending>, AllocError>
     ensures place { IfOk result (λ item. IfSome item (λ pending. pending.place ≡ place.now)) }
-    ensures told { (root : StorageRoot) (t : Table) (q : ModelPlace)
+    ensures told { (further : Further) (root : StorageRoot) (t : Table) (q : ModelPlace)
         → content_at root place.now ≡ Some (t, q)
         → map named_view named.items ≡ digests_of t q → IsSight root place.now sight
-        → IfOk result (λ item. IsItemAt root place.now item) }
+        → IfOk result (λ item. IsItemAt further root place.now item) }
 {
     content_item(alloc, place.try_clone()?, named, sight)
 }

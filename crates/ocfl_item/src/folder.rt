@@ -4,7 +4,7 @@ ghost use Rattle.std.specs.Prelude.{MatchResult, codes, nat_eq};
 ghost use Rattle.ocfl_tree.specs.{Place.{text_eq}, Listing.{IsOrdinary, kind_in}, Store.{IfTold}};
 ghost use Rattle.ocfl_inventory.specs.Declaration.{declared as declared_by_files};
 ghost use Rattle.ocfl_inventory.specs.Entries.{file_names};
-ghost use Rattle.ocfl_rules.specs.Zone.{max_listed_depth};
+ghost use Rattle.ocfl_rules.specs.{Zone.{max_listed_depth}, Inventories.{Further}};
 ghost use Rattle.ocfl_item.specs.Ways.{Stops, Enters, IsHead, is_extensions_name};
 ghost use Rattle.ocfl_item.specs.Ways.{is_dir_kind, is_listable};
 ghost use Rattle.ocfl_item.specs.Internal.Ways.{fault_by, head_by as head_by_declared};
@@ -79,10 +79,10 @@ pub fn list<T: Tree>(store: &mut T, place: Place) -> Result<Folder, Fault>
     ensures place { IfOk result (λ folder. folder.place ≡ place) }
     ensures ordinary { IfOk result (λ folder. IsOrdinary folder.entries.items) }
     ensures told { IfTold T.told (T.state store.old) (λ root.
-        is_listable root place ≡ true → MatchResult result
+        (further : Further) → is_listable root place ≡ true → MatchResult result
         (λ folder. Enters root (T.state store.old) (T.state store.new) place
         folder.place folder.entries.items)
-        (λ why. Stops root (T.state store.old) (T.state store.new) (place ∷ []) [] why)) }
+        (λ why. Stops further root (T.state store.old) (T.state store.new) (place ∷ []) [] why)) }
 {
     match store.list(&place) {
         Ok(entries) => Ok(Folder { place, entries }),

@@ -20,14 +20,16 @@ ghost use Rattle.ocfl_rules.specs.Head.{are_sidecars_missing, sidecars_notes, in
 ghost use Rattle.ocfl_item.specs.Internal.HeadFiles.{IsFileAt};
 ghost use Rattle.ocfl_item.specs.Internal.HeadLines.{AreSidecars, HasDigestFor, is_other_there};
 ghost use Rattle.ocfl_item.specs.Internal.HeadLines.{named_notes};
-ghost use Rattle.ocfl_item.specs.Internal.Lines.{Adds, HasLines};
+ghost use Rattle.ocfl_item.specs.{Internal.Lines.{Adds, HasLines}, Root.{root_by, root_view}};
 
 use crate::declarations::is_exact;
 use crate::digits::hex_of;
 use crate::lines::PlaceLines;
+use crate::root::{RootInventory, root_of};
 use ocfl_digest::{Algorithm, Bounded, Digests, Wanted, hash_bytes};
 use ocfl_inventory::{Level, Remark, Sum, Table, Version, read_inventory, sidecar};
 use ocfl_report::Code;
+use ocfl_rules::further::NewCodes;
 use ocfl_tree::is_bytes;
 use std::alloc::AllocError;
 
@@ -232,34 +234,43 @@ fn add_remarks(lines: &mut PlaceLines, remarks: Vec<Remark>) -> Result<(), Alloc
 }
 
 /// Appends the lines of what an inventory says, after that of the sidecar of its algorithm, and
-/// gives its table.
+/// gives its table, and what it is if that is asked for.
 fn add_read(
     lines: &mut PlaceLines,
+    further: Option<NewCodes>,
     inventory: &[u8],
     sidecars: &Sidecars,
-) -> Result<Option<Table>, AllocError>
+) -> Result<(Option<Table>, Option<RootInventory>), AllocError>
     ensures place { OnOk result (lines.new.place ≡ lines.old.place) }
     ensures lines { (root : StorageRoot) (o : ModelPlace) → AreSidecars root o sidecars.now
         → OnOk result (Adds lines.old lines.new
         (inventory_part root o inventory.now (algorithm_in inventory.now))) }
-    ensures table { IfOk result (λ table. table ≡ table_of inventory.now) }
-    ensures fit { IfOk result (λ table. IfSome table (λ t. IsFit t)) }
+    ensures table { IfOk result (λ read. read.0 ≡ table_of inventory.now) }
+    ensures root { IfOk result (λ read. option_map root_view read.1
+        ≡ root_by further inventory.now (table_of inventory.now)) }
+    ensures fit { IfOk result (λ read. IfSome read.0 (λ t. IsFit t)) }
 {
     let read = read_inventory(lines.alloc(), inventory)?;
     add_missing_sidecar(lines, read.algorithm, sidecars)?;
     add_remarks(lines, read.remarks)?;
-    Ok(read.table)
+    let head = read.head;
+    let root = root_of(lines.alloc(), further, inventory, &read.table, head)?;
+    Ok((read.table, root))
 }
 
 /// Appends the lines of an object's inventory, and of its sidecars (OCFL 1.1, 3.5 Inventory and 3.6
-/// Inventory Digest), and gives its table. The bytes are all that the inventory has.
+/// Inventory Digest), and gives its table, and what it is if that is asked for. The bytes are all
+/// that the inventory has.
 pub(crate) fn add_inventory(
     lines: &mut PlaceLines,
+    further: Option<NewCodes>,
     bytes: &[u8],
     sidecars: &Sidecars,
-) -> Result<Option<Table>, AllocError>
-    ensures table { IfOk result (λ table. table ≡ table_of bytes.now) }
-    ensures fit { IfOk result (λ table. IfSome table (λ t. IsFit t)) }
+) -> Result<(Option<Table>, Option<RootInventory>), AllocError>
+    ensures table { IfOk result (λ read. read.0 ≡ table_of bytes.now) }
+    ensures root { IfOk result (λ read. option_map root_view read.1
+        ≡ root_by further bytes.now (table_of bytes.now)) }
+    ensures fit { IfOk result (λ read. IfSome read.0 (λ t. IsFit t)) }
     ensures place { OnOk result (lines.new.place ≡ lines.old.place) }
     ensures lines { (root : StorageRoot) (o : ModelPlace) → AreSidecars root o sidecars.now
         → OnOk result (Adds lines.old lines.new
@@ -267,7 +278,7 @@ pub(crate) fn add_inventory(
         ++ inventory_part root o bytes.now (algorithm_in bytes.now))) }
 {
     add_sidecars(lines, bytes, sidecars)?;
-    add_read(lines, bytes, sidecars)
+    add_read(lines, further, bytes, sidecars)
 }
 
 /// Appends the line of a clean head, if there is no line.

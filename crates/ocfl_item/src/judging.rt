@@ -2,12 +2,12 @@
 ghost use Rattle.std.specs.Prelude.{◌≡◌, ◌≢◌, ◌≤◌, ◌<◌, ◌+◌, ◌^◌, ◌++◌, ◌∷◌, [], IfErr, IfOk};
 ghost use Rattle.std.specs.Prelude.{IsTrue, MatchResult, None, false, length, map, max, true};
 ghost use Rattle.ocfl_tree.specs.{Place.{Text}, Store.{IfTold}};
-ghost use Rattle.ocfl_inventory.specs.{Note.{plain}, TripleView.{named_view}};
-ghost use Rattle.ocfl_rules.specs.Lines.{or_bytes, unnamed_notes, wrong_notes};
+ghost use Rattle.ocfl_inventory.specs.{Note.{plain}, Remark.{remark_view}};
+ghost use Rattle.ocfl_rules.specs.{Inventories.{Further, unexpected_notes}, Lines.{or_bytes}};
 ghost use Rattle.ocfl_item.specs.Internal.FileLines.{HasDigests, given_in};
 ghost use Rattle.ocfl_item.specs.Internal.Lines.{HasLines};
 ghost use Rattle.ocfl_item.specs.Judging.{CostFits, HasShortFiles, JudgeFails, Judges};
-ghost use Rattle.ocfl_item.specs.{Pending.{IsPending}, PlaceLines.{lines_of}};
+ghost use Rattle.ocfl_item.specs.{Pending.{IsPending, expected_view}, PlaceLines.{lines_of}};
 
 use crate::file_lines::{hashed_lines, unread_lines};
 use crate::lines::PlaceLines;
@@ -15,11 +15,10 @@ use crate::pending::Pending;
 use ocfl_digest::{Block, Cause, Digests, ReadStop, hash_open};
 use ocfl_report::Code;
 use ocfl_tree::Tree;
-use std::alloc::{AllocError, Global};
+use std::alloc::AllocError;
 
 /// The lines of an item whose file was read, and its cost, by what came of that.
 fn judged(
-    alloc: Global,
     pending: Pending,
     read: Result<(Digests, u64), ReadStop>,
 ) -> Result<(PlaceLines, u64), AllocError>
@@ -29,23 +28,30 @@ fn judged(
     ensures cost { IfOk result (λ judged. judged.1 ≡ given_in read + 1) }
     ensures refused { IfErr read (λ stop. stop.cause ≡ Cause.Memory → IfOk result (λ _. ⊥)) }
     ensures whole { IfOk read (λ hashed. (bytes : Text)
-        → HasDigests (map (λ n. n.algorithm) pending.named.items) bytes hashed.0
+        → HasDigests (map (λ e. e.algorithm) pending.expected.items) bytes hashed.0
         → hashed.1 ≡ length bytes
         → IfOk result (λ judged. HasLines judged.0 (or_bytes bytes
-        (unnamed_notes (map named_view pending.named.items)
-        ++ wrong_notes bytes (map named_view pending.named.items))))) }
+        (map remark_view pending.remarks.items
+        ++ unexpected_notes bytes (map expected_view pending.expected.items))))) }
     ensures part { IfErr read (λ stop. stop.cause ≢ Cause.Memory
         → IfOk result (λ judged. HasLines judged.0
-        (unnamed_notes (map named_view pending.named.items) ++ plain Code.S08 ∷ []))) }
+        (map remark_view pending.remarks.items ++ plain Code.S08 ∷ []))) }
 {
+    let Pending {
+        place,
+        remarks,
+        expected,
+        ..
+    } = pending;
+    let known = PlaceLines { place, remarks };
     match read {
         Ok((digests, count)) => {
-            let lines = hashed_lines(alloc, pending.place, &pending.named, &digests, count)?;
+            let lines = hashed_lines(known, &expected, &digests, count)?;
             Ok((lines, count + 1))
         }
         Err(stop) if stop.cause == Cause::Memory => Err(AllocError),
         Err(stop) => {
-            let lines = unread_lines(alloc, pending.place, &pending.named)?;
+            let lines = unread_lines(known)?;
             Ok((lines, stop.bytes + 1))
         }
     }
@@ -57,7 +63,6 @@ fn judged(
 /// if it cannot be read on, a line says so. Every other item costs 0, and the store is not
 /// asked. `AllocError` if memory was refused.
 pub fn judge<T: Tree>(
-    alloc: Global,
     store: &mut T,
     pending: Pending,
     block: &mut Block,
@@ -72,15 +77,16 @@ pub fn judge<T: Tree>(
     ensures largest { IsTrue T.told → (T.state store.new).largest
         ≤ max (T.state store.old).largest 65536 }
     ensures told { IfTold T.told (T.state store.old) (λ root.
-        HasShortFiles root → IsPending root pending → MatchResult result
-        (λ judged. Judges root (T.state store.old)
+        (further : Further) → HasShortFiles root → IsPending further root pending
+        → MatchResult result
+        (λ judged. Judges further root (T.state store.old)
         (T.state store.new) pending.place (lines_of judged.0) judged.1)
-        (λ _. JudgeFails root (T.state store.old) (T.state store.new) pending.place)) }
+        (λ _. JudgeFails further root (T.state store.old) (T.state store.new) pending.place)) }
 {
     if !pending.hashed {
         let Pending { place, remarks, .. } = pending;
         return Ok((PlaceLines { place, remarks }, 0));
     }
     let read = hash_open(store, &pending.place, pending.wanted(), block);
-    judged(alloc, pending, read)
+    judged(pending, read)
 }

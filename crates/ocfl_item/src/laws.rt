@@ -4,18 +4,19 @@ ghost use Rattle.std.specs.Prelude.{true, false};
 ghost use Rattle.ocfl_tree.specs.{Place.{Place, Text}, Ascending.{IsAmong}, Store.{Store}};
 ghost use Rattle.ocfl_tree.specs.StorageRoot.{StorageRoot, file_at};
 ghost use Rattle.ocfl_tree.specs.declared.store.Opening.{Opening};
-ghost use Rattle.ocfl_rules.specs.{Lines.{is_hashed}, Trail.{is_meta, unread_of}};
+ghost use Rattle.ocfl_rules.specs.Inventories.{Further, is_hashed};
+ghost use Rattle.ocfl_rules.specs.Trail.{is_meta, unread_of};
 ghost use Rattle.ocfl_item.specs.{Auditing.{Audits, Fails}, Judging.{HasShortFiles}};
 
 /// What calls did adds up, one after the other, up to a fault.
 #[tactic(auto, using(crate::proofs::AuditingLaws::audits_on, crate::proofs::AuditingLaws::audits_fail))]
 pub fn calls_add_up()
-    ensures on { (root : StorageRoot) (s t u : Store) (ps qs ls ms hs gs : List Place)
-        (os rs : List Opening) → Audits root s t ps ls hs os → Audits root t u qs ms gs rs
-        → Audits root s u (ps ++ qs) (ls ++ ms) (hs ++ gs) (os ++ rs) }
-    ensures fail { (root : StorageRoot) (s t u : Store) (ps qs ls ms hs gs : List Place)
-        (os rs : List Opening) (failed : Option Place) → Audits root s t ps ls hs os
-        → Fails root t u qs ms gs rs failed → Fails root s u (ps ++ qs) (ls ++ ms) (hs ++ gs)
+    ensures on { (further : Further) (root : StorageRoot) (s t u : Store) (ps qs ls ms hs gs : List Place)
+        (os rs : List Opening) → Audits further root s t ps ls hs os → Audits further root t u qs ms gs rs
+        → Audits further root s u (ps ++ qs) (ls ++ ms) (hs ++ gs) (os ++ rs) }
+    ensures fail { (further : Further) (root : StorageRoot) (s t u : Store) (ps qs ls ms hs gs : List Place)
+        (os rs : List Opening) (failed : Option Place) → Audits further root s t ps ls hs os
+        → Fails further root t u qs ms gs rs failed → Fails further root s u (ps ++ qs) (ls ++ ms) (hs ++ gs)
         (os ++ rs) failed }
 {}
 
@@ -24,21 +25,22 @@ pub fn calls_add_up()
 /// that of the last listing, which alone of listings failed, and then no metadata failed; or that
 /// of the last opening, which failed, and then no listing failed.
 pub fn stops_name_the_call_that_failed()
-    ensures content { (root : StorageRoot) (s t : Store) (places listed heads : List Place)
-        (trail : List Opening) → Audits root s t places listed heads trail
+    ensures content { (further : Further) (root : StorageRoot) (s t : Store) (places listed heads : List Place)
+        (trail : List Opening) → Audits further root s t places listed heads trail
         → (s.tree ≡ root) × ((t.tree ≡ root) × ((t.failed_listings ≡ s.failed_listings)
-        × ((o : Opening) → IsAmong trail o → o.failed ≡ true → is_meta root o.place ≡ false))) }
-    ensures counted { (root : StorageRoot) (s t : Store) (places listed heads : List Place)
+        × ((o : Opening) → IsAmong trail o → o.failed ≡ true
+        → is_meta further root o.place ≡ false))) }
+    ensures counted { (further : Further) (root : StorageRoot) (s t : Store) (places listed heads : List Place)
         (trail : List Opening) (q : Place)
-        → Fails root s t places listed heads trail (Some q)
-        → (is_hashed root q ≡ false)
-        × (t.failures ≡ s.failures + (length (unread_of root trail) + 1)) }
-    ensures place { (root : StorageRoot) (s t : Store) (places listed heads : List Place)
+        → Fails further root s t places listed heads trail (Some q)
+        → (is_hashed further root q ≡ false)
+        × (t.failures ≡ s.failures + (length (unread_of further root trail) + 1)) }
+    ensures place { (further : Further) (root : StorageRoot) (s t : Store) (places listed heads : List Place)
         (trail : List Opening) (q : Place)
-        → Fails root s t places listed heads trail (Some q)
+        → Fails further root s t places listed heads trail (Some q)
         → ((before : List Place) × ((listed ≡ before ++ q ∷ [])
         × ((t.failed_listings ≡ s.failed_listings ++ q ∷ []) × ((o : Opening)
-        → IsAmong trail o → o.failed ≡ true → is_meta root o.place ≡ false))))
+        → IsAmong trail o → o.failed ≡ true → is_meta further root o.place ≡ false))))
         ⊎ ((before : List Opening) × ((given : ℕ)
         × ((trail ≡ before ++ record { place = q; given = given; failed = true } ∷ [])
         × (t.failed_listings ≡ s.failed_listings)))) }

@@ -8,14 +8,15 @@
 //!   read, and no file opened but right in this directory (`visit_base`, `visit_entry`; `Meets`).
 //! - If nothing is seen at a place, it has an item only if the table has its path (`visit_path`).
 //!   `table_of_object` opens the inventory alone.
-//! - `judge` gives the lines and the cost of that item. A content file is opened once, if some
-//!   digest is named for it. If it cannot be read to its end, its line says so.
+//! - `judge` gives the lines and the cost of that item. Its file is opened once, if some digest is
+//!   expected of it. If it cannot be read to its end, its line says so.
 #![tactic(auto)]
 
 mod base;
 mod content;
 mod declarations;
 mod digits;
+mod expected;
 mod fault;
 mod file_lines;
 mod folder;
@@ -29,6 +30,7 @@ mod names;
 mod object;
 mod pending;
 mod role;
+mod root;
 mod sight;
 mod visit;
 
@@ -40,4 +42,5 @@ pub use lines::{Piece, PlaceLines};
 pub use meeting::{Around, visit_entry, visit_path};
 pub use object::table_of_object;
 pub use pending::Pending;
+pub use root::RootInventory;
 pub use visit::Visit;

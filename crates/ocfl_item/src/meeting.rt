@@ -3,7 +3,7 @@ ghost use Rattle.std.specs.Prelude.{◌≡◌, None, IfOk, IfSome, drop, length,
 ghost use Rattle.ocfl_tree.specs.{Place.{Place as ModelPlace}, StorageRoot.{StorageRoot}};
 ghost use Rattle.ocfl_tree.specs.Store.{IfTold};
 ghost use Rattle.ocfl_inventory.specs.{Table.{named as digests_of}, TripleView.{named_view}};
-ghost use Rattle.ocfl_rules.specs.Zone.{seen};
+ghost use Rattle.ocfl_rules.specs.{Inventories.{Further}, Zone.{seen}};
 ghost use Rattle.ocfl_item.specs.Around.{IsMet, IsNamedIn, IsTableAround};
 ghost use Rattle.ocfl_item.specs.Meeting.{IsFairVisit, IsItemAt, Visits};
 
@@ -46,15 +46,21 @@ pub fn visit_entry<T: Tree>(
     ensures fair { IfOk result (λ v. IsFairVisit place v) }
     ensures told { IfTold T.told (T.state store.old) (λ root.
         (d : ModelPlace) → IsMet root d around.now entry.now place
-        → Visits root (T.state store.old) (T.state store.new) place result) }
+        → Visits None root (T.state store.old) (T.state store.new) place result) }
 {
     let Some(around) = around else {
         let role = role_in_hierarchy(&place, entry);
-        return visit_by_role(alloc, store, place, role);
+        return visit_by_role(alloc, store, None, place, role);
     };
     match place.depth().saturating_sub(around.place.depth()) {
-        1 => visit_by_role(alloc, store, place, role_in_object(entry)),
-        2 => visit_by_role(alloc, store, place, role_in_version(entry, &around.table)),
+        1 => visit_by_role(alloc, store, None, place, role_in_object(entry)),
+        2 => visit_by_role(
+            alloc,
+            store,
+            None,
+            place,
+            role_in_version(entry, &around.table),
+        ),
         _ => {
             let named = around.named_at(alloc, &place)?;
             visit_in_content(alloc, store, place, entry, named)
@@ -70,9 +76,10 @@ pub fn visit_path(
 ) -> Result<Option<Pending>, AllocError>
     ensures fair { IfOk result (λ o. IfSome o (λ p. p.place ≡ place.now)) }
     ensures named { IfOk result (λ o. IfSome o (λ _. IsNamedIn place.now around.now)) }
-    ensures told { (root : StorageRoot) → IsTableAround root place.now around.now
+    ensures told { (further : Further) (root : StorageRoot)
+        → IsTableAround root place.now around.now
         → seen root place.now ≡ None
-        → IfOk result (λ o. IsItemAt root place.now o) }
+        → IfOk result (λ o. IsItemAt further root place.now o) }
 {
     let Some(around) = around else {
         return Ok(None);

@@ -1,6 +1,6 @@
 //! An object's own files: its declaration, its inventory and the sidecars. They are read for its
 //! head with its table, or for the table alone; a file of the storage root is read in the same way.
-ghost use Rattle.std.specs.Prelude.{◌≡◌, ◌∷◌, ◌++◌, [], true, false, IfOk, IfSome};
+ghost use Rattle.std.specs.Prelude.{◌≡◌, ◌∷◌, ◌++◌, [], true, false, IfOk, IfSome, None, option_map};
 ghost use Rattle.std.specs.Prelude.{MatchOption, MatchResult, OnOk, not};
 ghost use Rattle.ocfl_tree.specs.{StorageRoot.{file_at}, Listing.{IsListing, kind_in}};
 ghost use Rattle.ocfl_tree.specs.Store.{IfTold};
@@ -12,12 +12,12 @@ ghost use Rattle.ocfl_digest.specs.declared.algorithm.Algorithm.TheVariants.{Sha
 ghost use Rattle.ocfl_inventory.specs.declared.declaration.Level.TheVariants as level;
 ghost use Rattle.ocfl_rules.specs.Head.{inventory_file_notes, is_exact_declaration, on};
 ghost use Rattle.ocfl_rules.specs.Head.{sidecar_name as sidecar_name_of};
-ghost use Rattle.ocfl_rules.specs.Trail.{is_meta};
+ghost use Rattle.ocfl_rules.specs.{Inventories.{Further}, Trail.{is_meta}};
 ghost use Rattle.ocfl_rules.specs.Zone.{inside, inventory_name, object_declared, table_at, zone};
 ghost use Rattle.ocfl_item.specs.HeadFiles.{FilesStop, OpensJust, ReadsFiles};
 ghost use Rattle.ocfl_item.specs.Internal.HeadFiles.{IsFileAt, ReadsFile, head_files};
 ghost use Rattle.ocfl_item.specs.Internal.HeadFiles.{inventory_files, table_in};
-ghost use Rattle.ocfl_item.specs.Internal.Lines.{Adds};
+ghost use Rattle.ocfl_item.specs.{Internal.Lines.{Adds}, Root.{root_in, root_view}};
 ghost use Rattle.ocfl_item.specs.Ways.{IsObject};
 ghost use Rattle.ocfl_item.specs.Internal.Ways.{IsDeclared, IsHeadOf, IsListedObject, is_file_kind};
 
@@ -27,11 +27,13 @@ use crate::folder::{Folder, fault_at};
 use crate::head_lines::{Sidecars, add_clean, add_declaration, add_inventory};
 use crate::lines::PlaceLines;
 use crate::names::{INVENTORY_NAME, sidecar_name};
+use crate::root::{RootInventory, add_root_note};
 use ocfl_digest::{Algorithm, Bounded, read_bounded};
 use ocfl_inventory::{
     Declared, Level, SIDE_LIMIT, Table, Version, declaration_name, read_inventory,
 };
 use ocfl_report::Code;
+use ocfl_rules::further::NewCodes;
 use ocfl_tree::{Entry, Kind, Name, Place, Tree, is_text};
 use std::alloc::{AllocError, Global};
 
@@ -75,9 +77,9 @@ pub(crate) fn read_file<T: Tree>(
     limit: usize,
 ) -> Result<Option<Bounded>, Fault>
     ensures told { IfTold T.told (T.state store.old) (λ root.
-        IsListing root folder.now.place folder.now.entries.items
-        → is_meta root (folder.now.place ++ name.now ∷ []) ≡ true
-        → ReadsFile root (T.state store.old) (T.state store.new) folder.now.place name.now limit
+        (further : Further) → IsListing root folder.now.place folder.now.entries.items
+        → is_meta further root (folder.now.place ++ name.now ∷ []) ≡ true
+        → ReadsFile further root (T.state store.old) (T.state store.new) folder.now.place name.now limit
         result) }
 {
     let Some(place) = place_of_file(folder, name)? else {
@@ -92,13 +94,13 @@ pub(crate) fn read_file<T: Tree>(
 /// What the sidecars hold that are there.
 fn read_sidecars<T: Tree>(store: &mut T, folder: &Folder) -> Result<Sidecars, Fault>
     ensures told { IfTold T.told (T.state store.old) (λ root.
-        IsListedObject root folder.now.place folder.now.entries.items
+        (further : Further) → IsListedObject root folder.now.place folder.now.entries.items
         → MatchResult result
-        (λ sidecars. ReadsFiles root (T.state store.old) (T.state store.new) folder.now.place
+        (λ sidecars. ReadsFiles further root (T.state store.old) (T.state store.new) folder.now.place
         (sidecar_name_of Sha256 ∷ sidecar_name_of Sha512 ∷ [])
         × IsFileAt root (folder.now.place ++ sidecar_name_of Sha256 ∷ []) side_limit sidecars.short
         × IsFileAt root (folder.now.place ++ sidecar_name_of Sha512 ∷ []) side_limit sidecars.long)
-        (λ why. FilesStop root (T.state store.old) (T.state store.new) folder.now.place
+        (λ why. FilesStop further root (T.state store.old) (T.state store.new) folder.now.place
         (sidecar_name_of Sha256 ∷ sidecar_name_of Sha512 ∷ []) why)) }
 {
     let short = read_file(store, folder, sidecar_name(Algorithm::Sha256), SIDE_LIMIT)?;
@@ -106,38 +108,42 @@ fn read_sidecars<T: Tree>(store: &mut T, folder: &Folder) -> Result<Sidecars, Fa
     Ok(Sidecars { short, long })
 }
 
-/// Appends the lines of an object's inventory and its sidecars.
+/// Appends the lines of an object's inventory and its sidecars, and gives its table, and what it is
+/// if that is asked for.
 fn add_inventory_file<T: Tree>(
     store: &mut T,
+    further: Option<NewCodes>,
     folder: &Folder,
     lines: &mut PlaceLines,
-) -> Result<Option<Table>, Fault>
-    ensures fit { IfOk result (λ table. IfSome table (λ t. IsFit t)) }
+) -> Result<(Option<Table>, Option<RootInventory>), Fault>
+    ensures fit { IfOk result (λ read. IfSome read.0 (λ t. IsFit t)) }
     ensures place { OnOk result (lines.new.place ≡ lines.old.place) }
     ensures told { IfTold T.told (T.state store.old) (λ root.
         IsListedObject root folder.now.place folder.now.entries.items
         → IfOk result
-        (λ table. (table ≡ table_in (file_at root (folder.now.place ++ inventory_name ∷ [])))
+        (λ read. (read.0 ≡ table_in (file_at root (folder.now.place ++ inventory_name ∷ [])))
+        × (option_map root_view read.1
+        ≡ root_in further (file_at root (folder.now.place ++ inventory_name ∷ [])))
         × Adds lines.old lines.new
         (inventory_file_notes root folder.now.place
         (file_at root (folder.now.place ++ inventory_name ∷ []))))) }
     ensures opened { IfTold T.told (T.state store.old) (λ root.
         IsListedObject root folder.now.place folder.now.entries.items
-        → OpensJust root (T.state store.old) (T.state store.new) folder.now.place
+        → OpensJust further root (T.state store.old) (T.state store.new) folder.now.place
         (inventory_files root folder.now.place) result) }
 {
     match read_file(store, folder, INVENTORY_NAME, INVENTORY_LIMIT)? {
         None => {
             lines.add_plain(Code::E063)?;
-            Ok(None)
+            Ok((None, None))
         }
         Some(Bounded::Over) => {
             lines.add_plain(Code::S02)?;
-            Ok(None)
+            Ok((None, None))
         }
         Some(Bounded::Whole(bytes)) => {
             let sidecars = read_sidecars(store, folder)?;
-            Ok(add_inventory(lines, &bytes, &sidecars)?)
+            Ok(add_inventory(lines, further, &bytes, &sidecars)?)
         }
     }
 }
@@ -151,14 +157,14 @@ fn add_declaration_file<T: Tree>(
 ) -> Result<(), Fault>
     ensures place { OnOk result (lines.new.place ≡ lines.old.place) }
     ensures told { IfTold T.told (T.state store.old) (λ root.
-        IsListedObject root folder.now.place folder.now.entries.items
+        (further : Further) → IsListedObject root folder.now.place folder.now.entries.items
         → MatchResult result
-        (λ _. ReadsFiles root (T.state store.old) (T.state store.new) folder.now.place
+        (λ _. ReadsFiles further root (T.state store.old) (T.state store.new) folder.now.place
         (declaration_name_of level.Object version ∷ [])
         × Adds lines.old lines.new
         (on (not (is_exact_declaration root folder.now.place level.Object version))
         (plain Code.E007)))
-        (λ why. FilesStop root (T.state store.old) (T.state store.new) folder.now.place
+        (λ why. FilesStop further root (T.state store.old) (T.state store.new) folder.now.place
         (declaration_name_of level.Object version ∷ []) why)) }
 {
     let name = declaration_name(Level::Object, version);
@@ -167,33 +173,39 @@ fn add_declaration_file<T: Tree>(
     Ok(())
 }
 
-/// The lines of an object as a whole, and its table if they do not stop (OCFL 1.1, 3 OCFL
-/// Object). The inventory is read and parsed once for both, and the sidecars are opened only if
-/// it is there within its limit.
+/// What is read of an object's head: its lines, and if they do not stop its table, and what the
+/// root inventory is if that is asked for.
+pub(crate) type HeadReading = (PlaceLines, Option<Table>, Option<RootInventory>);
+
+/// The lines of an object as a whole, and what is known of its inventory if they do not stop (OCFL
+/// 1.1, 3 OCFL Object). The inventory is read and parsed once for all of it, and the sidecars are
+/// opened only if it is there within its limit.
 pub(crate) fn head_lines<T: Tree>(
     store: &mut T,
+    further: Option<NewCodes>,
     folder: &Folder,
     declared: Declared,
-) -> Result<(PlaceLines, Option<Table>), Fault>
+) -> Result<HeadReading, Fault>
     ensures fit { IfOk result (λ p. IfSome p.1 (λ t. IsFit t)) }
     ensures place { IfOk result (λ p. p.0.place ≡ folder.now.place) }
     ensures told { IfTold T.told (T.state store.old) (λ root.
         IsDeclared root folder.now.place folder.now.entries.items declared
-        → IfOk result (IsHeadOf root folder.now.place)) }
+        → IfOk result (IsHeadOf further root folder.now.place)) }
     ensures opened { IfTold T.told (T.state store.old) (λ root.
         IsDeclared root folder.now.place folder.now.entries.items declared
-        → OpensJust root (T.state store.old) (T.state store.new) folder.now.place
+        → OpensJust further root (T.state store.old) (T.state store.new) folder.now.place
         (head_files root folder.now.place (object_declared root folder.now.place)) result) }
 {
     let Declared::One(version) = declared else {
         let lines = stopped_lines(folder, Level::Object, declared)?;
-        return Ok((lines, None));
+        return Ok((lines, None, None));
     };
     let mut lines = PlaceLines::new(folder.alloc(), folder.place.try_clone()?);
     add_declaration_file(store, folder, &mut lines, version)?;
-    let table = add_inventory_file(store, folder, &mut lines)?;
+    let (table, root) = add_inventory_file(store, further, folder, &mut lines)?;
     add_clean(&mut lines)?;
-    Ok((lines, table))
+    add_root_note(&mut lines, further, &root)?;
+    Ok((lines, table, root))
 }
 
 /// The table of an inventory, if nothing stops.
@@ -216,8 +228,8 @@ pub fn table_of_object<T: Tree>(
         IsObject root folder.now.place folder.now.entries.items
         → IfOk result (λ table. table ≡ table_at root folder.now.place)) }
     ensures opened { IfTold T.told (T.state store.old) (λ root.
-        IsObject root folder.now.place folder.now.entries.items
-        → OpensJust root (T.state store.old) (T.state store.new) folder.now.place
+        (further : Further) → IsObject root folder.now.place folder.now.entries.items
+        → OpensJust further root (T.state store.old) (T.state store.new) folder.now.place
         (inventory_name ∷ []) result) }
     ensures fit { IfOk result (λ o. IfSome o (λ t. IsFit t)) }
 {

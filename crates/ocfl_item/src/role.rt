@@ -6,7 +6,7 @@ ghost use Rattle.ocfl_inventory.specs.Declaration.{is_declaration};
 ghost use Rattle.ocfl_inventory.specs.ListedPath.{is_version_name as is_version_text};
 ghost use Rattle.ocfl_inventory.specs.Table.{Table as TableOf};
 ghost use Rattle.ocfl_inventory.specs.declared.declaration.Level.TheVariants as level;
-ghost use Rattle.ocfl_rules.specs.Zone.{inside, table_at, zone};
+ghost use Rattle.ocfl_rules.specs.{Inventories.{Further}, Zone.{inside, table_at, zone}};
 ghost use Rattle.ocfl_rules.specs.Lines.{is_inventory_or_sidecar as is_beside_inventory};
 ghost use Rattle.ocfl_item.specs.{Around.{IsMet}, Internal.Visiting.{HasRole, IsEntryAt}};
 
@@ -32,8 +32,8 @@ pub(crate) enum Role {
 /// The role of an entry of a directory of the storage hierarchy (OCFL 1.1, 4.3 Storage
 /// Hierarchies).
 pub(crate) fn role_in_hierarchy(place: &Place, entry: &Entry) -> Role
-    ensures { (root : StorageRoot) (d : ModelPlace) → IsMet root d None entry.now place.now
-        → HasRole root place.now result }
+    ensures { (further : Further) (root : StorageRoot) (d : ModelPlace)
+        → IsMet root d None entry.now place.now → HasRole further root place.now result }
 {
     let above = place.depth().saturating_sub(1);
     match entry.kind {
@@ -67,9 +67,10 @@ fn is_left_alone(name: &str) -> bool
 
 /// The role of an entry of an object's root (OCFL 1.1, 3.1 Object Structure).
 pub(crate) fn role_in_object(entry: &Entry) -> Role
-    ensures { (root : StorageRoot) (e : ModelPlace) → IsEntryAt root e entry.now.kind
+    ensures { (further : Further) (root : StorageRoot) (e : ModelPlace)
+        → IsEntryAt root e entry.now.kind
         → (o : ModelPlace) (t : TableOf) → zone root e ≡ inside o (entry.now.name ∷ [])
-        → table_at root o ≡ Some t → HasRole root e result }
+        → table_at root o ≡ Some t → HasRole further root e result }
 {
     let name = entry.name.as_str();
     match entry.kind {
@@ -87,7 +88,7 @@ pub(crate) fn role_in_version(entry: &Entry, table: &Table) -> Role
     ensures { (root : StorageRoot) (e : ModelPlace) → IsEntryAt root e entry.now.kind
         → (o : ModelPlace) (version : Text) → zone root e ≡ inside o (version ∷ entry.now.name ∷ [])
         → table_at root o ≡ Some table.now → is_version_text version ≡ true
-        → HasRole root e result }
+        → HasRole None root e result }
 {
     let name = entry.name.as_str();
     match entry.kind {

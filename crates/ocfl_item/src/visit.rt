@@ -4,6 +4,7 @@ ghost use Rattle.ocfl_tree.specs.{Place.{Place as ModelPlace}, StorageRoot.{Stor
 ghost use Rattle.ocfl_tree.specs.{Listing.{IsOrdinary}, Store.{IfTold}};
 ghost use Rattle.ocfl_inventory.specs.{Note.{plain}, Table.{Table as TableOf, named as digests_of}};
 ghost use Rattle.ocfl_inventory.specs.TripleView.{named_view};
+ghost use Rattle.ocfl_rules.specs.Inventories.{Further};
 ghost use Rattle.ocfl_rules.specs.Zone.{is_listed_zone, max_listed_depth, zone};
 ghost use Rattle.ocfl_rules.specs.{Lines.{listed_dir_notes}, Walk.{seen_names}};
 ghost use Rattle.ocfl_item.specs.Internal.Ways.{IsDeclared};
@@ -19,10 +20,12 @@ use crate::lines::PlaceLines;
 use crate::object::head_lines;
 use crate::pending::Pending;
 use crate::role::Role;
+use crate::root::RootInventory;
 use crate::sight::Sight;
 use ocfl_inventory::declaration::declaration;
 use ocfl_inventory::{Declared, Level, Named, Table};
 use ocfl_report::Code;
+use ocfl_rules::further::NewCodes;
 use ocfl_tree::{Entry, Kind, Place, Tree};
 use std::alloc::{AllocError, Global};
 
@@ -35,6 +38,8 @@ pub struct Visit {
     pub folder: Option<Folder>,
     /// Its table, if it is an object whose head does not stop.
     pub table: Option<Table>,
+    /// What its root inventory is, if that is asked for and it has a table.
+    pub root: Option<RootInventory>,
 }
 
 impl Visit {
@@ -43,11 +48,13 @@ impl Visit {
         ensures item { result.item ≡ item }
         ensures folder { result.folder ≡ None }
         ensures table { result.table ≡ None }
+        ensures root { result.root ≡ None }
     {
         Visit {
             item,
             folder: None,
             table: None,
+            root: None,
         }
     }
 
@@ -56,11 +63,13 @@ impl Visit {
         ensures item { result.item ≡ item }
         ensures folder { result.folder ≡ Some folder }
         ensures table { result.table ≡ None }
+        ensures root { result.root ≡ None }
     {
         Visit {
             item,
             folder: Some(folder),
             table: None,
+            root: None,
         }
     }
 }
@@ -68,8 +77,9 @@ impl Visit {
 /// A place that has one line, whose detail is a dash.
 fn visit_plain(alloc: Global, place: Place, code: Code) -> Result<Visit, AllocError>
     ensures fair { IfOk result (λ v. IsFairVisit place v) }
-    ensures told { (root : StorageRoot) → IsPlainAt root place (plain code ∷ [])
-        → seen_names root place ≡ [] → IfOk result (λ v. IsVisit root place v) }
+    ensures told { (further : Further) (root : StorageRoot)
+        → IsPlainAt further root place (plain code ∷ [])
+        → seen_names root place ≡ [] → IfOk result (λ v. IsVisit further root place v) }
 {
     let lines = PlaceLines::plain(alloc, place, code)?;
     Ok(Visit::of_item(Some(Pending::of_lines(lines))))
@@ -79,8 +89,9 @@ fn visit_plain(alloc: Global, place: Place, code: Code) -> Result<Visit, AllocEr
 fn visit_listed<T: Tree>(alloc: Global, store: &mut T, place: Place) -> Result<Visit, Fault>
     ensures fair { IfOk result (λ v. IsFairVisit place v) }
     ensures told { IfTold T.told (T.state store.old) (λ root.
-        IsListedAt root place → IsPlainAt root place (listed_dir_notes root place [])
-        → Visits root (T.state store.old) (T.state store.new) place result) }
+        (further : Further) → IsListedAt root place
+        → IsPlainAt further root place (listed_dir_notes root place [])
+        → Visits further root (T.state store.old) (T.state store.new) place result) }
 {
     if place.depth() > MAX_LISTED_DEPTH {
         return Ok(visit_plain(alloc, place, Code::S05)?);
@@ -90,20 +101,26 @@ fn visit_listed<T: Tree>(alloc: Global, store: &mut T, place: Place) -> Result<V
 }
 
 /// An object: its head, and what is below if that does not stop.
-fn visit_object<T: Tree>(store: &mut T, folder: Folder, declared: Declared) -> Result<Visit, Fault>
+fn visit_object<T: Tree>(
+    store: &mut T,
+    further: Option<NewCodes>,
+    folder: Folder,
+    declared: Declared,
+) -> Result<Visit, Fault>
     ensures fair { length folder.place ≤ max_listed_depth → IsOrdinary folder.entries.items
         → IfOk result (λ v. IsFairVisit folder.place v) }
     ensures told { IfTold T.told (T.state store.old) (λ root.
         IsDeclared root folder.place folder.entries.items declared
-        → VisitsHead root (T.state store.old) (T.state store.new) folder.place result) }
+        → VisitsHead further root (T.state store.old) (T.state store.new) folder.place result) }
 {
-    let (lines, table) = head_lines(store, &folder, declared)?;
+    let (lines, table, root) = head_lines(store, further, &folder, declared)?;
     let item = Some(Pending::of_lines(lines));
     match table {
         Some(table) => Ok(Visit {
             item,
             folder: Some(folder),
             table: Some(table),
+            root,
         }),
         None => Ok(Visit::of_item(item)),
     }
@@ -113,9 +130,9 @@ fn visit_object<T: Tree>(store: &mut T, folder: Folder, declared: Declared) -> R
 fn visit_undeclared(folder: Folder) -> Result<Visit, AllocError>
     ensures fair { length folder.place ≤ max_listed_depth → IsOrdinary folder.entries.items
         → IfOk result (λ v. IsFairVisit folder.place v) }
-    ensures told { (root : StorageRoot)
+    ensures told { (further : Further) (root : StorageRoot)
         → IsUndeclaredAt root folder.place folder.entries.items
-        → IfOk result (λ v. IsVisit root folder.place v) }
+        → IfOk result (λ v. IsVisit further root folder.place v) }
 {
     if folder.entries.is_empty() {
         return visit_plain(folder.alloc(), folder.place, Code::E073);
@@ -124,11 +141,16 @@ fn visit_undeclared(folder: Folder) -> Result<Visit, AllocError>
 }
 
 /// A directory of the storage hierarchy, or an object in it.
-fn visit_directory<T: Tree>(alloc: Global, store: &mut T, place: Place) -> Result<Visit, Fault>
+fn visit_directory<T: Tree>(
+    alloc: Global,
+    store: &mut T,
+    further: Option<NewCodes>,
+    place: Place,
+) -> Result<Visit, Fault>
     ensures fair { IfOk result (λ v. IsFairVisit place v) }
     ensures told { IfTold T.told (T.state store.old) (λ root.
         IsDirectoryAt root place
-        → Visits root (T.state store.old) (T.state store.new) place result) }
+        → Visits further root (T.state store.old) (T.state store.new) place result) }
 {
     if place.depth() > MAX_LISTED_DEPTH {
         return Ok(visit_plain(alloc, place, Code::S05)?);
@@ -136,7 +158,7 @@ fn visit_directory<T: Tree>(alloc: Global, store: &mut T, place: Place) -> Resul
     let folder = list(store, place)?;
     match declaration(&folder.entries, Level::Object) {
         Declared::None => Ok(visit_undeclared(folder)?),
-        declared => visit_object(store, folder, declared),
+        declared => visit_object(store, further, folder, declared),
     }
 }
 
@@ -144,19 +166,20 @@ fn visit_directory<T: Tree>(alloc: Global, store: &mut T, place: Place) -> Resul
 pub(crate) fn visit_by_role<T: Tree>(
     alloc: Global,
     store: &mut T,
+    further: Option<NewCodes>,
     place: Place,
     role: Role,
 ) -> Result<Visit, Fault>
     ensures fair { IfOk result (λ v. IsFairVisit place v) }
     ensures told { IfTold T.told (T.state store.old) (λ root.
-        HasRole root place role
-        → Visits root (T.state store.old) (T.state store.new) place result) }
+        HasRole further root place role
+        → Visits further root (T.state store.old) (T.state store.new) place result) }
 {
     match role {
         Role::LeftAlone => Ok(Visit::of_item(None)),
         Role::Plain(code) => Ok(visit_plain(alloc, place, code)?),
         Role::Listed => visit_listed(alloc, store, place),
-        Role::Directory => visit_directory(alloc, store, place),
+        Role::Directory => visit_directory(alloc, store, further, place),
     }
 }
 
@@ -168,10 +191,10 @@ fn visit_unentered(
     sight: Sight,
 ) -> Result<Visit, AllocError>
     ensures fair { IfOk result (λ v. IsFairVisit place v) }
-    ensures told { (root : StorageRoot) (t : TableOf) (q : ModelPlace)
+    ensures told { (further : Further) (root : StorageRoot) (t : TableOf) (q : ModelPlace)
         → content_at root place ≡ Some (t, q)
         → map named_view named.items ≡ digests_of t q → IsSight root place sight
-        → seen_names root place ≡ [] → IfOk result (λ v. IsVisit root place v) }
+        → seen_names root place ≡ [] → IfOk result (λ v. IsVisit further root place v) }
 {
     Ok(Visit::of_item(content_item(alloc, place, named, sight)?))
 }
@@ -185,9 +208,9 @@ fn visit_content_directory<T: Tree>(
 ) -> Result<Visit, Fault>
     ensures fair { IfOk result (λ v. IsFairVisit place v) }
     ensures told { IfTold T.told (T.state store.old) (λ root.
-        IsListedAt root place → (t : TableOf) (q : ModelPlace)
+        (further : Further) → IsListedAt root place → (t : TableOf) (q : ModelPlace)
         → content_at root place ≡ Some (t, q) → map named_view named.items ≡ digests_of t q
-        → Visits root (T.state store.old) (T.state store.new) place result) }
+        → Visits further root (T.state store.old) (T.state store.new) place result) }
 {
     if place.depth() > MAX_LISTED_DEPTH {
         return Ok(visit_unentered(alloc, place, named, Sight::DeepDir)?);
@@ -212,10 +235,11 @@ pub(crate) fn visit_in_content<T: Tree>(
 ) -> Result<Visit, Fault>
     ensures fair { IfOk result (λ v. IsFairVisit place v) }
     ensures told { IfTold T.told (T.state store.old) (λ root.
-        IsEntryAt root place entry.now.kind → is_listed_zone root (zone root place) ≡ true
+        (further : Further) → IsEntryAt root place entry.now.kind
+        → is_listed_zone root (zone root place) ≡ true
         → (t : TableOf) (q : ModelPlace) → content_at root place ≡ Some (t, q)
         → map named_view named.items ≡ digests_of t q
-        → Visits root (T.state store.old) (T.state store.new) place result) }
+        → Visits further root (T.state store.old) (T.state store.new) place result) }
 {
     match entry.kind {
         Kind::File => Ok(visit_unentered(alloc, place, named, Sight::File)?),

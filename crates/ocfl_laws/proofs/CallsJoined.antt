@@ -173,7 +173,7 @@ module _ (root : StorageRoot) (e : PartEnds) where
         runs = run_of c k.ran ∷ later.runs;
         are = one_more k.from (run_of c k.ran) later.runs k.well k.back.ended (subst (λ x. AreRuns root (part_between e) x later.runs) same later.are);
         reports = ap (λ x. c.report ++ x) later.reports;
-        opened = ap (λ x. content_trail root c.opened ++ x) later.opened;
+        opened = ap (λ x. content_trail None root c.opened ++ x) later.opened;
         limits = ap (λ x. limits_of c.limits ∷ x) later.limits;
         count = ap suc later.count;
       }
@@ -202,14 +202,14 @@ module _ (root : StorageRoot) (e : PartEnds) where
     anew : place_in made.from.state ≡ None
     anew = fresh stored made.from begins made.begins
 
-    pub calls_report : written_by calls ≡ text (within (part_between e) (audit root []))
+    pub calls_report : written_by calls ≡ text (within (part_between e) (audit None root []))
     calls_report = sym made.reports ∙ part_reports root (part_between e) made.from made.runs anew made.are
 
-    pub calls_open : content_opened root calls ≡ hashed_among root (places_within (part_between e) (item_places root))
+    pub calls_open : content_opened root calls ≡ hashed_among None root (places_within (part_between e) (item_places None root))
     calls_open = sym made.opened ∙ part_opened root (part_between e) made.from made.runs anew made.are
 
     pub calls_few : (b n : ℕ) → 1 ≤ b → 1 ≤ n → All (IsAtLeast b n) (limits_given calls)
-        → length calls ≤ total_cost (within (part_between e) (audit root [])) / b + total_files (within (part_between e) (audit root [])) / n + 1
+        → length calls ≤ total_cost (within (part_between e) (audit None root [])) / b + total_files (within (part_between e) (audit None root [])) / n + 1
     calls_few b n p q large =
         let few = part_runs root (part_between e) made.from made.runs anew made.are b n p q (subst (All (IsAtLeast b n)) (sym made.limits) large) in
         let count = made.count in
@@ -219,24 +219,24 @@ module _ (root : StorageRoot) (e : PartEnds) where
 
 module _ (root : StorageRoot) where
   reports_each : (ds : List CalledCycle) → AllByRecursion (IsCalledCycle root) ds
-      → flat_map (λ d. written_by d.calls) ds ≡ flat_map (λ part. text (within part (audit root []))) (map part_between (map (λ d. d.ends) ds))
+      → flat_map (λ d. written_by d.calls) ds ≡ flat_map (λ part. text (within part (audit None root []))) (map part_between (map (λ d. d.ends) ds))
   reports_each [] h = refl
   reports_each (d ∷ ds) h = ap (λ x. x ++ flat_map (λ d. written_by d.calls) ds) (calls_report root d.ends d.stored d.calls h.0.begins h.0.are)
-      ∙ ap (λ x. text (within (part_between d.ends) (audit root [])) ++ x) (reports_each ds h.1)
+      ∙ ap (λ x. text (within (part_between d.ends) (audit None root [])) ++ x) (reports_each ds h.1)
 
   opened_each : (ds : List CalledCycle) → AllByRecursion (IsCalledCycle root) ds
-      → flat_map (λ d. content_opened root d.calls) ds ≡ flat_map (λ part. hashed_among root (places_within part (item_places root))) (map part_between (map (λ d. d.ends) ds))
+      → flat_map (λ d. content_opened root d.calls) ds ≡ flat_map (λ part. hashed_among None root (places_within part (item_places None root))) (map part_between (map (λ d. d.ends) ds))
   opened_each [] h = refl
   opened_each (d ∷ ds) h = ap (λ x. x ++ flat_map (λ d. content_opened root d.calls) ds) (calls_open root d.ends d.stored d.calls h.0.begins h.0.are)
-      ∙ ap (λ x. hashed_among root (places_within (part_between d.ends) (item_places root)) ++ x) (opened_each ds h.1)
+      ∙ ap (λ x. hashed_among None root (places_within (part_between d.ends) (item_places None root)) ++ x) (opened_each ds h.1)
 
   module _ (b : Text) (ds : List CalledCycle) (all : AreAllFrom b 1 (map (λ d. d.ends) ds)) (done : AllByRecursion (IsCalledCycle root) ds) where
-    pub called_reports : flat_map (λ d. written_by d.calls) ds ≡ text (audit root [])
+    pub called_reports : flat_map (λ d. written_by d.calls) ds ≡ text (audit None root [])
     called_reports =
         let parts = all_parts b (map (λ d. d.ends) ds) all in
-        reports_each ds done ∙ ap (flat_map (λ part. text (within part (audit root [])))) parts.1.1 ∙ texts_join root parts.0 parts.1.0.separators.ascend []
+        reports_each ds done ∙ ap (flat_map (λ part. text (within part (audit None root [])))) parts.1.1 ∙ texts_join None root parts.0 parts.1.0.separators.ascend []
 
-    pub called_opened : flat_map (λ d. content_opened root d.calls) ds ≡ hashed_among root (item_places root)
+    pub called_opened : flat_map (λ d. content_opened root d.calls) ds ≡ hashed_among None root (item_places None root)
     called_opened =
         let parts = all_parts b (map (λ d. d.ends) ds) all in
-        opened_each ds done ∙ ap (flat_map (λ part. hashed_among root (places_within part (item_places root)))) parts.1.1 ∙ hashed_join root parts.0 parts.1.0.separators.ascend
+        opened_each ds done ∙ ap (flat_map (λ part. hashed_among None root (places_within part (item_places None root)))) parts.1.1 ∙ hashed_join None root parts.0 parts.1.0.separators.ascend

@@ -188,16 +188,16 @@ module _ (root : StorageRoot) (e : PartEnds) where
     anew = fresh root e stored made.from begins made.begins
 
     pub made_reports : (last : Cursor) → BeginsPartWith e (bytes_stored (stored_last stored calls)) last
-        → reports_of (runs_made calls) ++ text (left_by last.state (within (part_between e) (audit root unread_all))) ≡ text (within (part_between e) (audit root unread_all))
+        → reports_of (runs_made calls) ++ text (left_by last.state (within (part_between e) (audit None root unread_all))) ≡ text (within (part_between e) (audit None root unread_all))
     made_reports last there =
-        ap (λ x. reports_of (runs_made calls) ++ text (left_by x.state (within (part_between e) (audit root unread_all)))) (made.last_is last there)
+        ap (λ x. reports_of (runs_made calls) ++ text (left_by x.state (within (part_between e) (audit None root unread_all)))) (made.last_is last there)
         ∙ reports_and_rest root (part_between e) made.from (runs_made calls) anew made.are
 
-    pub made_whole : SayEnded calls → reports_of (runs_made calls) ≡ text (within (part_between e) (audit root unread_all))
+    pub made_whole : SayEnded calls → reports_of (runs_made calls) ≡ text (within (part_between e) (audit None root unread_all))
     made_whole says = reports_whole root (part_between e) made.from (runs_made calls) anew made.are (made.ends says)
 
     pub made_few : (b n : ℕ) → 1 ≤ b → 1 ≤ n → All (IsAtLeast b n) (map (λ r. r.limits) (runs_made calls))
-        → unstopped (runs_made calls) ≤ total_cost (within (part_between e) (audit root unread_all)) / b + total_files (within (part_between e) (audit root unread_all)) / n + 1
+        → unstopped (runs_made calls) ≤ total_cost (within (part_between e) (audit None root unread_all)) / b + total_files (within (part_between e) (audit None root unread_all)) / n + 1
     made_few = runs_few root (part_between e) made.from (runs_made calls) anew made.are
 
 -- ---- all parts
@@ -225,8 +225,8 @@ module _ (root : StorageRoot) where
       }
 
   pub made_parts : (b : Text) (ds : List MadeCycle) → AreAllFrom b 1 (map (λ d. d.ends) ds) → AllByRecursion (IsMadeCycle root) ds
-      → flat_map (λ d. reports_of (runs_made d.calls)) ds ≡ text (audit root (flat_map (λ d. unread_together root (runs_made d.calls)) ds))
+      → flat_map (λ d. reports_of (runs_made d.calls)) ds ≡ text (audit None root (flat_map (λ d. unread_together root (runs_made d.calls)) ds))
   made_parts b ds all done =
       let there = all_parts b (map (λ d. d.ends) ds) all in
       let m = cycles_of ds done in
-      sym m.reports ∙ parts_reports root there.0 m.cycles there.1.0.separators.ascend (m.parts ∙ there.1.1) m.are ∙ ap (λ u. text (audit root u)) m.unread
+      sym m.reports ∙ parts_reports root there.0 m.cycles there.1.0.separators.ascend (m.parts ∙ there.1.1) m.are ∙ ap (λ u. text (audit None root u)) m.unread

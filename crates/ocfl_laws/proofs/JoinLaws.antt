@@ -26,12 +26,12 @@ use Rattle.ocfl_scrub.proofs.ChainLaws.{place_there}
 module _ (root : StorageRoot) (part : Part) where
   -- what the part has above a place
   abbrev pub above : Option Place → List Item
-  above from = after (within part (audit root [])) from
+  above from = after (within part (audit None root [])) from
 
   -- what a run took and left, if no failure was counted
   record Step (c : Cursor) (r : PartRun) (next last : Option Place) : Type 0 where
     wrote : r.report ≡ text (cut (above (place_in c.state)) r.limits)
-    opened : content_trail root r.opened ≡ hashed_among root (places (cut (above (place_in c.state)) r.limits))
+    opened : content_trail None root r.opened ≡ hashed_among None root (places (cut (above (place_in c.state)) r.limits))
     next_is : next ≡ slice_get (places (left (above (place_in c.state)) r.limits)) 0
     goes_on : above last ≡ left (above (place_in c.state)) r.limits
 
@@ -39,13 +39,13 @@ module _ (root : StorageRoot) (part : Part) where
       → RunsWithin (known_call root w.before w.behind w.old (w.old ++ r.report)) part (place_in c.state) last r.limits r.ran.spent r.ran.files r.ran.found next → Step c r next last
   step c r next last w h =
       let from : Option Place = place_in c.state in
-      let none : unread_of root h.trail ≡ [] = none_left (unread_of root h.trail) w.before.failures (sym w.unfailing ∙ h.looks.audits.did.failures_are) in
+      let none : unread_of None root h.trail ≡ [] = none_left (unread_of None root h.trail) w.before.failures (sym w.unfailing ∙ h.looks.audits.did.failures_are) in
       let same_trail : r.opened ≡ h.trail = append_cancel_left w.before.openings r.opened h.trail (sym w.opened_is ∙ h.looks.audits.did.openings_are) in
-      let last_is : last ≡ last_or from (places (cut (above from) r.limits)) = h.last_is ∙ ap (λ u. last_or from (places (cut (after (within part (audit root u)) from) r.limits))) none in
+      let last_is : last ≡ last_or from (places (cut (above from) r.limits)) = h.last_is ∙ ap (λ u. last_or from (places (cut (after (within part (audit None root u)) from) r.limits))) none in
       record {
-        wrote = append_cancel_left w.old r.report (text (cut (above from) r.limits)) (h.wrote ∙ ap (λ u. w.old ++ text (cut (after (within part (audit root u)) from) r.limits)) none);
-        opened = ap (content_trail root) same_trail ∙ h.looks.audits.opened ∙ ap (λ u. hashed_among root (places (cut (after (within part (audit root u)) from) r.limits))) none;
-        next_is = h.next_is ∙ ap (λ u. slice_get (places (left (after (within part (audit root u)) from) r.limits)) 0) none;
+        wrote = append_cancel_left w.old r.report (text (cut (above from) r.limits)) (h.wrote ∙ ap (λ u. w.old ++ text (cut (after (within part (audit None root u)) from) r.limits)) none);
+        opened = ap (content_trail None root) same_trail ∙ h.looks.audits.opened ∙ ap (λ u. hashed_among None root (places (cut (after (within part (audit None root u)) from) r.limits))) none;
+        next_is = h.next_is ∙ ap (λ u. slice_get (places (left (after (within part (audit None root u)) from) r.limits)) 0) none;
         goes_on = ap above last_is ∙ after_front root [] part from (cut (above from) r.limits) (left (above from) r.limits) (sym (cut_and_left (above from) r.limits));
       }
 
@@ -72,7 +72,7 @@ module _ (root : StorageRoot) (part : Part) where
   -- what the runs wrote and opened together
   pub record Took (from : Option Place) (rs : List PartRun) : Type 0 where
     pub reports : reports_of rs ≡ text (above from)
-    pub opened : opened_by root rs ≡ hashed_among root (places (above from))
+    pub opened : opened_by root rs ≡ hashed_among None root (places (above from))
     pub count : length (runs (above from) (map (λ r. r.limits) rs)) ≡ length rs
 
   pub took_all : (c : Cursor) (rs : List PartRun) → AreRuns root part c rs → Took (place_in c.state) rs
@@ -84,7 +84,7 @@ module _ (root : StorageRoot) (part : Part) where
       let all : cut (above from) r.limits ≡ above from = sym (append-nil (cut (above from) r.limits)) ∙ ap (λ is. cut (above from) r.limits ++ is) (sym none) ∙ cut_and_left (above from) r.limits in
       record {
         reports = append-nil r.report ∙ k.wrote ∙ ap text all;
-        opened = append-nil (content_trail root r.opened) ∙ k.opened ∙ ap (λ is. hashed_among root (places is)) all;
+        opened = append-nil (content_trail None root r.opened) ∙ k.opened ∙ ap (λ is. hashed_among None root (places is)) all;
         count = refl;
       }
   took_all c (r ∷ q ∷ rs) h =
@@ -98,18 +98,18 @@ module _ (root : StorageRoot) (part : Part) where
       let some : is_empty rest ≡ false = some_item rest k.next k.took.next_is in
       record {
         reports = ap (λ x. x ++ reports_of (q ∷ rs)) k.took.wrote ∙ ap (λ x. text first ++ x) (later.reports ∙ ap text k.there) ∙ sym (text_append first rest) ∙ ap text both;
-        opened = ap (λ x. x ++ opened_by root (q ∷ rs)) k.took.opened ∙ ap (λ x. hashed_among root (places first) ++ x) (later.opened ∙ ap (λ is. hashed_among root (places is)) k.there)
-            ∙ sym (hashed_append root (places first) (places rest)) ∙ ap (hashed_among root) (sym (map-append (λ i. i.place) first rest)) ∙ ap (λ is. hashed_among root (places is)) both;
+        opened = ap (λ x. x ++ opened_by root (q ∷ rs)) k.took.opened ∙ ap (λ x. hashed_among None root (places first) ++ x) (later.opened ∙ ap (λ is. hashed_among None root (places is)) k.there)
+            ∙ sym (hashed_append None root (places first) (places rest)) ∙ ap (hashed_among None root) (sym (map-append (λ i. i.place) first rest)) ∙ ap (λ is. hashed_among None root (places is)) both;
         count = ap (λ xs. length (first ∷ xs)) (runs_go_on rest ls some) ∙ ap suc (ap (λ is. length (runs is ls)) (sym k.there) ∙ later.count);
       }
 
   -- ---- from the first item on
 
   -- those of a part's places
-  pub places_are : places (within part (audit root [])) ≡ places_within part (item_places root)
-  places_are = ap places (within_by_places root [] part) ∙ same (places_within part (item_places root))
+  pub places_are : places (within part (audit None root [])) ≡ places_within part (item_places None root)
+  places_are = ap places (within_by_places None root [] part) ∙ same (places_within part (item_places None root))
     where
-      same : (ps : List Place) → places (map (item_of root []) ps) ≡ ps
+      same : (ps : List Place) → places (map (item_of None root []) ps) ≡ ps
       same [] = refl
       same (p ∷ ps) = ap (λ qs. p ∷ qs) (same ps)
 
@@ -117,34 +117,34 @@ module _ (root : StorageRoot) (part : Part) where
     took_part : Took None rs
     took_part = subst (λ from. Took from rs) fresh (took_all c rs h)
 
-    pub part_reports : reports_of rs ≡ text (within part (audit root []))
+    pub part_reports : reports_of rs ≡ text (within part (audit None root []))
     part_reports = took_part.reports
 
-    pub part_opened : opened_by root rs ≡ hashed_among root (places_within part (item_places root))
-    part_opened = took_part.opened ∙ ap (hashed_among root) places_are
+    pub part_opened : opened_by root rs ≡ hashed_among None root (places_within part (item_places None root))
+    part_opened = took_part.opened ∙ ap (hashed_among None root) places_are
 
     pub part_runs : (b n : ℕ) → 1 ≤ b → 1 ≤ n → All (IsAtLeast b n) (map (λ r. r.limits) rs)
-        → length rs ≤ total_cost (within part (audit root [])) / b + total_files (within part (audit root [])) / n + 1
-    part_runs b n p q large = let m = large_few b n p q (map (λ r. r.limits) rs) (within part (audit root [])) large in let e = took_part.count in omega (arith, m, e)
+        → length rs ≤ total_cost (within part (audit None root [])) / b + total_files (within part (audit None root [])) / n + 1
+    part_runs b n p q large = let m = large_few b n p q (map (λ r. r.limits) rs) (within part (audit None root [])) large in let e = took_part.count in omega (arith, m, e)
 
 -- ---- all parts
 
 module _ (root : StorageRoot) where
-  each_report : (ds : List PartCycle) → AllByRecursion (IsPartCycle root) ds → flat_map (λ d. reports_of d.runs) ds ≡ flat_map (λ part. text (within part (audit root []))) (map (λ d. d.part) ds)
+  each_report : (ds : List PartCycle) → AllByRecursion (IsPartCycle root) ds → flat_map (λ d. reports_of d.runs) ds ≡ flat_map (λ part. text (within part (audit None root []))) (map (λ d. d.part) ds)
   each_report [] h = refl
   each_report (d ∷ ds) h = ap (λ x. x ++ flat_map (λ e. reports_of e.runs) ds) (part_reports root d.part d.first d.runs h.0.begins h.0.are)
-      ∙ ap (λ x. text (within d.part (audit root [])) ++ x) (each_report ds h.1)
+      ∙ ap (λ x. text (within d.part (audit None root [])) ++ x) (each_report ds h.1)
 
   each_opened : (ds : List PartCycle) → AllByRecursion (IsPartCycle root) ds
-      → flat_map (λ d. opened_by root d.runs) ds ≡ flat_map (λ part. hashed_among root (places_within part (item_places root))) (map (λ d. d.part) ds)
+      → flat_map (λ d. opened_by root d.runs) ds ≡ flat_map (λ part. hashed_among None root (places_within part (item_places None root))) (map (λ d. d.part) ds)
   each_opened [] h = refl
   each_opened (d ∷ ds) h = ap (λ x. x ++ flat_map (λ e. opened_by root e.runs) ds) (part_opened root d.part d.first d.runs h.0.begins h.0.are)
-      ∙ ap (λ x. hashed_among root (places_within d.part (item_places root)) ++ x) (each_opened ds h.1)
+      ∙ ap (λ x. hashed_among None root (places_within d.part (item_places None root)) ++ x) (each_opened ds h.1)
 
   module _ (separators : List Place) (ds : List PartCycle) (up : IsAscending place_cmp separators) (are : map (λ d. d.part) ds ≡ parts_of separators)
       (done : AllByRecursion (IsPartCycle root) ds) where
-    pub all_reports : flat_map (λ d. reports_of d.runs) ds ≡ text (audit root [])
-    all_reports = each_report ds done ∙ ap (flat_map (λ part. text (within part (audit root [])))) are ∙ texts_join root separators up []
+    pub all_reports : flat_map (λ d. reports_of d.runs) ds ≡ text (audit None root [])
+    all_reports = each_report ds done ∙ ap (flat_map (λ part. text (within part (audit None root [])))) are ∙ texts_join None root separators up []
 
-    pub all_opened : flat_map (λ d. opened_by root d.runs) ds ≡ hashed_among root (item_places root)
-    all_opened = each_opened ds done ∙ ap (flat_map (λ part. hashed_among root (places_within part (item_places root)))) are ∙ hashed_join root separators up
+    pub all_opened : flat_map (λ d. opened_by root d.runs) ds ≡ hashed_among None root (item_places None root)
+    all_opened = each_opened ds done ∙ ap (flat_map (λ part. hashed_among None root (places_within part (item_places None root)))) are ∙ hashed_join None root separators up

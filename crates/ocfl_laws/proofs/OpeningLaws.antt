@@ -4,8 +4,10 @@ use Rattle.ocfl_tree.specs.{Place.{Place}, Ascending.{IsAmong}, StorageRoot.{Sto
 use Rattle.ocfl_tree.specs.declared.store.Opening.{Opening}
 use Rattle.ocfl_tree.proofs.Orders.{among_filter, among_from_filter, among_left, among_map}
 use Rattle.ocfl_tree.proofs.Stores.{among_either}
-use Rattle.ocfl_rules.specs.{Due.{hashed_among}, Lines.{is_hashed}}
-use Rattle.ocfl_rules.specs.{Parts.{Part, lies_in, places_within}, Runs.{Limits}}
+use Rattle.ocfl_rules.specs.Due.{hashed_among}
+use Rattle.ocfl_rules.specs.Inventories.{is_hashed}
+use Rattle.ocfl_rules.specs.Parts.{Part, lies_in, places_within}
+use Rattle.ocfl_rules.specs.Runs.{Limits}
 use Rattle.ocfl_rules.specs.Trail.{is_meta, content_openings, content_trail}
 use Rattle.ocfl_rules.specs.Between.{looked_between}
 use Rattle.ocfl_rules.proofs.PartLaws.{places_within_is}
@@ -24,26 +26,26 @@ use Rattle.ocfl_scrub.specs.declared.checking.AuditStatus.TheVariants as end
 use Rattle.ocfl_scrub.specs.declared.running.RunStatus.TheVariants as run
 use Rattle.ocfl_scrub.proofs.WayOrder.{way_is}
 
-from_hashed : (root : StorageRoot) (ps : List Place) (p : Place) → IsAmong (hashed_among root ps) p → IsAmong ps p × (is_hashed root p ≡ true)
+from_hashed : (root : StorageRoot) (ps : List Place) (p : Place) → IsAmong (hashed_among None root ps) p → IsAmong ps p × (is_hashed None root p ≡ true)
 unfolding hashed_among
-from_hashed root ps p i = among_from_filter (is_hashed root) ps p i
+from_hashed root ps p i = among_from_filter (is_hashed None root) ps p i
 
 -- content is hashed, and metadata is near
-near_or_among : (root : StorageRoot) (ps listed : List Place) (trail : List Opening) → content_trail root trail ≡ hashed_among root ps → LieIn root listed trail → (o : Opening)
-    → IsAmong trail o → IsAmong (hashed_among root ps) o.place ⊎ LiesIn listed o.place
-near_or_among root ps listed trail opened near o i = by (is_meta root o.place) refl
+near_or_among : (root : StorageRoot) (ps listed : List Place) (trail : List Opening) → content_trail None root trail ≡ hashed_among None root ps → LieIn None root listed trail → (o : Opening)
+    → IsAmong trail o → IsAmong (hashed_among None root ps) o.place ⊎ LiesIn listed o.place
+near_or_among root ps listed trail opened near o i = by (is_meta None root o.place) refl
   where
-    by : (b : Bool) → is_meta root o.place ≡ b → IsAmong (hashed_among root ps) o.place ⊎ LiesIn listed o.place
+    by : (b : Bool) → is_meta None root o.place ≡ b → IsAmong (hashed_among None root ps) o.place ⊎ LiesIn listed o.place
     by true e = inr (near o i e)
     by false e =
-        let content : IsAmong (content_openings root trail) o = among_filter (λ x. not (is_meta root x.place)) trail o i (ap not e) in
-        inl (subst (λ l. IsAmong l o.place) opened (among_map (λ x. x.place) (content_openings root trail) o content))
+        let content : IsAmong (content_openings None root trail) o = among_filter (λ x. not (is_meta None root x.place)) trail o i (ap not e) in
+        inl (subst (λ l. IsAmong l o.place) opened (among_map (λ x. x.place) (content_openings None root trail) o content))
 
-all_near : (root : StorageRoot) (ps listed : List Place) (trail : List Opening) → content_trail root trail ≡ hashed_among root ps → LieIn root listed trail
+all_near : (root : StorageRoot) (ps listed : List Place) (trail : List Opening) → content_trail None root trail ≡ hashed_among None root ps → LieIn None root listed trail
     → FilesLieIn root ps listed → (o : Opening) → IsAmong trail o → LiesIn listed o.place
 all_near root ps listed trail opened near files o i = by (near_or_among root ps listed trail opened near o i)
   where
-    by : IsAmong (hashed_among root ps) o.place ⊎ LiesIn listed o.place → LiesIn listed o.place
+    by : IsAmong (hashed_among None root ps) o.place ⊎ LiesIn listed o.place → LiesIn listed o.place
     by (inl j) = let k = from_hashed root ps o.place j in files o.place k.0 k.1
     by (inr j) = j
 

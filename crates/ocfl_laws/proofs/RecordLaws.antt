@@ -71,13 +71,13 @@ fewer xs ys n e h = let same : length xs ≡ length ys = ap length e in omega (a
 pub check_wrote : (root : StorageRoot) (s t : Store) (before written : List ℕ) (p : Place) (item finding : Bool)
     → Checks (known_call root s t before written) p item finding → (trail : List Opening)
     × ((t.openings ≡ s.openings ++ trail)
-    × ((t.failures ≡ s.failures + length (unread_of root trail))
-    × ((written ≡ before ++ text (item_at root (unread_of root trail) p))
-    × ((item ≡ not (is_empty (item_at root (unread_of root trail) p))) × (finding ≡ found (item_at root (unread_of root trail) p))))))
+    × ((t.failures ≡ s.failures + length (unread_of None root trail))
+    × ((written ≡ before ++ text (item_at None root (unread_of None root trail) p))
+    × ((item ≡ not (is_empty (item_at None root (unread_of None root trail) p))) × (finding ≡ found (item_at None root (unread_of None root trail) p))))))
 check_wrote root s t before written p item finding h = (h.trail, (h.audits.did.openings_are, (h.audits.did.failures_are, (h.wrote, (h.item_is, h.found_is)))))
 
 pub check_opened : (call : Call) (p : Place) (item finding : Bool) → Checks call p item finding → (trail : List Opening)
-    × ((call.after.openings ≡ call.before.openings ++ trail) × ((content_trail call.root trail ≡ hashed_among call.root (p ∷ [])) × (AllPairs (λ a b. a.place ≢ b.place) trail)))
+    × ((call.after.openings ≡ call.before.openings ++ trail) × ((content_trail None call.root trail ≡ hashed_among None call.root (p ∷ [])) × (AllPairs (λ a b. a.place ≢ b.place) trail)))
 check_opened call p item finding h = (h.trail, (h.audits.did.openings_are, (h.audits.opened, h.just.once)))
 
 pub check_listed : (call : Call) (p : Place) (item finding : Bool) → Checks call p item finding → (listed : List Place)
@@ -91,14 +91,14 @@ check_read call p item finding h = (h.trail, (h.just.heads_front.0, (h.audits.di
 pub stopped_check_wrote : (root : StorageRoot) (s t : Store) (before written : List ℕ) (p : Place) (why : ReportStop)
     → CheckStops (known_call root s t before written) p why → (trail : List Opening)
     × ((gone : ℕ) × ((t.openings ≡ s.openings ++ trail)
-    × ((written ≡ before ++ take gone (text (item_at root (unread_of root trail) p)))
-    × ((why ≡ halt.Output → gone < length (text (item_at root (unread_of root trail) p))) × (why ≢ halt.Output → gone ≡ 0)))))
+    × ((written ≡ before ++ take gone (text (item_at None root (unread_of None root trail) p)))
+    × ((why ≡ halt.Output → gone < length (text (item_at None root (unread_of None root trail) p))) × (why ≢ halt.Output → gone ≡ 0)))))
 stopped_check_wrote root s t before written p why h = (h.trail, (h.part_of.gone, (h.fails.did.openings_are, ((h.wrote ∙ ap (λ u. before ++ u) h.part_of.is), (h.part_of.proper, h.part_of.none)))))
 
 pub stopped_check_opened : (call : Call) (p : Place) (why : ReportStop) → CheckStops call p why → (trail : List Opening)
     × ((begun : List Place) × ((rest : List Place)
     × ((call.after.openings ≡ call.before.openings ++ trail)
-    × ((p ∷ [] ≡ begun ++ rest) × ((content_trail call.root trail ≡ hashed_among call.root begun) × (AllPairs (λ a b. a.place ≢ b.place) trail))))))
+    × ((p ∷ [] ≡ begun ++ rest) × ((content_trail None call.root trail ≡ hashed_among None call.root begun) × (AllPairs (λ a b. a.place ≢ b.place) trail))))))
 stopped_check_opened call p why h = (h.trail, (h.begun, (h.one.0, (h.fails.did.openings_are, (h.one.1, (h.fails.opened, h.just.once))))))
 
 pub stopped_check_listed : (call : Call) (p : Place) (why : ReportStop) → CheckStops call p why → (listed : List Place)
@@ -107,7 +107,7 @@ stopped_check_listed call p why h = (h.listed, (h.just.listed_front.0, (h.fails.
 
 pub stopped_check_read : (call : Call) (p : Place) (why : ReportStop) → CheckStops call p why → (trail : List Opening)
     × ((rest : List Place) × ((call.after.openings ≡ call.before.openings ++ trail)
-    × ((call.after.failures ≡ call.before.failures + (length (unread_of call.root trail) + failures_at (stop_place why))) × (holder call.root (Some p) ≡ heads_of call.root trail ++ rest))))
+    × ((call.after.failures ≡ call.before.failures + (length (unread_of None call.root trail) + failures_at (stop_place why))) × (holder call.root (Some p) ≡ heads_of call.root trail ++ rest))))
 stopped_check_read call p why h =
     (h.trail, (h.just.heads_front.0, (h.fails.did.openings_are, (h.fails.did.failures_are, (h.just.heads_front.1 ∙ ap (λ l. l ++ h.just.heads_front.0) (sym h.fails.heads_are))))))
 
@@ -116,18 +116,18 @@ stopped_check_read call p why h =
 pub audit_wrote : (root : StorageRoot) (s t : Store) (before written : List ℕ) (last : Option Place) (finding : Bool)
     → AuditsAll (known_call root s t before written) last finding → (trail : List Opening)
     × ((t.openings ≡ s.openings ++ trail)
-    × ((t.failures ≡ s.failures + length (unread_of root trail)) × ((written ≡ before ++ text (audit root (unread_of root trail))) × (finding ≡ found (audit root (unread_of root trail))))))
+    × ((t.failures ≡ s.failures + length (unread_of None root trail)) × ((written ≡ before ++ text (audit None root (unread_of None root trail))) × (finding ≡ found (audit None root (unread_of None root trail))))))
 audit_wrote root s t before written last finding h = (h.trail, (h.looks.audits.did.openings_are, (h.looks.audits.did.failures_are, (h.wrote, h.found_is))))
 
 pub audit_opened : (call : Call) (last : Option Place) (finding : Bool) → AuditsAll call last finding → (trail : List Opening)
     × ((call.after.openings ≡ call.before.openings ++ trail)
-    × ((content_trail call.root trail ≡ hashed_among call.root (item_places call.root)) × (heads_of call.root trail ≡ read_between call.root None None)))
+    × ((content_trail None call.root trail ≡ hashed_among None call.root (item_places None call.root)) × (heads_of call.root trail ≡ read_between call.root None None)))
 audit_opened call last finding h = (
   h.trail,
   (
     h.looks.audits.did.openings_are,
     (
-      h.looks.audits.opened ∙ ap (hashed_among call.root) (all_places call.root h.trail),
+      h.looks.audits.opened ∙ ap (hashed_among None call.root) (all_places call.root h.trail),
       h.looks.audits.heads_are ∙ ap (λ l. l ++ read_between call.root None None) (nothing_front h.looks.held h.looks.held_front),
     ),
   ),
@@ -137,14 +137,14 @@ pub audit_listed : (call : Call) (last : Option Place) (finding : Bool) → Audi
 audit_listed call last finding h =
     h.looks.audits.did.listings_are ∙ ap (λ l. call.before.listings ++ (l ++ looked_between call.root None None)) (nothing_front h.looks.down h.looks.down_front)
 
-pub audit_ended_at : (call : Call) (last : Option Place) (finding : Bool) (front : List Place) (p : Place) → AuditsAll call last finding → item_places call.root ≡ front ++ p ∷ [] → last ≡ Some p
+pub audit_ended_at : (call : Call) (last : Option Place) (finding : Bool) (front : List Place) (p : Place) → AuditsAll call last finding → item_places None call.root ≡ front ++ p ∷ [] → last ≡ Some p
 audit_ended_at call last finding front p h e = h.last_is ∙ ap (last_or None) (all_places call.root h.trail ∙ e) ∙ last_append None front p
 
 pub stopped_audit_wrote : (root : StorageRoot) (s t : Store) (before written : List ℕ) (last : Option Place) (finding : Bool) (why : ReportStop)
     → AuditStops (known_call root s t before written) last finding why → (trail : List Opening)
     × ((whole : List Item) × ((others : List Item)
     × ((gone : ℕ) × ((t.openings ≡ s.openings ++ trail)
-    × ((audit root (unread_of root trail) ≡ whole ++ others)
+    × ((audit None root (unread_of None root trail) ≡ whole ++ others)
     × ((written ≡ before ++ (text whole ++ take gone (text (take 1 others))))
     × ((why ≡ halt.Output → gone < length (text (take 1 others))) × ((why ≢ halt.Output → gone ≡ 0) × (finding ≡ found whole)))))))))
 stopped_audit_wrote root s t before written last finding why h = (h.trail, stop_wrote before h.stops h.looks.fails.did.openings_are (λ whole. finding ≡ found whole) h.found_is)
@@ -153,8 +153,8 @@ pub stopped_audit_opened : (call : Call) (last : Option Place) (finding : Bool) 
     × ((whole : List Item) × ((others : List Item)
     × ((begun : List Place) × ((rest : List Place)
     × ((call.after.openings ≡ call.before.openings ++ trail)
-    × ((audit call.root (unread_of call.root trail) ≡ whole ++ others)
-    × ((map (λ i. i.place) (take 1 others) ≡ begun ++ rest) × (content_trail call.root trail ≡ hashed_among call.root (map (λ i. i.place) whole ++ begun)))))))))
+    × ((audit None call.root (unread_of None call.root trail) ≡ whole ++ others)
+    × ((map (λ i. i.place) (take 1 others) ≡ begun ++ rest) × (content_trail None call.root trail ≡ hashed_among None call.root (map (λ i. i.place) whole ++ begun)))))))))
 stopped_audit_opened call last finding why h =
     (h.trail, (h.stops.whole, (h.stops.others, (h.stops.begun, (h.stops.one.0, (h.looks.fails.did.openings_are, (h.stops.items_are, (h.stops.one.1, h.looks.fails.opened))))))))
 
@@ -170,7 +170,7 @@ stopped_audit_listed call last finding why h = (
 
 pub stopped_audit_read : (call : Call) (last : Option Place) (finding : Bool) (why : ReportStop) → AuditStops call last finding why → (trail : List Opening)
     × ((rest : List Place) × ((call.after.openings ≡ call.before.openings ++ trail)
-    × ((call.after.failures ≡ call.before.failures + (length (unread_of call.root trail) + failures_at (stop_place why))) × (read_between call.root None None ≡ heads_of call.root trail ++ rest))))
+    × ((call.after.failures ≡ call.before.failures + (length (unread_of None call.root trail) + failures_at (stop_place why))) × (read_between call.root None None ≡ heads_of call.root trail ++ rest))))
 stopped_audit_read call last finding why h =
     let read : heads_of call.root h.trail ≡ h.looks.heads = h.looks.fails.heads_are ∙ ap (λ l. l ++ h.looks.heads) (nothing_front h.looks.held h.looks.held_front) in (
       h.trail,
@@ -182,17 +182,17 @@ stopped_audit_read call last finding why h =
 pub run_wrote : (root : StorageRoot) (s t : Store) (before written : List ℕ) (from last next : Option Place) (limits : Limits) (spent files : ℕ)
     (finding : Bool) → Runs (known_call root s t before written) from last limits spent files finding next → (trail : List Opening)
     × ((t.openings ≡ s.openings ++ trail)
-    × ((t.failures ≡ s.failures + length (unread_of root trail))
-    × ((written ≡ before ++ text (cut (after (audit root (unread_of root trail)) from) limits))
-    × ((spent ≡ total_cost (cut (after (audit root (unread_of root trail)) from) limits))
-    × ((files ≡ total_files (cut (after (audit root (unread_of root trail)) from) limits)) × (finding ≡ found (cut (after (audit root (unread_of root trail)) from) limits)))))))
+    × ((t.failures ≡ s.failures + length (unread_of None root trail))
+    × ((written ≡ before ++ text (cut (after (audit None root (unread_of None root trail)) from) limits))
+    × ((spent ≡ total_cost (cut (after (audit None root (unread_of None root trail)) from) limits))
+    × ((files ≡ total_files (cut (after (audit None root (unread_of None root trail)) from) limits)) × (finding ≡ found (cut (after (audit None root (unread_of None root trail)) from) limits)))))))
 run_wrote root s t before written from last next limits spent files finding h =
     (h.trail, (h.looks.audits.did.openings_are, (h.looks.audits.did.failures_are, (h.wrote, (h.figures.spent_is, (h.figures.files_is, h.figures.found_is))))))
 
 pub run_opened : (call : Call) (from last next : Option Place) (limits : Limits) (spent files : ℕ) (finding : Bool)
     → Runs call from last limits spent files finding next → (trail : List Opening)
     × ((call.after.openings ≡ call.before.openings ++ trail)
-    × (content_trail call.root trail ≡ hashed_among call.root (map (λ i. i.place) (cut (after (audit call.root (unread_of call.root trail)) from) limits))))
+    × (content_trail None call.root trail ≡ hashed_among None call.root (map (λ i. i.place) (cut (after (audit None call.root (unread_of None call.root trail)) from) limits))))
 run_opened call from last next limits spent files finding h = (h.trail, (h.looks.audits.did.openings_are, h.looks.audits.opened))
 
 pub run_listed : (call : Call) (from last next : Option Place) (limits : Limits) (spent files : ℕ) (finding : Bool)
@@ -215,23 +215,23 @@ run_read call from last next limits spent files finding h =
 pub run_went_to : (call : Call) (from last next : Option Place) (limits : Limits) (spent files : ℕ) (finding : Bool)
     → Runs call from last limits spent files finding next → (trail : List Opening)
     × ((call.after.openings ≡ call.before.openings ++ trail)
-    × ((left (after (audit call.root (unread_of call.root trail)) from) limits ≡ [] → next ≡ None)
-    × ((i : Item) (items : List Item) → left (after (audit call.root (unread_of call.root trail)) from) limits ≡ i ∷ items → next ≡ Some i.place)))
+    × ((left (after (audit None call.root (unread_of None call.root trail)) from) limits ≡ [] → next ≡ None)
+    × ((i : Item) (items : List Item) → left (after (audit None call.root (unread_of None call.root trail)) from) limits ≡ i ∷ items → next ≡ Some i.place)))
 run_went_to call from last next limits spent files finding h =
     (h.trail, (h.looks.audits.did.openings_are, ((λ e. h.next_is ∙ ap (λ xs. slice_get (places xs) 0) e), λ i items e. h.next_is ∙ ap (λ xs. slice_get (places xs) 0) e)))
 
 pub run_ended_at : (call : Call) (from last next : Option Place) (limits : Limits) (spent files : ℕ) (finding : Bool)
     → Runs call from last limits spent files finding next → (trail : List Opening)
     × ((call.after.openings ≡ call.before.openings ++ trail)
-    × ((cut (after (audit call.root (unread_of call.root trail)) from) limits ≡ [] → last ≡ from)
-    × ((front : List Item) (i : Item) → cut (after (audit call.root (unread_of call.root trail)) from) limits ≡ front ++ i ∷ [] → last ≡ Some i.place)))
+    × ((cut (after (audit None call.root (unread_of None call.root trail)) from) limits ≡ [] → last ≡ from)
+    × ((front : List Item) (i : Item) → cut (after (audit None call.root (unread_of None call.root trail)) from) limits ≡ front ++ i ∷ [] → last ≡ Some i.place)))
 run_ended_at call from last next limits spent files finding h = (h.trail, (h.looks.audits.did.openings_are, last_said from last _ h.last_is))
 
 pub stopped_run_wrote : (root : StorageRoot) (s t : Store) (before written : List ℕ) (from last : Option Place) (limits : Limits) (spent files : ℕ)
     (finding : Bool) (why : ReportStop) → RunStops (known_call root s t before written) from last limits spent files finding why → (trail : List Opening)
     × ((whole : List Item) × ((others : List Item)
     × ((gone : ℕ) × ((t.openings ≡ s.openings ++ trail)
-    × ((cut (after (audit root (unread_of root trail)) from) limits ≡ whole ++ others)
+    × ((cut (after (audit None root (unread_of None root trail)) from) limits ≡ whole ++ others)
     × ((written ≡ before ++ (text whole ++ take gone (text (take 1 others))))
     × ((why ≡ halt.Output → gone < length (text (take 1 others))) × ((why ≢ halt.Output → gone ≡ 0) × ((spent ≡ total_cost whole) × ((files ≡ total_files whole) × (finding ≡ found whole)))))))))))
 stopped_run_wrote root s t before written from last limits spent files finding why h =
@@ -242,8 +242,8 @@ pub stopped_run_opened : (call : Call) (from last : Option Place) (limits : Limi
     × ((whole : List Item) × ((others : List Item)
     × ((begun : List Place) × ((rest : List Place)
     × ((call.after.openings ≡ call.before.openings ++ trail)
-    × ((cut (after (audit call.root (unread_of call.root trail)) from) limits ≡ whole ++ others)
-    × ((map (λ i. i.place) (take 1 others) ≡ begun ++ rest) × (content_trail call.root trail ≡ hashed_among call.root (map (λ i. i.place) whole ++ begun)))))))))
+    × ((cut (after (audit None call.root (unread_of None call.root trail)) from) limits ≡ whole ++ others)
+    × ((map (λ i. i.place) (take 1 others) ≡ begun ++ rest) × (content_trail None call.root trail ≡ hashed_among None call.root (map (λ i. i.place) whole ++ begun)))))))))
 stopped_run_opened call from last limits spent files finding why h =
     (h.trail, (h.stops.whole, (h.stops.others, (h.stops.begun, (h.stops.one.0, (h.looks.fails.did.openings_are, (h.stops.items_are, (h.stops.one.1, h.looks.fails.opened))))))))
 
@@ -261,7 +261,7 @@ pub stopped_run_read : (call : Call) (from last : Option Place) (limits : Limits
     × ((held : List Place) × ((below : List Place)
     × ((heads : List Place) × ((rest : List Place)
     × ((call.after.openings ≡ call.before.openings ++ trail)
-    × ((call.after.failures ≡ call.before.failures + (length (unread_of call.root trail) + failures_at (stop_place why)))
+    × ((call.after.failures ≡ call.before.failures + (length (unread_of None call.root trail) + failures_at (stop_place why)))
     × ((heads_of call.root trail ≡ held ++ heads) × ((holder call.root from ≡ held ++ below) × ((read_between call.root from None ≡ heads ++ rest) × (IsAscending place_cmp (held ++ heads)))))))))))
 stopped_run_read call from last limits spent files finding why h = (
   h.trail,
@@ -284,7 +284,7 @@ pub stopped_run_ended_at : (call : Call) (from last : Option Place) (limits : Li
     → RunStops call from last limits spent files finding why → (trail : List Opening)
     × ((whole : List Item) × ((others : List Item)
     × ((call.after.openings ≡ call.before.openings ++ trail)
-    × ((cut (after (audit call.root (unread_of call.root trail)) from) limits ≡ whole ++ others)
+    × ((cut (after (audit None call.root (unread_of None call.root trail)) from) limits ≡ whole ++ others)
     × ((spent ≡ total_cost whole) × ((whole ≡ [] → last ≡ from) × ((front : List Item) (i : Item) → whole ≡ front ++ i ∷ [] → last ≡ Some i.place)))))))
 stopped_run_ended_at call from last limits spent files finding why h =
     (h.trail, (h.stops.whole, (h.stops.others, (h.looks.fails.did.openings_are, (h.stops.items_are, (h.figures.spent_is, last_said from last h.stops.whole h.stops.last_is))))))
@@ -294,17 +294,17 @@ stopped_run_ended_at call from last limits spent files finding why h =
 pub cycle_wrote : (root : StorageRoot) (s t : Store) (before written : List ℕ) (last : Option Place) (limits : List Limits) (spent files : ℕ) (finding : Bool)
     (count : ℕ) (whole : Bool) → Cycles (known_call root s t before written) last limits spent files finding count whole → (trail : List Opening)
     × ((t.openings ≡ s.openings ++ trail)
-    × ((t.failures ≡ s.failures + length (unread_of root trail))
-    × ((written ≡ before ++ text (joined (runs (audit root (unread_of root trail)) limits)))
-    × ((spent ≡ total_cost (joined (runs (audit root (unread_of root trail)) limits)))
-    × ((files ≡ total_files (joined (runs (audit root (unread_of root trail)) limits))) × (finding ≡ found (joined (runs (audit root (unread_of root trail)) limits))))))))
+    × ((t.failures ≡ s.failures + length (unread_of None root trail))
+    × ((written ≡ before ++ text (joined (runs (audit None root (unread_of None root trail)) limits)))
+    × ((spent ≡ total_cost (joined (runs (audit None root (unread_of None root trail)) limits)))
+    × ((files ≡ total_files (joined (runs (audit None root (unread_of None root trail)) limits))) × (finding ≡ found (joined (runs (audit None root (unread_of None root trail)) limits))))))))
 cycle_wrote root s t before written last limits spent files finding count whole h =
     (h.trail, (h.audits.did.openings_are, (h.audits.did.failures_are, (h.wrote, (h.figures.spent_is, (h.figures.files_is, h.figures.found_is))))))
 
 pub cycle_opened : (call : Call) (last : Option Place) (limits : List Limits) (spent files : ℕ) (finding : Bool) (count : ℕ) (whole : Bool)
     → Cycles call last limits spent files finding count whole → (trail : List Opening)
     × ((call.after.openings ≡ call.before.openings ++ trail)
-    × ((content_trail call.root trail ≡ hashed_among call.root (map (λ i. i.place) (joined (runs (audit call.root (unread_of call.root trail)) limits))))
+    × ((content_trail None call.root trail ≡ hashed_among None call.root (map (λ i. i.place) (joined (runs (audit None call.root (unread_of None call.root trail)) limits))))
     × (1 ≤ count → length (heads_of call.root trail) < length (inventories call.root) + count)))
 cycle_opened call last limits spent files finding count whole h =
     (h.trail, (h.audits.did.openings_are, (h.audits.opened, λ some. fewer _ _ _ h.audits.heads_are (few_inventories call.root count h.heads (h.inventories_read some)))))
@@ -312,31 +312,31 @@ cycle_opened call last limits spent files finding count whole h =
 pub cycle_ended : (call : Call) (last : Option Place) (limits : List Limits) (spent files : ℕ) (finding : Bool) (count : ℕ) (whole : Bool)
     → Cycles call last limits spent files finding count whole → (trail : List Opening)
     × ((call.after.openings ≡ call.before.openings ++ trail)
-    × ((count ≡ length (runs (audit call.root (unread_of call.root trail)) limits))
-    × ((whole ≡ true → joined (runs (audit call.root (unread_of call.root trail)) limits) ≡ audit call.root (unread_of call.root trail))
-    × (joined (runs (audit call.root (unread_of call.root trail)) limits) ≡ audit call.root (unread_of call.root trail) → whole ≡ true))))
+    × ((count ≡ length (runs (audit None call.root (unread_of None call.root trail)) limits))
+    × ((whole ≡ true → joined (runs (audit None call.root (unread_of None call.root trail)) limits) ≡ audit None call.root (unread_of None call.root trail))
+    × (joined (runs (audit None call.root (unread_of None call.root trail)) limits) ≡ audit None call.root (unread_of None call.root trail) → whole ≡ true))))
 cycle_ended call last limits spent files finding count whole h =
     (h.trail, (h.audits.did.openings_are, (h.count_is, ((λ e. (h.ends_is.0 e).1), λ e. h.ends_is.1 (some_run call.root limits count h.trail h.count_is e, e)))))
 
 pub cycle_took_few : (call : Call) (last : Option Place) (limits : List Limits) (spent files : ℕ) (finding : Bool) (count : ℕ) (whole : Bool) (b n : ℕ)
     → Cycles call last limits spent files finding count whole → 1 ≤ b → 1 ≤ n → All (IsAtLeast b n) limits → (trail : List Opening)
     × ((call.after.openings ≡ call.before.openings ++ trail)
-    × ((count ≤ total_cost (audit call.root (unread_of call.root trail)) / b + total_files (audit call.root (unread_of call.root trail)) / n + 1)
-    × (total_cost (audit call.root (unread_of call.root trail)) / b + total_files (audit call.root (unread_of call.root trail)) / n + 1 ≤ length limits → whole ≡ true)))
+    × ((count ≤ total_cost (audit None call.root (unread_of None call.root trail)) / b + total_files (audit None call.root (unread_of None call.root trail)) / n + 1)
+    × (total_cost (audit None call.root (unread_of None call.root trail)) / b + total_files (audit None call.root (unread_of None call.root trail)) / n + 1 ≤ length limits → whole ≡ true)))
 cycle_took_few call last limits spent files finding count whole b n h some more large = (h.trail, (h.audits.did.openings_are, (h.few b n some more large, h.suffice b n some more large)))
 
 pub cycle_by_sum : (call : Call) (last : Option Place) (limits : List Limits) (spent files : ℕ) (finding : Bool) (count : ℕ) (whole : Bool) (k : ℕ)
     → Cycles call last limits spent files finding count whole → 1 ≤ k → k ≤ length limits → (trail : List Opening)
     × ((call.after.openings ≡ call.before.openings ++ trail)
-    × (FilesFit (audit call.root (unread_of call.root trail)) limits
-    → total_cost (audit call.root (unread_of call.root trail)) ≤ sum_of (take k (map (λ l. l.budget) limits)) → (whole ≡ true) × (count ≤ k)))
+    × (FilesFit (audit None call.root (unread_of None call.root trail)) limits
+    → total_cost (audit None call.root (unread_of None call.root trail)) ≤ sum_of (take k (map (λ l. l.budget) limits)) → (whole ≡ true) × (count ≤ k)))
 cycle_by_sum call last limits spent files finding count whole k h some enough_limits = (h.trail, (h.audits.did.openings_are, h.by_sum k some enough_limits))
 
 pub cycle_ended_at : (call : Call) (last : Option Place) (limits : List Limits) (spent files : ℕ) (finding : Bool) (count : ℕ) (whole : Bool)
     → Cycles call last limits spent files finding count whole → (trail : List Opening)
     × ((call.after.openings ≡ call.before.openings ++ trail)
-    × ((joined (runs (audit call.root (unread_of call.root trail)) limits) ≡ [] → last ≡ None)
-    × ((front : List Item) (i : Item) → joined (runs (audit call.root (unread_of call.root trail)) limits) ≡ front ++ i ∷ [] → last ≡ Some i.place)))
+    × ((joined (runs (audit None call.root (unread_of None call.root trail)) limits) ≡ [] → last ≡ None)
+    × ((front : List Item) (i : Item) → joined (runs (audit None call.root (unread_of None call.root trail)) limits) ≡ front ++ i ∷ [] → last ≡ Some i.place)))
 cycle_ended_at call last limits spent files finding count whole h = (h.trail, (h.audits.did.openings_are, last_said None last _ h.last_is))
 
 pub stopped_cycle_wrote : (root : StorageRoot) (s t : Store) (before written : List ℕ) (last : Option Place) (limits : List Limits) (spent files : ℕ)
@@ -344,7 +344,7 @@ pub stopped_cycle_wrote : (root : StorageRoot) (s t : Store) (before written : L
     → (trail : List Opening) × ((whole : List Item)
     × ((others : List Item) × ((gone : ℕ)
     × ((t.openings ≡ s.openings ++ trail)
-    × ((joined (take count (runs (audit root (unread_of root trail)) limits)) ≡ whole ++ others)
+    × ((joined (take count (runs (audit None root (unread_of None root trail)) limits)) ≡ whole ++ others)
     × ((written ≡ before ++ (text whole ++ take gone (text (take 1 others))))
     × ((why ≡ halt.Output → gone < length (text (take 1 others))) × ((why ≢ halt.Output → gone ≡ 0) × ((spent ≡ total_cost whole) × ((files ≡ total_files whole) × (finding ≡ found whole)))))))))))
 stopped_cycle_wrote root s t before written last limits spent files finding count why h =
@@ -354,8 +354,8 @@ pub stopped_cycle_counted : (call : Call) (last : Option Place) (limits : List L
     → CycleStops call last limits spent files finding count why → (trail : List Opening)
     × ((whole : List Item) × ((rest : List Item)
     × ((call.after.openings ≡ call.before.openings ++ trail)
-    × ((1 ≤ count) × ((count ≤ length (runs (audit call.root (unread_of call.root trail)) limits))
-    × ((spent ≡ total_cost whole) × ((whole ≡ joined (take (count - 1) (runs (audit call.root (unread_of call.root trail)) limits)) ++ rest)
+    × ((1 ≤ count) × ((count ≤ length (runs (audit None call.root (unread_of None call.root trail)) limits))
+    × ((spent ≡ total_cost whole) × ((whole ≡ joined (take (count - 1) (runs (audit None call.root (unread_of None call.root trail)) limits)) ++ rest)
     × (length (heads_of call.root trail) < length (inventories call.root) + count))))))))
 stopped_cycle_counted call last limits spent files finding count why h = (
   h.trail,
@@ -373,9 +373,9 @@ pub stopped_cycle_opened : (call : Call) (last : Option Place) (limits : List Li
     × ((whole : List Item) × ((others : List Item)
     × ((begun : List Place) × ((rest : List Place)
     × ((call.after.openings ≡ call.before.openings ++ trail)
-    × ((call.after.failures ≡ call.before.failures + (length (unread_of call.root trail) + failures_at (stop_place why)))
-    × ((joined (take count (runs (audit call.root (unread_of call.root trail)) limits)) ≡ whole ++ others)
-    × ((map (λ i. i.place) (take 1 others) ≡ begun ++ rest) × (content_trail call.root trail ≡ hashed_among call.root (map (λ i. i.place) whole ++ begun))))))))))
+    × ((call.after.failures ≡ call.before.failures + (length (unread_of None call.root trail) + failures_at (stop_place why)))
+    × ((joined (take count (runs (audit None call.root (unread_of None call.root trail)) limits)) ≡ whole ++ others)
+    × ((map (λ i. i.place) (take 1 others) ≡ begun ++ rest) × (content_trail None call.root trail ≡ hashed_among None call.root (map (λ i. i.place) whole ++ begun))))))))))
 stopped_cycle_opened call last limits spent files finding count why h =
     (h.trail, (h.stops.whole, (h.stops.others, (h.stops.begun, (h.stops.one.0, (h.fails.did.openings_are, (h.fails.did.failures_are, (h.stops.items_are, (h.stops.one.1, h.fails.opened)))))))))
 
@@ -500,23 +500,23 @@ cursor_of_a_stopped_cycle call limits c finding why h = (h.last, (h.cycle, state
 -- ---- without failures
 
 pub clean_end : (root : StorageRoot) (s t : Store) (before written : List ℕ) (c : Cursor) (limits : Limits) (spent files : ℕ) (finding : Bool)
-    → RunsCleanly (known_call root s t before written) c limits spent files finding run.Ended → (left (after (audit root []) (place_in c.state)) limits ≡ [])
-    × ((written ≡ before ++ text (cut (after (audit root []) (place_in c.state)) limits))
-    × ((spent ≡ total_cost (cut (after (audit root []) (place_in c.state)) limits))
-    × ((files ≡ total_files (cut (after (audit root []) (place_in c.state)) limits)) × (finding ≡ found (cut (after (audit root []) (place_in c.state)) limits)))))
+    → RunsCleanly (known_call root s t before written) c limits spent files finding run.Ended → (left (after (audit None root []) (place_in c.state)) limits ≡ [])
+    × ((written ≡ before ++ text (cut (after (audit None root []) (place_in c.state)) limits))
+    × ((spent ≡ total_cost (cut (after (audit None root []) (place_in c.state)) limits))
+    × ((files ≡ total_files (cut (after (audit None root []) (place_in c.state)) limits)) × (finding ≡ found (cut (after (audit None root []) (place_in c.state)) limits)))))
 clean_end root s t before written c limits spent files finding h = (h.1, (h.0.wrote, (h.0.figures.spent_is, (h.0.figures.files_is, h.0.figures.found_is))))
 
 pub clean_limits : (root : StorageRoot) (s t : Store) (before written : List ℕ) (c : Cursor) (limits : Limits) (spent files : ℕ) (finding : Bool)
-    → RunsCleanly (known_call root s t before written) c limits spent files finding run.Spent → (left (after (audit root []) (place_in c.state)) limits ≢ [])
-    × ((written ≡ before ++ text (cut (after (audit root []) (place_in c.state)) limits))
-    × ((spent ≡ total_cost (cut (after (audit root []) (place_in c.state)) limits))
-    × ((files ≡ total_files (cut (after (audit root []) (place_in c.state)) limits)) × (finding ≡ found (cut (after (audit root []) (place_in c.state)) limits)))))
+    → RunsCleanly (known_call root s t before written) c limits spent files finding run.Spent → (left (after (audit None root []) (place_in c.state)) limits ≢ [])
+    × ((written ≡ before ++ text (cut (after (audit None root []) (place_in c.state)) limits))
+    × ((spent ≡ total_cost (cut (after (audit None root []) (place_in c.state)) limits))
+    × ((files ≡ total_files (cut (after (audit None root []) (place_in c.state)) limits)) × (finding ≡ found (cut (after (audit None root []) (place_in c.state)) limits)))))
 clean_limits root s t before written c limits spent files finding h = (h.1, (h.0.wrote, (h.0.figures.spent_is, (h.0.figures.files_is, h.0.figures.found_is))))
 
-pub clean_count : (call : Call) (limits : List Limits) (count : ℕ) → HeadlineOf call limits count cycle.Spent → count ≡ length (runs (audit call.root []) limits)
+pub clean_count : (call : Call) (limits : List Limits) (count : ℕ) → HeadlineOf call limits count cycle.Spent → count ≡ length (runs (audit None call.root []) limits)
 clean_count call limits count h = h.each_run
 
-pub clean_whole_count : (call : Call) (limits : List Limits) (count : ℕ) → HeadlineOf call limits count cycle.Ended → count ≡ length (runs (audit call.root []) limits)
+pub clean_whole_count : (call : Call) (limits : List Limits) (count : ℕ) → HeadlineOf call limits count cycle.Ended → count ≡ length (runs (audit None call.root []) limits)
 clean_whole_count call limits count h = h.each_run
 
 -- ---- commands
@@ -527,7 +527,7 @@ audit_performed call known status n stored h = (h.audits.ran, (h.audits.audits, 
 
 pub clean_audit_performed : (known : Option (Option (List ℕ))) (root : StorageRoot) (s t : Store) (before written : List ℕ) (status : ℕ) (n : Note)
     (stored : Option (Vec ℕ Global)) → Performs (known_call root s t before written) known deed.Audit status n stored → n ≡ note.Nothing
-    → t.failures ≡ s.failures → (written ≡ before ++ text (audit root [])) × (status ≡ status_of (found (audit root [])))
+    → t.failures ≡ s.failures → (written ≡ before ++ text (audit None root [])) × (status ≡ status_of (found (audit None root [])))
 clean_audit_performed known root s t before written status n stored h e f = h.clean e f
 
 -- what a command did in other words, unless memory ran out before it did anything

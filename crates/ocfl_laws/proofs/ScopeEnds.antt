@@ -68,7 +68,7 @@ no_items (i ∷ items) e = absurd (last_of_more i.place (places items) e)
 
 -- the items of a branch, as the audit that ended could read them
 abbrev Ended : Call → Place → (List Item → Type 0) → Type 0
-Ended call p holds = (trail : List Opening) × ((call.after.openings ≡ call.before.openings ++ trail) × holds (within (branch p) (audit call.root (unread_of call.root trail))))
+Ended call p holds = (trail : List Opening) × ((call.after.openings ≡ call.before.openings ++ trail) × holds (within (branch p) (audit None call.root (unread_of None call.root trail))))
 
 module _ (call : Call) (p : Place) (status : ℕ) where
   pub no_item : BranchAudited call p status note.EmptyBranch → Ended call p (λ items. items ≡ [])

@@ -77,7 +77,7 @@ abbrev pub written_by : List PartCall → Text
 written_by calls = flat_map (λ c. c.report) calls
 
 abbrev pub content_opened : StorageRoot → List PartCall → List Place
-content_opened root calls = flat_map (λ c. content_trail root c.opened) calls
+content_opened root calls = flat_map (λ c. content_trail None root c.opened) calls
 
 abbrev pub limits_given : List PartCall → List Limits
 limits_given calls = map (λ c. limits_of c.limits) calls

@@ -24,7 +24,7 @@ AreRuns root part c (r ∷ q ∷ runs) = RanWell root part c r × ((r.ran.end �
 
 -- what they opened together
 abbrev pub opened_by : StorageRoot → List PartRun → List Place
-opened_by root runs = flat_map (λ r. content_trail root r.opened) runs
+opened_by root runs = flat_map (λ r. content_trail None root r.opened) runs
 
 -- the runs of a cycle begin with the part's first item and end with the cycle
 pub record IsPartCycle (root : StorageRoot) (d : PartCycle) : Type 0 where

@@ -5,10 +5,13 @@ ghost use Rattle.ocfl_tree.specs.{Place.{Place, place_cmp}, Ascending.{IsAmong, 
 ghost use Rattle.ocfl_tree.specs.{StorageRoot.{StorageRoot}, Store.{Store}};
 ghost use Rattle.ocfl_tree.specs.declared.store.Opening.{Opening};
 ghost use Rattle.ocfl_report.specs.{Line.{Item}, Text.{text}};
-ghost use Rattle.ocfl_rules.specs.{Audit.{audit, total_cost}, Parts.{Part}};
+ghost use Rattle.ocfl_rules.specs.Audit.{audit, total_cost};
+ghost use Rattle.ocfl_rules.specs.Parts.{Part};
 ghost use Rattle.ocfl_rules.specs.Runs.{IsAtLeast, Limits, joined, runs, total_files};
-ghost use Rattle.ocfl_rules.specs.{Trail.{content_trail}, Between.{looked_between, read_between}};
-ghost use Rattle.ocfl_rules.specs.{Due.{hashed_among, item_places}, Lines.{is_hashed}};
+ghost use Rattle.ocfl_rules.specs.Trail.{content_trail};
+ghost use Rattle.ocfl_rules.specs.Between.{looked_between, read_between};
+ghost use Rattle.ocfl_rules.specs.Due.{hashed_among, item_places};
+ghost use Rattle.ocfl_rules.specs.Inventories.{is_hashed};
 ghost use Rattle.ocfl_cursor.specs.Cursor.{Cursor, new_cursor, cursor_lines, cursor_text};
 ghost use Rattle.ocfl_cursor.specs.{Moves.{after_run}, Part.{IsPartText, part_lines}};
 ghost use Rattle.ocfl_cursor.specs.Refusal.{IsTextOf, refusal};
@@ -43,9 +46,9 @@ use ocfl_cursor::{text_determines_the_cursor, text_determines_what_is_shown};
 #[tactic(auto, using(ocfl_scrub::proofs::OrderLaws::hashed_ascend, ocfl_scrub::proofs::OrderLaws::hashed_all))]
 pub fn hashed_places_are_those_of_the_audit()
     ensures ascends { (root : StorageRoot)
-        → IsAscending place_cmp (hashed_among root (item_places root)) }
-    ensures all { (root : StorageRoot) (p : Place) → (is_hashed root p ≡ true)
-        ↔ IsAmong (hashed_among root (item_places root)) p }
+        → IsAscending place_cmp (hashed_among None root (item_places None root)) }
+    ensures all { (root : StorageRoot) (p : Place) → (is_hashed None root p ≡ true)
+        ↔ IsAmong (hashed_among None root (item_places None root)) p }
 {}
 
 /// The directories that are looked into between two places, and the objects whose inventories are
@@ -126,7 +129,8 @@ pub fn each_end_has_one_status_and_text()
     ensures unshown { (a b : ℕ) (m n : Note) (why : ShowStop) → IsUnshownNote why a m
         → IsUnshownNote why b n → (a ≡ b) × (m ≡ n) }
     ensures branch { (a b : ℕ) (m n : Note) (finding : Bool) (end : AuditStatus)
-        (last : Option Place) → IsBranchNote finding end last a m → IsBranchNote finding end last b n
+        (last : Option Place) → IsBranchNote finding end last a m
+        → IsBranchNote finding end last b n
         → (a ≡ b) × (m ≡ n) }
     ensures part_unread { (a b : ℕ) (m n : Note) (why : PartCursorStop)
         → IsPartUnreadNote why a m → IsPartUnreadNote why b n → (a ≡ b) × (m ≡ n) }
@@ -250,22 +254,24 @@ pub fn a_cycle_without_failures_is_the_audit()
     ensures whole { (root : StorageRoot) (s t : Store) (limits : List Limits) (count : ℕ)
         (before after : List ℕ)
         → HeadlineOf (known_call root s t before after) limits count cycle.Ended
-        → after ≡ before ++ text (audit root []) }
+        → after ≡ before ++ text (audit None root []) }
     ensures part { (root : StorageRoot) (s t : Store) (limits : List Limits) (count : ℕ)
         (before after : List ℕ)
         → HeadlineOf (known_call root s t before after) limits count cycle.Spent
-        → after ≡ before ++ text (joined (runs (audit root []) limits)) }
+        → after ≡ before ++ text (joined (runs (audit None root []) limits)) }
     ensures opened { (call : Call) (limits : List Limits) (count : ℕ)
         → HeadlineOf call limits count cycle.Ended → (trail : List Opening)
         × ((call.after.openings ≡ call.before.openings ++ trail)
-        × (content_trail call.root trail ≡ hashed_among call.root (item_places call.root))) }
+        × (content_trail None call.root trail
+        ≡ hashed_among None call.root (item_places None call.root))) }
     ensures few { (call : Call) (limits : List Limits) (count : ℕ) (b n : ℕ)
         → HeadlineOf call limits count cycle.Ended → 1 ≤ b → 1 ≤ n → All (IsAtLeast b n) limits
-        → total_cost (audit call.root []) / b + total_files (audit call.root []) / n + 1
+        → total_cost (audit None call.root []) / b + total_files (audit None call.root []) / n + 1
         ≤ length limits
-        → count ≤ total_cost (audit call.root []) / b + total_files (audit call.root []) / n + 1 }
+        → count ≤ total_cost (audit None call.root []) / b
+        + total_files (audit None call.root []) / n + 1 }
     ensures enough { (call : Call) (limits : List Limits) (count : ℕ) (b n : ℕ)
         → HeadlineOf call limits count cycle.Spent → 1 ≤ b → 1 ≤ n → All (IsAtLeast b n) limits
-        → total_cost (audit call.root []) / b + total_files (audit call.root []) / n + 1
+        → total_cost (audit None call.root []) / b + total_files (audit None call.root []) / n + 1
         ≤ length limits → ⊥ }
 {}

@@ -1,6 +1,6 @@
 //! The laws of calls that hand the cursor of a part from one to the next as bytes, as the program
 //! does from one process to another.
-ghost use Rattle.std.specs.Prelude.{◌≡◌, ◌≢◌, ◌≤◌, ◌+◌, ◌++◌, ◌/◌, ℕ, List, [], Option, All, IsSome, flat_map, length, map};
+ghost use Rattle.std.specs.Prelude.{◌≡◌, ◌≢◌, ◌≤◌, ◌+◌, ◌++◌, ◌/◌, ℕ, List, [], Option, All, IsSome, flat_map, length, map, None};
 ghost use Rattle.std.specs.List.{AllByRecursion};
 ghost use Rattle.ocfl_tree.specs.{Place.{Text}, StorageRoot.{StorageRoot}, Store.{Store}};
 ghost use Rattle.ocfl_tree.specs.declared.store.Opening.{Opening};
@@ -50,16 +50,16 @@ pub fn a_call_is_told()
 pub fn calls_on_a_part_join()
     ensures reports { (root : StorageRoot) (e : PartEnds) (stored : Option Text)
         (calls : List PartCall) → BeginsCycle e stored → AreCalls root e stored calls
-        → written_by calls ≡ text (within (part_between e) (audit root [])) }
+        → written_by calls ≡ text (within (part_between e) (audit None root [])) }
     ensures opened { (root : StorageRoot) (e : PartEnds) (stored : Option Text)
         (calls : List PartCall) → BeginsCycle e stored → AreCalls root e stored calls
         → content_opened root calls
-        ≡ hashed_among root (places_within (part_between e) (item_places root)) }
+        ≡ hashed_among None root (places_within (part_between e) (item_places None root)) }
     ensures few { (root : StorageRoot) (e : PartEnds) (stored : Option Text)
         (calls : List PartCall) → BeginsCycle e stored → AreCalls root e stored calls
         → (b n : ℕ) → 1 ≤ b → 1 ≤ n → All (IsAtLeast b n) (limits_given calls)
-        → length calls ≤ total_cost (within (part_between e) (audit root [])) / b
-        + total_files (within (part_between e) (audit root [])) / n + 1 }
+        → length calls ≤ total_cost (within (part_between e) (audit None root [])) / b
+        + total_files (within (part_between e) (audit None root [])) / n + 1 }
     ensures next { (root : StorageRoot) (e : PartEnds) (stored : Option Text)
         (calls : List PartCall) → AreCalls root e stored calls
         → BeginsCycle e (stored_after stored calls) }
@@ -72,12 +72,12 @@ pub fn calls_on_all_parts_join_to_the_audit()
     ensures reports { (root : StorageRoot) (separators : Text) (cycles : List CalledCycle)
         → AreAllFrom separators 1 (map (λ d. d.ends) cycles)
         → AllByRecursion (IsCalledCycle root) cycles
-        → flat_map (λ d. written_by d.calls) cycles ≡ text (audit root []) }
+        → flat_map (λ d. written_by d.calls) cycles ≡ text (audit None root []) }
     ensures opened { (root : StorageRoot) (separators : Text) (cycles : List CalledCycle)
         → AreAllFrom separators 1 (map (λ d. d.ends) cycles)
         → AllByRecursion (IsCalledCycle root) cycles
         → flat_map (λ d. content_opened root d.calls) cycles
-        ≡ hashed_among root (item_places root) }
+        ≡ hashed_among None root (item_places None root) }
 {}
 
 /// The same calls, of which any may stop at a call of the store that fails, and may meet content
@@ -94,20 +94,23 @@ pub fn calls_that_stop_join()
         (calls : List MadeCall) → BeginsCycle e stored → AreMadeCalls root e stored calls
         → (last : Cursor) → BeginsPartWith e (bytes_stored (stored_last stored calls)) last
         → reports_of (runs_made calls) ++ text (left_by last.state
-        (within (part_between e) (audit root (unread_together root (runs_made calls)))))
-        ≡ text (within (part_between e) (audit root (unread_together root (runs_made calls)))) }
+        (within (part_between e) (audit None root (unread_together root (runs_made calls)))))
+        ≡ text (within (part_between e) (audit None root (unread_together root
+        (runs_made calls)))) }
     ensures ended { (root : StorageRoot) (e : PartEnds) (stored : Option Text)
         (calls : List MadeCall) → BeginsCycle e stored → AreMadeCalls root e stored calls
         → SayEnded calls → reports_of (runs_made calls)
-        ≡ text (within (part_between e) (audit root (unread_together root (runs_made calls)))) }
+        ≡ text (within (part_between e) (audit None root (unread_together root
+        (runs_made calls)))) }
     ensures few { (root : StorageRoot) (e : PartEnds) (stored : Option Text)
         (calls : List MadeCall) → BeginsCycle e stored → AreMadeCalls root e stored calls
         → (b n : ℕ) → 1 ≤ b → 1 ≤ n
         → All (IsAtLeast b n) (map (λ r. r.limits) (runs_made calls))
         → unstopped (runs_made calls) ≤ total_cost
-        (within (part_between e) (audit root (unread_together root (runs_made calls)))) / b
+        (within (part_between e) (audit None root (unread_together root (runs_made calls)))) / b
         + total_files
-        (within (part_between e) (audit root (unread_together root (runs_made calls)))) / n + 1 }
+        (within (part_between e) (audit None root (unread_together root
+        (runs_made calls)))) / n + 1 }
     ensures next { (root : StorageRoot) (e : PartEnds) (stored : Option Text)
         (calls : List MadeCall) → AreMadeCalls root e stored calls → SayEnded calls
         → BeginsCycle e (stored_last stored calls) }
@@ -122,5 +125,5 @@ pub fn parts_with_calls_that_stop_join()
         → AreAllFrom separators 1 (map (λ d. d.ends) cycles)
         → AllByRecursion (IsMadeCycle root) cycles
         → flat_map (λ d. reports_of (runs_made d.calls)) cycles
-        ≡ text (audit root (flat_map (λ d. unread_together root (runs_made d.calls)) cycles)) }
+        ≡ text (audit None root (flat_map (λ d. unread_together root (runs_made d.calls)) cycles)) }
 {}

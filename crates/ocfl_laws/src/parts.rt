@@ -35,15 +35,16 @@ ghost use Rattle.ocfl_laws.specs.Joined.{AreRuns, IsPartCycle, opened_by};
 pub fn runs_of_a_part_join()
     ensures reports { (root : StorageRoot) (part : Part) (c : Cursor) (runs : List PartRun)
         → place_in c.state ≡ None → AreRuns root part c runs
-        → reports_of runs ≡ text (within part (audit root [])) }
+        → reports_of runs ≡ text (within part (audit None root [])) }
     ensures opened { (root : StorageRoot) (part : Part) (c : Cursor) (runs : List PartRun)
         → place_in c.state ≡ None → AreRuns root part c runs
-        → opened_by root runs ≡ hashed_among root (places_within part (item_places root)) }
+        → opened_by root runs
+        ≡ hashed_among None root (places_within part (item_places None root)) }
     ensures few { (root : StorageRoot) (part : Part) (c : Cursor) (runs : List PartRun)
         → place_in c.state ≡ None → AreRuns root part c runs → (b n : ℕ) → 1 ≤ b → 1 ≤ n
         → All (IsAtLeast b n) (map (λ r. r.limits) runs)
-        → length runs ≤ total_cost (within part (audit root [])) / b
-        + total_files (within part (audit root [])) / n + 1 }
+        → length runs ≤ total_cost (within part (audit None root [])) / b
+        + total_files (within part (audit None root [])) / n + 1 }
 {}
 
 /// While the root stays unchanged and every call succeeds, the reports of all parts that separators
@@ -55,13 +56,13 @@ pub fn parts_join_to_the_audit()
         → IsAscending place_cmp separators
         → map (λ d. d.part) cycles ≡ parts_of separators
         → AllByRecursion (IsPartCycle root) cycles
-        → flat_map (λ d. reports_of d.runs) cycles ≡ text (audit root []) }
+        → flat_map (λ d. reports_of d.runs) cycles ≡ text (audit None root []) }
     ensures opened { (root : StorageRoot) (separators : List Place) (cycles : List PartCycle)
         → IsAscending place_cmp separators
         → map (λ d. d.part) cycles ≡ parts_of separators
         → AllByRecursion (IsPartCycle root) cycles
         → flat_map (λ d. opened_by root d.runs) cycles
-        ≡ hashed_among root (item_places root) }
+        ≡ hashed_among None root (item_places None root) }
 {}
 
 /// The same of the parts that separators make, if the cycle of each has ended: the reports, joined
@@ -74,7 +75,7 @@ pub fn parts_with_runs_that_stop_join()
         → map (λ d. d.part) cycles ≡ parts_of separators
         → AllByRecursion (IsWholeCycle root) cycles
         → flat_map (λ d. reports_of d.runs) cycles
-        ≡ text (audit root (flat_map (λ d. unread_together root d.runs) cycles)) }
+        ≡ text (audit None root (flat_map (λ d. unread_together root d.runs) cycles)) }
 {}
 
 /// What `run_part` says of a run (`told`) gives it a report: the text that it wrote, except for a
@@ -99,7 +100,7 @@ pub fn each_run_that_goes_on_has_a_report()
 /// after it, whether the run ends, stops, or is lost with its report.
 pub fn what_was_taken_is_not_read_again()
     ensures { (root : StorageRoot) (part : Part) (c : Cursor) (r : PartRun) → Ran root part c r
-        → (p : Place) → IsAmong (content_trail root r.opened) p
+        → (p : Place) → IsAmong (content_trail None root r.opened) p
         → is_taken (begun c).state p ≡ false }
 {}
 
@@ -173,5 +174,5 @@ pub fn each_run_of_a_cycle_looks_once()
         × ((listed : List Place) × ((trail : List Opening)
         × ((k.after.listings ≡ k.before.listings ++ listed)
         × ((k.after.openings ≡ k.before.openings ++ trail)
-        × FailedAt call.root k.before k.after listed trail q))))))) }
+        × FailedAt None call.root k.before k.after listed trail q))))))) }
 {}

@@ -52,13 +52,13 @@ pub fn a_check_looks_at_its_place_alone()
     ensures lines { (root : StorageRoot) (s t : Store) (before written : List ℕ) (p : Place)
         (item finding : Bool) → Checks (known_call root s t before written) p item finding
         → (trail : List Opening) × ((t.openings ≡ s.openings ++ trail)
-        × ((t.failures ≡ s.failures + length (unread_of root trail))
-        × ((written ≡ before ++ text (item_at root (unread_of root trail) p))
-        × ((item ≡ not (is_empty (item_at root (unread_of root trail) p)))
-        × (finding ≡ found (item_at root (unread_of root trail) p)))))) }
+        × ((t.failures ≡ s.failures + length (unread_of None root trail))
+        × ((written ≡ before ++ text (item_at None root (unread_of None root trail) p))
+        × ((item ≡ not (is_empty (item_at None root (unread_of None root trail) p)))
+        × (finding ≡ found (item_at None root (unread_of None root trail) p)))))) }
     ensures opened { (call : Call) (p : Place) (item finding : Bool) → Checks call p item finding
         → (trail : List Opening) × ((call.after.openings ≡ call.before.openings ++ trail)
-        × ((content_trail call.root trail ≡ hashed_among call.root (p ∷ []))
+        × ((content_trail None call.root trail ≡ hashed_among None call.root (p ∷ []))
         × (AllPairs (λ a b. a.place ≢ b.place) trail))) }
     ensures listed { (call : Call) (p : Place) (item finding : Bool) → Checks call p item finding
         → (listed : List Place) × ((rest : List Place)
@@ -75,13 +75,14 @@ pub fn a_check_that_stops_wrote_a_beginning()
     ensures lines { (root : StorageRoot) (s t : Store) (before written : List ℕ) (p : Place)
         (why : ReportStop) → CheckStops (known_call root s t before written) p why
         → (trail : List Opening) × ((gone : ℕ) × ((t.openings ≡ s.openings ++ trail)
-        × ((written ≡ before ++ take gone (text (item_at root (unread_of root trail) p)))
-        × ((why ≡ halt.Output → gone < length (text (item_at root (unread_of root trail) p)))
+        × ((written ≡ before ++ take gone (text (item_at None root (unread_of None root trail) p)))
+        × ((why ≡ halt.Output
+        → gone < length (text (item_at None root (unread_of None root trail) p)))
         × (why ≢ halt.Output → gone ≡ 0))))) }
     ensures opened { (call : Call) (p : Place) (why : ReportStop) → CheckStops call p why
         → (trail : List Opening) × ((begun : List Place) × ((rest : List Place)
         × ((call.after.openings ≡ call.before.openings ++ trail) × ((p ∷ [] ≡ begun ++ rest)
-        × ((content_trail call.root trail ≡ hashed_among call.root begun)
+        × ((content_trail None call.root trail ≡ hashed_among None call.root begun)
         × (AllPairs (λ a b. a.place ≢ b.place) trail)))))) }
     ensures listed { (call : Call) (p : Place) (why : ReportStop) → CheckStops call p why
         → (listed : List Place) × ((rest : List Place)
@@ -90,7 +91,7 @@ pub fn a_check_that_stops_wrote_a_beginning()
         → (trail : List Opening) × ((rest : List Place)
         × ((call.after.openings ≡ call.before.openings ++ trail) × ((call.after.failures
         ≡ call.before.failures
-        + (length (unread_of call.root trail) + failures_at (stop_place why)))
+        + (length (unread_of None call.root trail) + failures_at (stop_place why)))
         × (holder call.root (Some p) ≡ heads_of call.root trail ++ rest)))) }
 {}
 
@@ -102,19 +103,20 @@ pub fn an_audit_reads_each_file_once()
         (last : Option Place) (finding : Bool)
         → AuditsAll (known_call root s t before written) last finding → (trail : List Opening)
         × ((t.openings ≡ s.openings ++ trail)
-        × ((t.failures ≡ s.failures + length (unread_of root trail))
-        × ((written ≡ before ++ text (audit root (unread_of root trail)))
-        × (finding ≡ found (audit root (unread_of root trail)))))) }
+        × ((t.failures ≡ s.failures + length (unread_of None root trail))
+        × ((written ≡ before ++ text (audit None root (unread_of None root trail)))
+        × (finding ≡ found (audit None root (unread_of None root trail)))))) }
     ensures opened { (call : Call) (last : Option Place) (finding : Bool)
         → AuditsAll call last finding
         → (trail : List Opening) × ((call.after.openings ≡ call.before.openings ++ trail)
-        × ((content_trail call.root trail ≡ hashed_among call.root (item_places call.root))
+        × ((content_trail None call.root trail
+        ≡ hashed_among None call.root (item_places None call.root))
         × (heads_of call.root trail ≡ read_between call.root None None))) }
     ensures listed { (call : Call) (last : Option Place) (finding : Bool)
         → AuditsAll call last finding
         → call.after.listings ≡ call.before.listings ++ looked_between call.root None None }
     ensures last { (call : Call) (last : Option Place) (finding : Bool) (front : List Place)
-        (p : Place) → AuditsAll call last finding → item_places call.root ≡ front ++ p ∷ []
+        (p : Place) → AuditsAll call last finding → item_places None call.root ≡ front ++ p ∷ []
         → last ≡ Some p }
 {}
 
@@ -126,7 +128,8 @@ pub fn an_audit_that_stops_wrote_its_first_items()
         (last : Option Place) (finding : Bool) (why : ReportStop)
         → AuditStops (known_call root s t before written) last finding why → (trail : List Opening)
         × ((whole : List Item) × ((others : List Item)
-        × ((gone : ℕ) × ((t.openings ≡ s.openings ++ trail) × ((audit root (unread_of root trail)
+        × ((gone : ℕ) × ((t.openings ≡ s.openings ++ trail)
+        × ((audit None root (unread_of None root trail)
         ≡ whole ++ others) × ((written ≡ before ++ (text whole ++ take gone (text (take 1 others))))
         × ((why ≡ halt.Output → gone < length (text (take 1 others))) × ((why ≢ halt.Output
         → gone ≡ 0) × (finding ≡ found whole))))))))) }
@@ -134,9 +137,10 @@ pub fn an_audit_that_stops_wrote_its_first_items()
         (why : ReportStop) → AuditStops call last finding why → (trail : List Opening)
         × ((whole : List Item) × ((others : List Item) × ((begun : List Place)
         × ((rest : List Place) × ((call.after.openings ≡ call.before.openings ++ trail)
-        × ((audit call.root (unread_of call.root trail) ≡ whole ++ others)
-        × ((map (λ i. i.place) (take 1 others) ≡ begun ++ rest) × (content_trail call.root trail
-        ≡ hashed_among call.root (map (λ i. i.place) whole ++ begun))))))))) }
+        × ((audit None call.root (unread_of None call.root trail) ≡ whole ++ others)
+        × ((map (λ i. i.place) (take 1 others) ≡ begun ++ rest)
+        × (content_trail None call.root trail
+        ≡ hashed_among None call.root (map (λ i. i.place) whole ++ begun))))))))) }
     ensures listed { (call : Call) (last : Option Place) (finding : Bool)
         (why : ReportStop) → AuditStops call last finding why → (listed : List Place)
         × ((rest : List Place) × ((call.after.listings ≡ call.before.listings ++ listed)
@@ -145,7 +149,7 @@ pub fn an_audit_that_stops_wrote_its_first_items()
         → AuditStops call last finding why → (trail : List Opening) × ((rest : List Place)
         × ((call.after.openings ≡ call.before.openings ++ trail) × ((call.after.failures
         ≡ call.before.failures
-        + (length (unread_of call.root trail) + failures_at (stop_place why)))
+        + (length (unread_of None call.root trail) + failures_at (stop_place why)))
         × (read_between call.root None None ≡ heads_of call.root trail ++ rest)))) }
 {}
 
@@ -157,16 +161,21 @@ pub fn a_run_takes_the_cut_of_its_limits()
         (from last next : Option Place) (limits : Limits) (spent files : ℕ) (finding : Bool)
         → Runs (known_call root s t before written) from last limits spent files finding next
         → (trail : List Opening) × ((t.openings ≡ s.openings ++ trail)
-        × ((t.failures ≡ s.failures + length (unread_of root trail))
-        × ((written ≡ before ++ text (cut (after (audit root (unread_of root trail)) from) limits))
-        × ((spent ≡ total_cost (cut (after (audit root (unread_of root trail)) from) limits))
-        × ((files ≡ total_files (cut (after (audit root (unread_of root trail)) from) limits))
-        × (finding ≡ found (cut (after (audit root (unread_of root trail)) from) limits))))))) }
+        × ((t.failures ≡ s.failures + length (unread_of None root trail))
+        × ((written ≡ before
+        ++ text (cut (after (audit None root (unread_of None root trail)) from) limits))
+        × ((spent ≡ total_cost (cut (after (audit None root
+        (unread_of None root trail)) from) limits))
+        × ((files ≡ total_files (cut (after (audit None root
+        (unread_of None root trail)) from) limits))
+        × (finding ≡ found (cut (after (audit None root
+        (unread_of None root trail)) from) limits))))))) }
     ensures opened { (call : Call) (from last next : Option Place) (limits : Limits)
         (spent files : ℕ) (finding : Bool) → Runs call from last limits spent files finding next
         → (trail : List Opening) × ((call.after.openings ≡ call.before.openings ++ trail)
-        × (content_trail call.root trail ≡ hashed_among call.root (map (λ i. i.place) (cut (after
-        (audit call.root (unread_of call.root trail)) from) limits)))) }
+        × (content_trail None call.root trail
+        ≡ hashed_among None call.root (map (λ i. i.place) (cut (after
+        (audit None call.root (unread_of None call.root trail)) from) limits)))) }
     ensures listed { (call : Call) (from last next : Option Place) (limits : Limits)
         (spent files : ℕ) (finding : Bool) → Runs call from last limits spent files finding next
         → (down : List Place) × ((rest : List Place) × ((call.after.listings ≡ call.before.listings
@@ -181,16 +190,18 @@ pub fn a_run_takes_the_cut_of_its_limits()
     ensures next { (call : Call) (from last next : Option Place) (limits : Limits)
         (spent files : ℕ) (finding : Bool) → Runs call from last limits spent files finding next
         → (trail : List Opening) × ((call.after.openings ≡ call.before.openings ++ trail)
-        × ((left (after (audit call.root (unread_of call.root trail)) from) limits ≡ []
+        × ((left (after (audit None call.root (unread_of None call.root trail)) from) limits ≡ []
         → next ≡ None) × ((i : Item) (items : List Item)
-        → left (after (audit call.root (unread_of call.root trail)) from) limits ≡ i ∷ items
+        → left (after (audit None call.root (unread_of None call.root trail)) from) limits
+        ≡ i ∷ items
         → next ≡ Some i.place))) }
     ensures last { (call : Call) (from last next : Option Place) (limits : Limits)
         (spent files : ℕ) (finding : Bool) → Runs call from last limits spent files finding next
         → (trail : List Opening) × ((call.after.openings ≡ call.before.openings ++ trail)
-        × ((cut (after (audit call.root (unread_of call.root trail)) from) limits ≡ []
+        × ((cut (after (audit None call.root (unread_of None call.root trail)) from) limits ≡ []
         → last ≡ from) × ((front : List Item) (i : Item)
-        → cut (after (audit call.root (unread_of call.root trail)) from) limits ≡ front ++ i ∷ []
+        → cut (after (audit None call.root (unread_of None call.root trail)) from) limits
+        ≡ front ++ i ∷ []
         → last ≡ Some i.place))) }
 {}
 
@@ -204,7 +215,7 @@ pub fn a_run_that_stops_took_the_first_of_its_cut()
         → RunStops (known_call root s t before written) from last limits spent files finding why
         → (trail : List Opening) × ((whole : List Item)
         × ((others : List Item) × ((gone : ℕ) × ((t.openings ≡ s.openings ++ trail)
-        × ((cut (after (audit root (unread_of root trail)) from) limits ≡ whole ++ others)
+        × ((cut (after (audit None root (unread_of None root trail)) from) limits ≡ whole ++ others)
         × ((written ≡ before ++ (text whole ++ take gone (text (take 1 others))))
         × ((why ≡ halt.Output → gone < length (text (take 1 others))) × ((why ≢ halt.Output
         → gone ≡ 0) × ((spent ≡ total_cost whole) × ((files ≡ total_files whole)
@@ -214,9 +225,11 @@ pub fn a_run_that_stops_took_the_first_of_its_cut()
         → RunStops call from last limits spent files finding why → (trail : List Opening)
         × ((whole : List Item) × ((others : List Item) × ((begun : List Place)
         × ((rest : List Place) × ((call.after.openings ≡ call.before.openings ++ trail)
-        × ((cut (after (audit call.root (unread_of call.root trail)) from) limits ≡ whole ++ others)
-        × ((map (λ i. i.place) (take 1 others) ≡ begun ++ rest) × (content_trail call.root trail
-        ≡ hashed_among call.root (map (λ i. i.place) whole ++ begun))))))))) }
+        × ((cut (after (audit None call.root (unread_of None call.root trail)) from) limits
+        ≡ whole ++ others)
+        × ((map (λ i. i.place) (take 1 others) ≡ begun ++ rest)
+        × (content_trail None call.root trail
+        ≡ hashed_among None call.root (map (λ i. i.place) whole ++ begun))))))))) }
     ensures listed { (call : Call) (from last : Option Place) (limits : Limits) (spent files : ℕ)
         (finding : Bool) (why : ReportStop) → RunStops call from last limits spent files finding why
         → (down : List Place) × ((below : List Place) × ((listed : List Place)
@@ -229,7 +242,7 @@ pub fn a_run_that_stops_took_the_first_of_its_cut()
         × ((below : List Place) × ((heads : List Place) × ((rest : List Place)
         × ((call.after.openings ≡ call.before.openings ++ trail) × ((call.after.failures
         ≡ call.before.failures
-        + (length (unread_of call.root trail) + failures_at (stop_place why)))
+        + (length (unread_of None call.root trail) + failures_at (stop_place why)))
         × ((heads_of call.root trail ≡ held ++ heads) × ((holder call.root from ≡ held ++ below)
         × ((read_between call.root from None ≡ heads ++ rest)
         × (IsAscending place_cmp (held ++ heads))))))))))) }
@@ -237,7 +250,8 @@ pub fn a_run_that_stops_took_the_first_of_its_cut()
         (finding : Bool) (why : ReportStop) → RunStops call from last limits spent files finding why
         → (trail : List Opening) × ((whole : List Item)
         × ((others : List Item) × ((call.after.openings ≡ call.before.openings ++ trail)
-        × ((cut (after (audit call.root (unread_of call.root trail)) from) limits ≡ whole ++ others)
+        × ((cut (after (audit None call.root (unread_of None call.root trail)) from) limits
+        ≡ whole ++ others)
         × ((spent ≡ total_cost whole) × ((whole ≡ [] → last ≡ from) × ((front : List Item)
         (i : Item) → whole ≡ front ++ i ∷ [] → last ≡ Some i.place))))))) }
 {}
@@ -260,50 +274,58 @@ pub fn a_cycle_takes_the_cuts_of_its_limits()
         (limits : List Limits) (spent files : ℕ) (finding : Bool) (count : ℕ) (whole : Bool)
         → Cycles (known_call root s t before written) last limits spent files finding count whole
         → (trail : List Opening) × ((t.openings ≡ s.openings ++ trail)
-        × ((t.failures ≡ s.failures + length (unread_of root trail))
-        × ((written ≡ before ++ text (joined (runs (audit root (unread_of root trail)) limits)))
-        × ((spent ≡ total_cost (joined (runs (audit root (unread_of root trail)) limits)))
-        × ((files ≡ total_files (joined (runs (audit root (unread_of root trail)) limits)))
-        × (finding ≡ found (joined (runs (audit root (unread_of root trail)) limits)))))))) }
+        × ((t.failures ≡ s.failures + length (unread_of None root trail))
+        × ((written ≡ before
+        ++ text (joined (runs (audit None root (unread_of None root trail)) limits)))
+        × ((spent ≡ total_cost (joined (runs (audit None root (unread_of None root trail)) limits)))
+        × ((files ≡ total_files (joined (runs (audit None root
+        (unread_of None root trail)) limits)))
+        × (finding ≡ found (joined (runs (audit None root
+        (unread_of None root trail)) limits)))))))) }
     ensures opened { (call : Call) (last : Option Place) (limits : List Limits) (spent files : ℕ)
         (finding : Bool)
         (count : ℕ) (whole : Bool) → Cycles call last limits spent files finding count whole
         → (trail : List Opening) × ((call.after.openings ≡ call.before.openings ++ trail)
-        × ((content_trail call.root trail ≡ hashed_among call.root (map (λ i. i.place) (joined (runs
-        (audit call.root (unread_of call.root trail)) limits)))) × (1 ≤ count
+        × ((content_trail None call.root trail
+        ≡ hashed_among None call.root (map (λ i. i.place) (joined (runs
+        (audit None call.root (unread_of None call.root trail)) limits)))) × (1 ≤ count
         → length (heads_of call.root trail) < length (inventories call.root) + count))) }
     ensures ended { (call : Call) (last : Option Place) (limits : List Limits) (spent files : ℕ)
         (finding : Bool)
         (count : ℕ) (whole : Bool) → Cycles call last limits spent files finding count whole
         → (trail : List Opening) × ((call.after.openings ≡ call.before.openings ++ trail)
-        × ((count ≡ length (runs (audit call.root (unread_of call.root trail)) limits))
-        × ((whole ≡ true → joined (runs (audit call.root (unread_of call.root trail)) limits)
-        ≡ audit call.root (unread_of call.root trail))
-        × (joined (runs (audit call.root (unread_of call.root trail)) limits)
-        ≡ audit call.root (unread_of call.root trail) → whole ≡ true)))) }
+        × ((count ≡ length (runs (audit None call.root (unread_of None call.root trail)) limits))
+        × ((whole ≡ true
+        → joined (runs (audit None call.root (unread_of None call.root trail)) limits)
+        ≡ audit None call.root (unread_of None call.root trail))
+        × (joined (runs (audit None call.root (unread_of None call.root trail)) limits)
+        ≡ audit None call.root (unread_of None call.root trail) → whole ≡ true)))) }
     ensures few { (call : Call) (last : Option Place) (limits : List Limits)
         (spent files : ℕ) (finding : Bool) (count : ℕ) (whole : Bool)
         (b n : ℕ) → Cycles call last limits spent files finding count whole → 1 ≤ b → 1 ≤ n
         → All (IsAtLeast b n) limits → (trail : List Opening)
         × ((call.after.openings ≡ call.before.openings ++ trail)
-        × ((count ≤ total_cost (audit call.root (unread_of call.root trail)) / b
-        + total_files (audit call.root (unread_of call.root trail)) / n + 1)
-        × (total_cost (audit call.root (unread_of call.root trail)) / b + total_files
-        (audit call.root (unread_of call.root trail)) / n + 1 ≤ length limits → whole ≡ true))) }
+        × ((count ≤ total_cost (audit None call.root (unread_of None call.root trail)) / b
+        + total_files (audit None call.root (unread_of None call.root trail)) / n + 1)
+        × (total_cost (audit None call.root (unread_of None call.root trail)) / b + total_files
+        (audit None call.root (unread_of None call.root trail)) / n + 1 ≤ length limits
+        → whole ≡ true))) }
     ensures by_sum { (call : Call) (last : Option Place) (limits : List Limits)
         (spent files : ℕ) (finding : Bool) (count : ℕ) (whole : Bool) (k : ℕ)
         → Cycles call last limits spent files finding count whole → 1 ≤ k → k ≤ length limits
         → (trail : List Opening) × ((call.after.openings ≡ call.before.openings ++ trail)
-        × (FilesFit (audit call.root (unread_of call.root trail)) limits
-        → total_cost (audit call.root (unread_of call.root trail))
+        × (FilesFit (audit None call.root (unread_of None call.root trail)) limits
+        → total_cost (audit None call.root (unread_of None call.root trail))
         ≤ sum_of (take k (map (λ l. l.budget) limits)) → (whole ≡ true) × (count ≤ k))) }
     ensures last { (call : Call) (last : Option Place) (limits : List Limits)
         (spent files : ℕ) (finding : Bool) (count : ℕ) (whole : Bool)
         → Cycles call last limits spent files finding count whole
         → (trail : List Opening) × ((call.after.openings ≡ call.before.openings ++ trail)
-        × ((joined (runs (audit call.root (unread_of call.root trail)) limits) ≡ [] → last ≡ None)
+        × ((joined (runs (audit None call.root (unread_of None call.root trail)) limits) ≡ []
+        → last ≡ None)
         × ((front : List Item) (i : Item)
-        → joined (runs (audit call.root (unread_of call.root trail)) limits) ≡ front ++ i ∷ []
+        → joined (runs (audit None call.root (unread_of None call.root trail)) limits)
+        ≡ front ++ i ∷ []
         → last ≡ Some i.place))) }
 {}
 
@@ -317,7 +339,8 @@ pub fn a_cycle_that_stops_took_the_first_of_its_cuts()
         → CycleStops (known_call root s t before written) last limits spent files finding count why
         → (trail : List Opening) × ((whole : List Item)
         × ((others : List Item) × ((gone : ℕ) × ((t.openings ≡ s.openings ++ trail)
-        × ((joined (take count (runs (audit root (unread_of root trail)) limits)) ≡ whole ++ others)
+        × ((joined (take count (runs (audit None root (unread_of None root trail)) limits))
+        ≡ whole ++ others)
         × ((written ≡ before ++ (text whole ++ take gone (text (take 1 others))))
         × ((why ≡ halt.Output → gone < length (text (take 1 others))) × ((why ≢ halt.Output
         → gone ≡ 0) × ((spent ≡ total_cost whole) × ((files ≡ total_files whole)
@@ -327,9 +350,9 @@ pub fn a_cycle_that_stops_took_the_first_of_its_cuts()
         → CycleStops call last limits spent files finding count why → (trail : List Opening)
         × ((whole : List Item) × ((rest : List Item)
         × ((call.after.openings ≡ call.before.openings ++ trail) × ((1 ≤ count)
-        × ((count ≤ length (runs (audit call.root (unread_of call.root trail)) limits))
+        × ((count ≤ length (runs (audit None call.root (unread_of None call.root trail)) limits))
         × ((spent ≡ total_cost whole) × ((whole ≡ joined (take (count - 1) (runs
-        (audit call.root (unread_of call.root trail)) limits)) ++ rest)
+        (audit None call.root (unread_of None call.root trail)) limits)) ++ rest)
         × (length (heads_of call.root trail) < length (inventories call.root) + count)))))))) }
     ensures opened { (call : Call) (last : Option Place) (limits : List Limits) (spent files : ℕ)
         (finding : Bool) (count : ℕ) (why : ReportStop)
@@ -338,10 +361,12 @@ pub fn a_cycle_that_stops_took_the_first_of_its_cuts()
         × ((others : List Item) × ((begun : List Place) × ((rest : List Place)
         × ((call.after.openings ≡ call.before.openings ++ trail) × ((call.after.failures
         ≡ call.before.failures
-        + (length (unread_of call.root trail) + failures_at (stop_place why))) × ((joined
-        (take count (runs (audit call.root (unread_of call.root trail)) limits)) ≡ whole ++ others)
-        × ((map (λ i. i.place) (take 1 others) ≡ begun ++ rest) × (content_trail call.root trail
-        ≡ hashed_among call.root (map (λ i. i.place) whole ++ begun)))))))))) }
+        + (length (unread_of None call.root trail) + failures_at (stop_place why))) × ((joined
+        (take count (runs (audit None call.root (unread_of None call.root trail)) limits))
+        ≡ whole ++ others)
+        × ((map (λ i. i.place) (take 1 others) ≡ begun ++ rest)
+        × (content_trail None call.root trail
+        ≡ hashed_among None call.root (map (λ i. i.place) whole ++ begun)))))))))) }
     ensures last { (call : Call) (last : Option Place) (limits : List Limits)
         (spent files : ℕ) (finding : Bool) (count : ℕ) (why : ReportStop)
         → CycleStops call last limits spent files finding count why → (trail : List Opening)
@@ -450,25 +475,25 @@ pub fn a_run_without_failures_takes_the_audits_items()
     ensures ended { (root : StorageRoot) (s t : Store)
         (before written : List ℕ) (c : Cursor) (limits : Limits) (spent files : ℕ) (finding : Bool)
         → RunsCleanly (known_call root s t before written) c limits spent files finding run.Ended
-        → (left (after (audit root []) (place_in c.state)) limits ≡ [])
-        × ((written ≡ before ++ text (cut (after (audit root []) (place_in c.state)) limits))
-        × ((spent ≡ total_cost (cut (after (audit root []) (place_in c.state)) limits))
-        × ((files ≡ total_files (cut (after (audit root []) (place_in c.state)) limits))
-        × (finding ≡ found (cut (after (audit root []) (place_in c.state)) limits))))) }
+        → (left (after (audit None root []) (place_in c.state)) limits ≡ [])
+        × ((written ≡ before ++ text (cut (after (audit None root []) (place_in c.state)) limits))
+        × ((spent ≡ total_cost (cut (after (audit None root []) (place_in c.state)) limits))
+        × ((files ≡ total_files (cut (after (audit None root []) (place_in c.state)) limits))
+        × (finding ≡ found (cut (after (audit None root []) (place_in c.state)) limits))))) }
     ensures spent { (root : StorageRoot) (s t : Store)
         (before written : List ℕ) (c : Cursor) (limits : Limits) (spent files : ℕ) (finding : Bool)
         → RunsCleanly (known_call root s t before written) c limits spent files finding run.Spent
-        → (left (after (audit root []) (place_in c.state)) limits ≢ [])
-        × ((written ≡ before ++ text (cut (after (audit root []) (place_in c.state)) limits))
-        × ((spent ≡ total_cost (cut (after (audit root []) (place_in c.state)) limits))
-        × ((files ≡ total_files (cut (after (audit root []) (place_in c.state)) limits))
-        × (finding ≡ found (cut (after (audit root []) (place_in c.state)) limits))))) }
+        → (left (after (audit None root []) (place_in c.state)) limits ≢ [])
+        × ((written ≡ before ++ text (cut (after (audit None root []) (place_in c.state)) limits))
+        × ((spent ≡ total_cost (cut (after (audit None root []) (place_in c.state)) limits))
+        × ((files ≡ total_files (cut (after (audit None root []) (place_in c.state)) limits))
+        × (finding ≡ found (cut (after (audit None root []) (place_in c.state)) limits))))) }
     ensures counted { (call : Call)
         (limits : List Limits) (count : ℕ) → HeadlineOf call limits count cycle.Spent
-        → count ≡ length (runs (audit call.root []) limits) }
+        → count ≡ length (runs (audit None call.root []) limits) }
     ensures counted_whole { (call : Call) (limits : List Limits) (count : ℕ)
         → HeadlineOf call limits count cycle.Ended
-        → count ≡ length (runs (audit call.root []) limits) }
+        → count ≡ length (runs (audit None call.root []) limits) }
 {}
 
 /// Over a store that tells its tree a command audits, checks, runs or makes a cycle as these say,
@@ -482,8 +507,9 @@ pub fn a_command_does_what_it_is_asked_for()
     ensures clean_audit { (known : Option (Option (List ℕ))) (root : StorageRoot) (s t : Store)
         (before written : List ℕ) (status : ℕ) (n : Note) (stored : Option (Vec ℕ Global))
         → Performs (known_call root s t before written) known deed.Audit status n stored
-        → n ≡ note.Nothing → t.failures ≡ s.failures → (written ≡ before ++ text (audit root []))
-        × (status ≡ status_of (found (audit root []))) }
+        → n ≡ note.Nothing → t.failures ≡ s.failures
+        → (written ≡ before ++ text (audit None root []))
+        × (status ≡ status_of (found (audit None root []))) }
     ensures check { (call : Call) (known : Option (Option (List ℕ))) (path : String Global)
         (p : Place) (status : ℕ) (n : Note) (stored : Option (Vec ℕ Global)) → IsPlace p
         → string_bytes path ≡ place_text p → Performs call known (deed.Check path) status n stored

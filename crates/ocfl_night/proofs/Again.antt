@@ -12,7 +12,7 @@ use Rattle.ocfl_scrub.specs.declared.running.RunStatus.TheVariants as status
 use Rattle.ocfl_state.specs.{Checkpoint.{Checkpoint}, Content.{Content}, Crash.{LeavesOnly, Outcomes, Passes, Step}}
 use Rattle.ocfl_state.specs.declared.folder.StateFolder as state
 use Rattle.ocfl_state.specs.declared.checkpoint_parts.{Phase.TheVariants.{Open, Closing}, ReportMark.{ReportMark}}
-use Rattle.ocfl_night.specs.Again.{AreFew, AreLegs, GoesOn, HasDone, IsLittleAgain, IsMetAfter, IsOpened, Leg, heard_in, made_by, took_by}
+use Rattle.ocfl_night.specs.Again.{AreFew, AreLegs, GoesOn, HasDone, IsLittleAgain, IsMetAfter, TookOrBegan, Leg, heard_in, made_by, took_by}
 use Rattle.ocfl_night.specs.Asking.{AskedFrom, GaveAll, IsMetBy, MayAskFrom, declaring}
 use Rattle.ocfl_terms.specs.Clock.{Event, Asked, Read, Heard}
 use Rattle.ocfl_night.specs.{Done.{Done}, Runs.{IsAllowed, Run, StopsOpen, Turn, after_end, after_made, events_of, turn_of}}
@@ -109,8 +109,8 @@ module _ {F : Type 0} {may_leave : F → Outcomes} {moment : F → ℕ} {left_si
 -- ---- what a run opened
 
 -- and then the root was looked at
-pub opened_then : {s t u : Store} {to : State} {end : SliceEnd} (root : StorageRoot) → Counts s t → Counts t u → content_since root t u ≡ [] → IsOpened to end (content_since root s t) → IsOpened to end (content_since root s u)
-opened_then {to = to} {end} root p q none h = subst (IsOpened to end) (sym (content_first_alone root p q none)) h
+pub opened_then : {s t u : Store} {to : State} {end : SliceEnd} (root : StorageRoot) → Counts s t → Counts t u → content_since root t u ≡ [] → TookOrBegan to end (content_since root s t) → TookOrBegan to end (content_since root s u)
+opened_then {to = to} {end} root p q none h = subst (TookOrBegan to end) (sym (content_first_alone root p q none)) h
 
 pub up_then : {s t u : Store} (root : StorageRoot) → Counts s t → Counts t u → content_since root t u ≡ [] → IsAscending place_cmp (content_since root s t) → IsAscending place_cmp (content_since root s u)
 up_then root p q none h = subst (IsAscending place_cmp) (sym (content_first_alone root p q none)) h
@@ -126,13 +126,13 @@ up_either status.Spent made unmade = made (λ e. cc)
 up_either (status.Stopped why) made unmade = made (λ e. cc)
 
 -- in a slice that was kept, or was not
-pub kept_opened : (k : Checkpoint) {ps : List Place} {c : Cursor} {limits : Limits} (ran : RunEnd) → KeepsTo c limits ran → IsOpened ran.cursor.state (slice_end ran.end) ps → (r : Result Made Stop)
-    → IfOk r (λ made. (mark : ReportMark) × IsNext k ran mark made.checkpoint) → IfOk r (IsMadeBy ran) → IfOk r (λ made. IsOpened (reached made.checkpoint) made.end ps)
+pub kept_opened : (k : Checkpoint) {ps : List Place} {c : Cursor} {limits : Limits} (ran : RunEnd) → KeepsTo c limits ran → TookOrBegan ran.cursor.state (slice_end ran.end) ps → (r : Result Made Stop)
+    → IfOk r (λ made. (mark : ReportMark) × IsNext k ran mark made.checkpoint) → IfOk r (IsMadeBy ran) → IfOk r (λ made. TookOrBegan (reached made.checkpoint) made.end ps)
 kept_opened k ran keeps h (Err why) next by = tt
 kept_opened k {ps = ps} ran keeps h (Ok made) next by =
-    subst (λ (end : SliceEnd). IsOpened (reached made.checkpoint) end ps) (sym by.end) (subst (λ (to : State). IsOpened to (slice_end ran.end) ps) (sym (reached_next keeps next.1)) h)
+    subst (λ (end : SliceEnd). TookOrBegan (reached made.checkpoint) end ps) (sym by.end) (subst (λ (to : State). TookOrBegan to (slice_end ran.end) ps) (sym (reached_next keeps next.1)) h)
 
-pub unkept_opened : (k : Checkpoint) (ps : List Place) (r : Result Made Stop) → IfOk r (IsUnkept k) → IfOk r (λ made. IsOpened (reached made.checkpoint) made.end ps)
+pub unkept_opened : (k : Checkpoint) (ps : List Place) (r : Result Made Stop) → IfOk r (IsUnkept k) → IfOk r (λ made. TookOrBegan (reached made.checkpoint) made.end ps)
 unkept_opened k ps (Err why) un = tt
 unkept_opened k ps (Ok made) un = record { took = []; begun = ps; are = refl; taken = record { each = λ p i. absurd i }; few = by made.end un.away }
   where
@@ -276,7 +276,7 @@ module _ {F : Type 0} {root : StorageRoot} {part : Part} {S : state.Ghosts F} {c
       }
 
       -- one after which the night goes on
-      pub little_more : {m : Checkpoint} {next : Option Place} → IsOpened (reached run.made.checkpoint) run.made.end (content_since root u v) → StaysTaken (reached k) (reached run.made.checkpoint) → reached run.made.checkpoint ≡ reached m
+      pub little_more : {m : Checkpoint} {next : Option Place} → TookOrBegan (reached run.made.checkpoint) run.made.end (content_since root u v) → StaysTaken (reached k) (reached run.made.checkpoint) → reached run.made.checkpoint ≡ reached m
           → ((why : Pause) → place_or_pause run.made.end ≢ Err (Some why)) → IsAt m (S.seen g) → m.cursor ≡ run.made.checkpoint.cursor → IsMetBy run.made.end next → SoLittle root part S cycle old new s v g m next
       little_more {m} opened stays came goes_on at cursor walk =
           record {

@@ -20,7 +20,7 @@ use Rattle.ocfl_night.specs.Ending.{place_or_pause, slice_end}
 use Rattle.ocfl_night.specs.Reading.{AreBeyond, AreReadOnce, HasRead, IsReadBy, StaysTaken, content_since}
 use Rattle.ocfl_night.specs.{Halting.{FailedMore, stopped_at}, Looks.{Counts, Look, failed_at, look_between, opened_since}, Steps.{IsRun}}
 use Rattle.ocfl_night.proofs.RunsRead.{run_once, run_opened, run_stays, run_up}
-use Rattle.ocfl_night.specs.Again.{IsOpened}
+use Rattle.ocfl_night.specs.Again.{TookOrBegan}
 use Rattle.ocfl_night.proofs.Looks.{counts_by, counts_did, failed_append, failed_more, failed_none, first_within, one_listed, one_opened, since_is}
 
 -- ---- what a run counts
@@ -42,7 +42,7 @@ stopped_ends call part from last l spent files finding status.Spent h q is = abs
 stopped_ends call part from last l spent files finding status.Worn h q is = absurd h
 
 -- the last call of it failed
-failed_last : {root : StorageRoot} {s t : Store} {os : List Opening} {listed : List Place} {n : ℕ} {p : Place} → Did s t os listed n → FailedAt root s t listed os p → failed_at p s + 1 ≤ failed_at p t
+failed_last : {root : StorageRoot} {s t : Store} {os : List Opening} {listed : List Place} {n : ℕ} {p : Place} → Did s t os listed n → FailedAt None root s t listed os p → failed_at p s + 1 ≤ failed_at p t
 failed_last {s = s} {t = t} {os = os} {p = p} did (in_listing before is failed meta) =
     let more = failed_more p s t os (p ∷ []) did.openings_are failed in let one = one_listed p os [] in omega (arith, more, one)
 failed_last {s = s} {t = t} {p = p} did (in_opening before given is stays) =
@@ -106,8 +106,8 @@ record Looked (root : StorageRoot) (s t : Store) (old new : Text) (part : Part) 
   pub wrote : new ≡ old ++ (run.report ++ cut)
   pub uncut : ran.end ≢ status.Stopped Output → cut ≡ []
   pub made : Ran root part c run
-  pub unread : unread_of root (opened_since s t) ≡ unread_of root run.opened
-  pub content : content_since root s t ≡ content_trail root run.opened
+  pub unread : unread_of None root (opened_since s t) ≡ unread_of None root run.opened
+  pub content : content_since root s t ≡ content_trail None root run.opened
   pub counts : Counts s t
   pub stopped : (q : Place) → ran.end ≡ status.Stopped (Fault (fault.Store q)) → s.failures + 1 ≤ t.failures
   pub failed : (q : Place) → ran.end ≡ status.Stopped (Fault (fault.Store q)) → failed_at q s + 1 ≤ failed_at q t
@@ -124,8 +124,8 @@ module _ (root : StorageRoot) (s t : Store) (old new : Text) (part : Part) (c : 
         wrote = r.wrote;
         uncut = r.uncut;
         made = r.made;
-        unread = ap (unread_of root) (since_is s t r.run.opened r.opened_is);
-        content = ap (content_trail root) (since_is s t r.run.opened r.opened_is);
+        unread = ap (unread_of None root) (since_is s t r.run.opened r.opened_is);
+        content = ap (content_trail None root) (since_is s t r.run.opened r.opened_is);
         stopped = stopped_ends (known_call root s t old new) part (place_in c.state) h.last l ran.spent ran.files ran.found ran.end h.run;
         failed = failed_ends (known_call root s t old new) part (place_in c.state) h.last l ran.spent ran.files ran.found ran.end h.run;
         counts = counts_ends (known_call root s t old new) part (place_in c.state) h.last l ran.spent ran.files ran.found ran.end h.run;
@@ -152,15 +152,15 @@ module _ (root : StorageRoot) (s t : Store) (old new : Text) (part : Part) (c : 
         ∙ append_assoc (h.before.openings ++ down) way added
         ∙ append_assoc h.before.openings down (way ++ added)
 
-    none_down : unread_of root (down ++ (way ++ added)) ≡ unread_of root added
+    none_down : unread_of None root (down ++ (way ++ added)) ≡ unread_of None root added
     unfolding hashed_among
-    none_down = unread_behind root down (way ++ added) h.down.audits.opened ∙ unread_behind root way added h.way.audits.opened
+    none_down = unread_behind None root down (way ++ added) h.down.audits.opened ∙ unread_behind None root way added h.way.audits.opened
 
-    meta_down : content_trail root (down ++ (way ++ added)) ≡ content_trail root added
+    meta_down : content_trail None root (down ++ (way ++ added)) ≡ content_trail None root added
     unfolding hashed_among
-    meta_down = content_behind root down (way ++ added) h.down.audits.opened ∙ content_behind root way added h.way.audits.opened
+    meta_down = content_behind None root down (way ++ added) h.down.audits.opened ∙ content_behind None root way added h.way.audits.opened
 
-    no_failure : (trail : List Opening) → unread_of root trail ≡ unread_of root [] → length (unread_of root trail) ≡ 0
+    no_failure : (trail : List Opening) → unread_of None root trail ≡ unread_of None root [] → length (unread_of None root trail) ≡ 0
     no_failure trail is = ap length is
 
     failed : failed_openings added ≤ h.alike.added.failures
@@ -169,16 +169,16 @@ module _ (root : StorageRoot) (s t : Store) (old new : Text) (part : Part) (c : 
         let counts = counts_ends (known_call root h.before h.behind old new) part (place_in c.state) h.runs.last l ran.spent ran.files ran.found ran.end h.runs.run in
         let since : failed_openings (opened_since h.before h.behind) ≡ failed_openings down + (failed_openings way + failed_openings added) =
         ap failed_openings (since_is h.before h.behind (down ++ (way ++ added)) there) ∙ failed_append down (way ++ added) ∙ ap (λ (n : ℕ). failed_openings down + n) (failed_append way added) in
-        let one : length (unread_of root down) ≡ 0 = no_failure down (sym (ap (unread_of root) (append-nil down)) ∙ unread_behind root down [] h.down.audits.opened) in
-        let two : length (unread_of root way) ≡ 0 = no_failure way (sym (ap (unread_of root) (append-nil way)) ∙ unread_behind root way [] h.way.audits.opened) in
+        let one : length (unread_of None root down) ≡ 0 = no_failure down (sym (ap (unread_of None root) (append-nil down)) ∙ unread_behind None root down [] h.down.audits.opened) in
+        let two : length (unread_of None root way) ≡ 0 = no_failure way (sym (ap (unread_of None root) (append-nil way)) ∙ unread_behind None root way [] h.way.audits.opened) in
         omega (arith, counts.failures, since, one, two, h.down.audits.did.failures_are, h.way.audits.did.failures_are, ap (λ (x : Store). x.failures) h.alike.there)
 
     stopped_on : (q : Place) → ran.end ≡ status.Stopped (Fault (fault.Store q)) → s.failures + 1 ≤ t.failures
     unfolding hashed_among
     stopped_on q is =
         let more : h.before.failures + 1 ≤ h.behind.failures = stopped_ends (known_call root h.before h.behind old new) part (place_in c.state) h.runs.last l ran.spent ran.files ran.found ran.end h.runs.run q is in
-        let one : length (unread_of root down) ≡ 0 = no_failure down (sym (ap (unread_of root) (append-nil down)) ∙ unread_behind root down [] h.down.audits.opened) in
-        let two : length (unread_of root way) ≡ 0 = no_failure way (sym (ap (unread_of root) (append-nil way)) ∙ unread_behind root way [] h.way.audits.opened) in
+        let one : length (unread_of None root down) ≡ 0 = no_failure down (sym (ap (unread_of None root) (append-nil down)) ∙ unread_behind None root down [] h.down.audits.opened) in
+        let two : length (unread_of None root way) ≡ 0 = no_failure way (sym (ap (unread_of None root) (append-nil way)) ∙ unread_behind None root way [] h.way.audits.opened) in
         omega (arith, more, one, two, h.down.audits.did.failures_are, h.way.audits.did.failures_are, ap (λ (x : Store). x.failures) h.alike.there, ap (λ (x : Store). x.failures) h.alike.here)
 
     listed : t.failed_listings ≡ s.failed_listings ++ h.alike.added.failed
@@ -187,11 +187,11 @@ module _ (root : StorageRoot) (s t : Store) (old new : Text) (part : Part) (c : 
     -- nothing failed on the way
     none_failed_down : (q : Place) → failed_at q h.begun ≤ failed_at q h.before
     unfolding hashed_among
-    none_failed_down q = failed_none q h.down.audits.did (no_failure down (sym (ap (unread_of root) (append-nil down)) ∙ unread_behind root down [] h.down.audits.opened))
+    none_failed_down q = failed_none q h.down.audits.did (no_failure down (sym (ap (unread_of None root) (append-nil down)) ∙ unread_behind None root down [] h.down.audits.opened))
 
     none_failed_on : (q : Place) → failed_at q h.there ≤ failed_at q h.begun
     unfolding hashed_among
-    none_failed_on q = failed_none q h.way.audits.did (no_failure way (sym (ap (unread_of root) (append-nil way)) ∙ unread_behind root way [] h.way.audits.opened))
+    none_failed_on q = failed_none q h.way.audits.did (no_failure way (sym (ap (unread_of None root) (append-nil way)) ∙ unread_behind None root way [] h.way.audits.opened))
 
     failed_on : (q : Place) → ran.end ≡ status.Stopped (Fault (fault.Store q)) → failed_at q s + 1 ≤ failed_at q t
     failed_on q is =
@@ -213,8 +213,8 @@ module _ (root : StorageRoot) (s t : Store) (old new : Text) (part : Part) (c : 
           wrote = r.wrote;
           uncut = r.uncut;
           made = r.made;
-          unread = ap (unread_of root) (since_is s t added here) ∙ sym (ap (unread_of root) opened ∙ none_down);
-          content = ap (content_trail root) (since_is s t added here) ∙ sym (ap (content_trail root) opened ∙ meta_down);
+          unread = ap (unread_of None root) (since_is s t added here) ∙ sym (ap (unread_of None root) opened ∙ none_down);
+          content = ap (content_trail None root) (since_is s t added here) ∙ sym (ap (content_trail None root) opened ∙ meta_down);
           stopped = stopped_on;
           failed = failed_on;
           counts = counts_by s t added h.alike.added.failed here listed (omega (arith, failed, ap (λ (x : Store). x.failures) h.alike.here));
@@ -255,7 +255,7 @@ module _ (root : StorageRoot) (s t : Store) (old new : Text) (part : Part) (c : 
       let r = looked_by root s t old new part c l ran met h in
       let cursor : r.run.ran.cursor ≡ ran.cursor = ap (λ (x : RunEnd). x.cursor) r.ran_is in
       let once : (ran.end ≡ status.Ended) ⊎ (ran.end ≡ status.Spent) → AreReadOnce ran.cursor.state (content_since root s t) = λ how.
-      subst (AreReadOnce ran.cursor.state) (sym r.content) (subst (λ (x : Cursor). AreReadOnce x.state (content_trail root r.run.opened)) cursor
+      subst (AreReadOnce ran.cursor.state) (sym r.content) (subst (λ (x : Cursor). AreReadOnce x.state (content_trail None root r.run.opened)) cursor
       (run_once root part c r.run r.made (⊎_elim (λ e. inl (ap (λ (x : RunEnd). x.end) r.ran_is ∙ e)) (λ e. inr (ap (λ (x : RunEnd). x.end) r.ran_is ∙ e)) how))) in
       record {
         stays = subst (λ (x : Cursor). StaysTaken (begun c).state x.state) cursor (run_stays root part c r.run r.made);
@@ -288,11 +288,11 @@ module _ (root : StorageRoot) (s t : Store) (old new : Text) (part : Part) (c : 
   run_ascends = let r = looked_by root s t old new part c l ran met h in subst (IsAscending place_cmp) (sym r.content) (run_up root part c r.run r.made)
 
   -- of which it took all, but one if it stopped
-  pub run_took : ran.end ≢ status.Stopped Output → IsOpened ran.cursor.state (slice_end ran.end) (content_since root s t)
+  pub run_took : ran.end ≢ status.Stopped Output → TookOrBegan ran.cursor.state (slice_end ran.end) (content_since root s t)
   run_took whole =
       let r = looked_by root s t old new part c l ran met h in
-      subst (IsOpened ran.cursor.state (slice_end ran.end)) (sym r.content)
-      (subst (λ (x : RunEnd). IsOpened x.cursor.state (slice_end x.end) (content_trail root r.run.opened)) r.ran_is (run_opened root part c r.run r.made (λ e. whole (sym (ap (λ (x : RunEnd). x.end) r.ran_is) ∙ e))))
+      subst (TookOrBegan ran.cursor.state (slice_end ran.end)) (sym r.content)
+      (subst (λ (x : RunEnd). TookOrBegan x.cursor.state (slice_end x.end) (content_trail None root r.run.opened)) r.ran_is (run_opened root part c r.run r.made (λ e. whole (sym (ap (λ (x : RunEnd). x.end) r.ran_is) ∙ e))))
 
 -- of a part, a cursor and lines that are known by two names
 pub run_at : {look : Look} {rest part : Part} {made c : Cursor} {ran : RunEnd} {new lines : Text} → rest ≡ part → made ≡ c → new ≡ lines → IsRun rest made look new ran → IsRun part c look lines ran

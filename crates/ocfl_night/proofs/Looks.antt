@@ -117,19 +117,19 @@ module _ {r s t : Store} (p : Counts r s) (q : Counts s t) where
     failed = λ x. let one = p.failed x in let two = q.failed x in omega (arith, one, two);
   }
 
-  unread_both : (root : StorageRoot) → unread_of root (opened_since r t) ≡ unread_of root (opened_since r s) ++ unread_of root (opened_since s t)
-  unread_both root = ap (unread_of root) since_both ∙ unread_append root (opened_since r s) (opened_since s t)
+  unread_both : (root : StorageRoot) → unread_of None root (opened_since r t) ≡ unread_of None root (opened_since r s) ++ unread_of None root (opened_since s t)
+  unread_both root = ap (unread_of None root) since_both ∙ unread_append None root (opened_since r s) (opened_since s t)
 
   pub first_within : (root : StorageRoot) → IsWithin (look_between root r s) (look_between root r t)
   first_within root = record {
     root = refl;
-    unread = λ e is. subst (λ (u : Unread). IsAmong u e) (sym (unread_both root)) (among_left (unread_of root (opened_since r s)) (unread_of root (opened_since s t)) e is);
+    unread = λ e is. subst (λ (u : Unread). IsAmong u e) (sym (unread_both root)) (among_left (unread_of None root (opened_since r s)) (unread_of None root (opened_since s t)) e is);
   }
 
   pub last_within : (root : StorageRoot) → IsWithin (look_between root s t) (look_between root r t)
   last_within root = record {
     root = refl;
-    unread = λ e is. subst (λ (u : Unread). IsAmong u e) (sym (unread_both root)) (among_right (unread_of root (opened_since r s)) (unread_of root (opened_since s t)) e is);
+    unread = λ e is. subst (λ (u : Unread). IsAmong u e) (sym (unread_both root)) (among_right (unread_of None root (opened_since r s)) (unread_of None root (opened_since s t)) e is);
   }
 
 -- ---- looks

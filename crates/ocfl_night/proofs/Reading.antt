@@ -43,21 +43,21 @@ use Rattle.ocfl_night.proofs.{Foreigners.{at_once}, Looks.{leaf_there, since_bot
 
 -- ---- openings of declarations
 
-no_content : (root : StorageRoot) (os : List Opening) → ((o : Opening) → IsAmong os o → is_meta root o.place ≡ true) → content_trail root os ≡ []
+no_content : (root : StorageRoot) (os : List Opening) → ((o : Opening) → IsAmong os o → is_meta None root o.place ≡ true) → content_trail None root os ≡ []
 no_content root [] all = refl
-no_content root (o ∷ os) all = by (is_meta root o.place) (all o (inl refl)) (no_content root os (λ x i. all x (inr i)))
+no_content root (o ∷ os) all = by (is_meta None root o.place) (all o (inl refl)) (no_content root os (λ x i. all x (inr i)))
   where
-    by : (b : Bool) → b ≡ true → content_trail root os ≡ []
-        → map (λ (y : Opening). y.place) (cond (not b) (o ∷ filter (λ (y : Opening). not (is_meta root y.place)) os) (filter (λ (y : Opening). not (is_meta root y.place)) os)) ≡ []
+    by : (b : Bool) → b ≡ true → content_trail None root os ≡ []
+        → map (λ (y : Opening). y.place) (cond (not b) (o ∷ filter (λ (y : Opening). not (is_meta None root y.place)) os) (filter (λ (y : Opening). not (is_meta None root y.place)) os)) ≡ []
     by true is rest = rest
     by false is rest = absurd (true_not_false (sym is))
 
 module _ (root : StorageRoot) (s t : Store) (names : List Text) (all : (n : Text) → IsAmong names n → is_declaration Root n ≡ true) where
   content_named : (os : List Opening) → AreNamed names os → t.openings ≡ s.openings ++ os → content_since root s t ≡ []
-  content_named os named are = ap (content_trail root) (since_is s t os are) ∙ no_content root os (λ o i. let k = named o i in meta o k.0 k.1.1 (all k.0 k.1.0))
+  content_named os named are = ap (content_trail None root) (since_is s t os are) ∙ no_content root os (λ o i. let k = named o i in meta o k.0 k.1.1 (all k.0 k.1.0))
     where
-      meta : (o : Opening) (n : Text) → o.place ≡ n ∷ [] → is_declaration Root n ≡ true → is_meta root o.place ≡ true
-      meta o n at is = ap (is_meta root) at ∙ ap (λ b. b || is_meta_zone (zone root (n ∷ []))) is
+      meta : (o : Opening) (n : Text) → o.place ≡ n ∷ [] → is_declaration Root n ≡ true → is_meta None root o.place ≡ true
+      meta o n at is = ap (is_meta None root) at ∙ ap (λ b. b || is_meta_zone (zone root (n ∷ []))) is
 
   pub content_did : {listed : List Place} {failures : ℕ} → Did s t (openings_of root names) listed failures → content_since root s t ≡ []
   content_did did = content_named (openings_of root names) (opens_named root names) did.openings_are
@@ -96,14 +96,14 @@ are_declarations root id is n i = counted_names (entries_in root []) n (subst (�
 -- ---- what was opened, from one moment to the next
 
 pub content_none : (root : StorageRoot) (s : Store) → content_since root s s ≡ []
-content_none root s = ap (content_trail root) (since_is s s [] (sym (append-nil s.openings)))
+content_none root s = ap (content_trail None root) (since_is s s [] (sym (append-nil s.openings)))
 
 pub content_same : (root : StorageRoot) (s t : Store) → t ≡ s → content_since root s t ≡ []
 content_same root s t same = ap (content_since root s) same ∙ content_none root s
 
 module _ {r s t : Store} (root : StorageRoot) (p : Counts r s) (q : Counts s t) where
   pub content_both : content_since root r t ≡ content_since root r s ++ content_since root s t
-  content_both = ap (content_trail root) (since_both p q) ∙ trail_append root (opened_since r s) (opened_since s t)
+  content_both = ap (content_trail None root) (since_both p q) ∙ trail_append None root (opened_since r s) (opened_since s t)
 
   -- nothing but metadata after it, or before it
   pub content_first_alone : content_since root s t ≡ [] → content_since root r t ≡ content_since root r s

@@ -8,8 +8,12 @@ use Rattle.ocfl_tree.specs.{Place.{Place, place_cmp}, Ascending.{IsAscending, Is
 use Rattle.ocfl_tree.specs.{declared.store.Opening.{Opening}}
 use Rattle.ocfl_tree.proofs.Orders.{among_from_filter, ascends_filter, before_each, not_both_below, not_less, not_less_itself, place_cmp_total, true_not_false}
 use Rattle.ocfl_report.specs.Line.{Item}
-use Rattle.ocfl_rules.specs.{Between.{IsBeyond}, Due.{due, hashed_among}, Lines.{is_hashed}}
-use Rattle.ocfl_rules.specs.{Parts.{Part, lies_in}, Runs.{Limits, left}, Trail.{content_trail}}
+use Rattle.ocfl_rules.specs.Between.{IsBeyond}
+use Rattle.ocfl_rules.specs.Due.{due, hashed_among}
+use Rattle.ocfl_rules.specs.Inventories.{is_hashed}
+use Rattle.ocfl_rules.specs.Parts.{Part, lies_in}
+use Rattle.ocfl_rules.specs.Runs.{Limits, left}
+use Rattle.ocfl_rules.specs.Trail.{content_trail}
 use Rattle.ocfl_rules.proofs.PartLaws.{places_within_is}
 use Rattle.ocfl_cursor.specs.Cursor.{State, start, behind, ended, Cursor}
 use Rattle.ocfl_scrub.specs.{Call.{Call, known_call}, Joining.{PartRun, Ran, is_taken}}
@@ -23,7 +27,7 @@ use Rattle.ocfl_scrub.proofs.{PartStarts.{due_within_ascends}, PassLaws.{among_b
 use Rattle.ocfl_item.specs.Looking.{IsFront}
 use Rattle.ocfl_item.specs.declared.fault.Fault.{Fault}
 use Rattle.ocfl_scrub.specs.declared.stop.ReportStop.TheVariants as report
-use Rattle.ocfl_night.specs.{Again.{AreFew, IsOpened}, Ending.{slice_end}, Reading.{AreReadOnce, StaysTaken}}
+use Rattle.ocfl_night.specs.{Again.{AreFew, TookOrBegan}, Ending.{slice_end}, Reading.{AreReadOnce, StaysTaken}}
 use Rattle.ocfl_terms.specs.declared.made.SliceEnd.TheVariants as slice
 
 -- ---- lists
@@ -57,7 +61,7 @@ below_then q m p low then is = true_not_false (sym is ∙ ap (λ r. not (is_lt r
 -- what is due is after the cursor
 due_beyond : (root : StorageRoot) (part : Part) (from : Option Place) (p : Place) → IsAmong (due_within root part from) p → IsBeyond from p
 due_beyond root part from p i =
-    among_beyond root from p (among_from_filter (lies_in part) (due root from) p (subst (λ zs. IsAmong zs p) (places_within_is part (due root from)) i)).0
+    among_beyond root from p (among_from_filter (lies_in part) (due None root from) p (subst (λ zs. IsAmong zs p) (places_within_is part (due None root from)) i)).0
 
 -- a cursor that went on to the last of some places after it
 stays_by : (from : Option Place) (done : List Place) → ((p : Place) → IsAmong done p → IsBeyond from p) → Stays (state_at from) (state_at (last_or from done))
@@ -106,11 +110,11 @@ module _ {root : StorageRoot} {part : Part} {from last : Option Place} {done : L
       among_front (x ∷ xs) ys q (inl e) = inl e
       among_front (x ∷ xs) ys q (inr i) = inr (among_front xs ys q i)
 
-  hashed_up : IsAscending place_cmp (hashed_among root done)
+  hashed_up : IsAscending place_cmp (hashed_among None root done)
   unfolding hashed_among
-  hashed_up = ascends_filter place_cmp (is_hashed root) done took_up
+  hashed_up = ascends_filter place_cmp (is_hashed None root) done took_up
 
-  hashed_taken : Taken (state_at last) (hashed_among root done)
+  hashed_taken : Taken (state_at last) (hashed_among None root done)
   hashed_taken p i = subst (λ o. is_taken (state_at o) p ≡ true) (sym h.last_is) (taken_by from done p took_up (hashed_are_among root done p i))
 
 -- it took the cut
@@ -164,18 +168,18 @@ module _ (root : StorageRoot) (part : Part) (c : Cursor) (r : PartRun) (w : Ran 
 
   -- it took the cut
   cut_once : (next : Option Place) (end : RunStatus) → r.ran.end ≡ end → RunsWithin call part from last r.limits r.ran.spent r.ran.files r.ran.found next
-      → (Taken (state_at last) (content_trail root r.opened) → Taken (state_after end last) (content_trail root r.opened)) → AreReadOnce r.ran.cursor.state (content_trail root r.opened)
+      → (Taken (state_at last) (content_trail None root r.opened) → Taken (state_after end last) (content_trail None root r.opened)) → AreReadOnce r.ran.cursor.state (content_trail None root r.opened)
   cut_once next end e h more =
       let took = took_cut root part from last r.limits h.trail h.last_is in
       let same : h.trail ≡ r.opened = sym (append_cancel_left w.before.openings r.opened h.trail (sym w.opened_is ∙ h.looks.audits.did.openings_are)) in
-      let content : hashed_among root (places (taken_in root h.trail part from r.limits)) ≡ content_trail root r.opened = sym h.looks.audits.opened ∙ ap (content_trail root) same in
+      let content : hashed_among None root (places (taken_in root h.trail part from r.limits)) ≡ content_trail None root r.opened = sym h.looks.audits.opened ∙ ap (content_trail None root) same in
       record {
         once = subst (IsAscending place_cmp) content (hashed_up took);
-        taken = record { each = subst (λ (s : State). Taken s (content_trail root r.opened)) (sym (state_is end e)) (more (subst (Taken (state_at last)) content (hashed_taken took))) };
+        taken = record { each = subst (λ (s : State). Taken s (content_trail None root r.opened)) (sym (state_is end e)) (more (subst (Taken (state_at last)) content (hashed_taken took))) };
       }
 
   -- and if it did, it read each file once
-  pub run_once : (r.ran.end ≡ status.Ended) ⊎ (r.ran.end ≡ status.Spent) → AreReadOnce r.ran.cursor.state (content_trail root r.opened)
+  pub run_once : (r.ran.end ≡ status.Ended) ⊎ (r.ran.end ≡ status.Spent) → AreReadOnce r.ran.cursor.state (content_trail None root r.opened)
   run_once (inl e) =
       cut_once None status.Ended e (subst (RunEndsWithin call part from last r.limits r.ran.spent r.ran.files r.ran.found) e w.runs.run) (λ all p i. refl)
   run_once (inr e) =
@@ -187,23 +191,23 @@ module _ (root : StorageRoot) (part : Part) (c : Cursor) (r : PartRun) (w : Ran 
     abbrev whole : List Place
     whole = places h.stops.whole
 
-    stopped_content : hashed_among root (whole ++ h.stops.begun) ≡ content_trail root r.opened
-    stopped_content = sym h.looks.fails.opened ∙ ap (content_trail root) (sym (append_cancel_left w.before.openings r.opened h.trail (sym w.opened_is ∙ h.looks.fails.did.openings_are)))
+    stopped_content : hashed_among None root (whole ++ h.stops.begun) ≡ content_trail None root r.opened
+    stopped_content = sym h.looks.fails.opened ∙ ap (content_trail None root) (sym (append_cancel_left w.before.openings r.opened h.trail (sym w.opened_is ∙ h.looks.fails.did.openings_are)))
 
-    stopped_split : content_trail root r.opened ≡ hashed_among root whole ++ hashed_among root h.stops.begun
+    stopped_split : content_trail None root r.opened ≡ hashed_among None root whole ++ hashed_among None root h.stops.begun
     unfolding hashed_among
-    stopped_split = sym stopped_content ∙ filter-append (is_hashed root) whole h.stops.begun
+    stopped_split = sym stopped_content ∙ filter-append (is_hashed None root) whole h.stops.begun
 
-    one_begun : length (hashed_among root h.stops.begun) ≤ 1
+    one_begun : length (hashed_among None root h.stops.begun) ≤ 1
     unfolding hashed_among
-    one_begun = let few = length_filter_le (is_hashed root) h.stops.begun in let one = front_one h.stops.begun h.stops.others h.stops.one in omega (arith, few, one)
+    one_begun = let few = length_filter_le (is_hashed None root) h.stops.begun in let one = front_one h.stops.begun h.stops.others h.stops.one in omega (arith, few, one)
 
-    stopped_taken : Taken r.ran.cursor.state (hashed_among root whole)
-    stopped_taken = subst (λ (s : State). Taken s (hashed_among root whole)) (sym (state_is (status.Stopped why) e)) (hashed_taken (took_whole call part from last r.limits r.ran.spent r.ran.files r.ran.found why h))
+    stopped_taken : Taken r.ran.cursor.state (hashed_among None root whole)
+    stopped_taken = subst (λ (s : State). Taken s (hashed_among None root whole)) (sym (state_is (status.Stopped why) e)) (hashed_taken (took_whole call part from last r.limits r.ran.spent r.ran.files r.ran.found why h))
 
-    stopped_up : IsAscending place_cmp (content_trail root r.opened)
+    stopped_up : IsAscending place_cmp (content_trail None root r.opened)
     unfolding hashed_among
-    stopped_up = subst (IsAscending place_cmp) stopped_content (ascends_filter place_cmp (is_hashed root) (whole ++ h.stops.begun) all_up)
+    stopped_up = subst (IsAscending place_cmp) stopped_content (ascends_filter place_cmp (is_hashed None root) (whole ++ h.stops.begun) all_up)
       where
         rest : List Item
         rest = left (items_in root h.trail part from) r.limits
@@ -225,31 +229,31 @@ module _ (root : StorageRoot) (part : Part) (c : Cursor) (r : PartRun) (w : Ran 
             ascends_left place_cmp (whole ++ h.stops.begun) h.stops.one.0 (ascends_left place_cmp ((whole ++ h.stops.begun) ++ h.stops.one.0) _ (subst (IsAscending place_cmp) due_are (due_within_ascends root part from)))
 
   -- each file once, in order, also if it stopped
-  pub run_up : IsAscending place_cmp (content_trail root r.opened)
+  pub run_up : IsAscending place_cmp (content_trail None root r.opened)
   run_up = by r.ran.end refl
     where
-      by : (end : RunStatus) → r.ran.end ≡ end → IsAscending place_cmp (content_trail root r.opened)
+      by : (end : RunStatus) → r.ran.end ≡ end → IsAscending place_cmp (content_trail None root r.opened)
       by status.Ended e = (run_once (inl e)).once
       by status.Spent e = (run_once (inr e)).once
       by (status.Stopped why) e = stopped_up why e (subst (RunEndsWithin call part from last r.limits r.ran.spent r.ran.files r.ran.found) e w.runs.run)
       by status.Worn e = absurd (subst (RunEndsWithin call part from last r.limits r.ran.spent r.ran.files r.ran.found) e w.runs.run)
 
-  pub run_opened : r.ran.end ≢ status.Stopped report.Output → IsOpened r.ran.cursor.state (slice_end r.ran.end) (content_trail root r.opened)
+  pub run_opened : r.ran.end ≢ status.Stopped report.Output → TookOrBegan r.ran.cursor.state (slice_end r.ran.end) (content_trail None root r.opened)
   run_opened whole_lines = by r.ran.end refl
     where
-      all : (end : RunStatus) → AreReadOnce r.ran.cursor.state (content_trail root r.opened) → AreFew (slice_end end) [] → IsOpened r.ran.cursor.state (slice_end end) (content_trail root r.opened)
-      all end once few = record { took = content_trail root r.opened; begun = []; are = sym (append-nil (content_trail root r.opened)); taken = once.taken; few = few }
+      all : (end : RunStatus) → AreReadOnce r.ran.cursor.state (content_trail None root r.opened) → AreFew (slice_end end) [] → TookOrBegan r.ran.cursor.state (slice_end end) (content_trail None root r.opened)
+      all end once few = record { took = content_trail None root r.opened; begun = []; are = sym (append-nil (content_trail None root r.opened)); taken = once.taken; few = few }
 
-      stops : (why : Fault) → r.ran.end ≡ status.Stopped (report.Fault why) → RunStopsWithin call part from last r.limits r.ran.spent r.ran.files r.ran.found (report.Fault why) → IsOpened r.ran.cursor.state (slice.Stopped why) (content_trail root r.opened)
+      stops : (why : Fault) → r.ran.end ≡ status.Stopped (report.Fault why) → RunStopsWithin call part from last r.limits r.ran.spent r.ran.files r.ran.found (report.Fault why) → TookOrBegan r.ran.cursor.state (slice.Stopped why) (content_trail None root r.opened)
       stops why e h = record {
-        took = hashed_among root (whole (report.Fault why) e h);
-        begun = hashed_among root h.stops.begun;
+        took = hashed_among None root (whole (report.Fault why) e h);
+        begun = hashed_among None root h.stops.begun;
         are = stopped_split (report.Fault why) e h;
         taken = record { each = stopped_taken (report.Fault why) e h };
         few = one_begun (report.Fault why) e h;
       }
 
-      by : (end : RunStatus) → r.ran.end ≡ end → IsOpened r.ran.cursor.state (slice_end end) (content_trail root r.opened)
+      by : (end : RunStatus) → r.ran.end ≡ end → TookOrBegan r.ran.cursor.state (slice_end end) (content_trail None root r.opened)
       by status.Ended e = all status.Ended (run_once (inl e)) refl
       by status.Spent e = all status.Spent (run_once (inr e)) refl
       by (status.Stopped report.Output) e = absurd (whole_lines e)

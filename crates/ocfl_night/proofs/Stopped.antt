@@ -9,11 +9,16 @@ use Rattle.ocfl_tree.proofs.Orders.{among_filter, among_from_filter, among_map, 
 use Rattle.ocfl_digest.specs.declared.algorithm.Algorithm.TheVariants.{Sha256, Sha512}
 use Rattle.ocfl_inventory.specs.Declaration.{is_declaration}
 use Rattle.ocfl_inventory.specs.declared.declaration.Level.TheVariants.{Object}
-use Rattle.ocfl_rules.specs.{Due.{hashed_among}, Head.{sidecar_name}, Parts.{Part}}
-use Rattle.ocfl_rules.specs.Lines.{is_hashed, is_inventory_or_sidecar}
+use Rattle.ocfl_rules.specs.Due.{hashed_among}
+use Rattle.ocfl_rules.specs.Head.{sidecar_name}
+use Rattle.ocfl_rules.specs.Parts.{Part}
+use Rattle.ocfl_rules.specs.Inventories.{is_hashed}
+use Rattle.ocfl_rules.specs.Lines.{is_inventory_or_sidecar}
 use Rattle.ocfl_rules.specs.Trail.{content_openings, is_meta, is_meta_zone, is_object_meta, is_root_meta}
 use Rattle.ocfl_rules.specs.Zone.{Zone, skipped, hierarchy, inside, inventory_name, zone}
-use Rattle.ocfl_rules.proofs.{AuditExists.{zone_is}, BelowLaws.{cmp_behind, text_from_test}, BranchLaws.{nothing_above}}
+use Rattle.ocfl_rules.proofs.AuditExists.{zone_is}
+use Rattle.ocfl_rules.proofs.BelowLaws.{cmp_behind, text_from_test}
+use Rattle.ocfl_rules.proofs.BranchLaws.{nothing_above}
 use Rattle.ocfl_item.specs.{Auditing.{Fails, FailedAt, in_listing, in_opening}}
 use Rattle.ocfl_item.specs.declared.fault.Fault.TheVariants as fault
 use Rattle.ocfl_cursor.specs.Cursor.{Cursor}
@@ -85,14 +90,14 @@ module _ (root : StorageRoot) (q : Place) where
   in_zone hierarchy e h = absurd (true_not_false (sym h))
   in_zone (inside o s) e h = in_object o s e h
 
-  speaks : is_meta root q ≡ true → (is_root_meta q || speaks_for_object (last_name q)) ≡ true
+  speaks : is_meta None root q ≡ true → (is_root_meta q || speaks_for_object (last_name q)) ≡ true
   speaks h = by (is_root_meta q) refl h
     where
       by : (b : Bool) → is_root_meta q ≡ b → (b || is_meta_zone (zone root q)) ≡ true → (is_root_meta q || speaks_for_object (last_name q)) ≡ true
       by true e k = or_left (is_root_meta q) (speaks_for_object (last_name q)) e
       by false e k = or_right (is_root_meta q) (speaks_for_object (last_name q)) (in_zone (zone root q) refl k)
 
-  meta_branch : (d : Place) (n : Text) → q ≡ d ++ n ∷ [] → is_meta root q ≡ true → branch_at q ≡ d
+  meta_branch : (d : Place) (n : Text) → q ≡ d ++ n ∷ [] → is_meta None root q ≡ true → branch_at q ≡ d
   meta_branch d n is h =
       let long : length q - 1 ≡ length d = omega (arith, ap length is, length-append d (n ∷ [])) in
       ap (λ (b : Bool). if b then take (length q - 1) q else q) (speaks h)
@@ -100,9 +105,9 @@ module _ (root : StorageRoot) (q : Place) where
 
 -- ---- the place at which a call failed
 
-hashed_there : (root : StorageRoot) (ps : List Place) (p : Place) → IsAmong (hashed_among root ps) p → is_hashed root p ≡ true
+hashed_there : (root : StorageRoot) (ps : List Place) (p : Place) → IsAmong (hashed_among None root ps) p → is_hashed None root p ≡ true
 unfolding hashed_among
-hashed_there root ps p i = (among_from_filter (is_hashed root) ps p i).1
+hashed_there root ps p i = (among_from_filter (is_hashed None root) ps p i).1
 
 -- of a directory that was listed its branch is that or is on the way to it, and of a file that was
 -- opened it is one of these directories
@@ -111,21 +116,21 @@ record IsListed (dirs : List Place) (q : Place) : Type 0 where
   pub among : IsAmong dirs dir
   pub ahead : (y : Place) → is_lt (place_cmp y dir) ≡ false → is_lt (place_cmp y (branch_at q)) ≡ false
 
-failed_listed : (root : StorageRoot) (s t : Store) (begun listed heads : List Place) (trail : List Opening) (q : Place) → Fails root s t begun listed heads trail (Some q) → IsListed listed q
+failed_listed : (root : StorageRoot) (s t : Store) (begun listed heads : List Place) (trail : List Opening) (q : Place) → Fails None root s t begun listed heads trail (Some q) → IsListed listed q
 failed_listed root s t begun listed heads trail q h = by (h.store q refl).1
   where
-    by : FailedAt root s t listed trail q → IsListed listed q
+    by : FailedAt None root s t listed trail q → IsListed listed q
     by (in_listing before is failed read) = record {
       dir = q;
       among = subst (λ ds. IsAmong ds q) (sym is) (among_right before (q ∷ []) q (inl refl));
       ahead = before_branch q;
     }
-    by (in_opening before given is none) = of (is_meta root q) refl
+    by (in_opening before given is none) = of (is_meta None root q) refl
       where
         there : IsAmong trail (opening q given true)
         there = subst (λ os. IsAmong os (opening q given true)) (sym is) (among_right before (opening q given true ∷ []) (opening q given true) (inl refl))
 
-        of : (b : Bool) → is_meta root q ≡ b → IsListed listed q
+        of : (b : Bool) → is_meta None root q ≡ b → IsListed listed q
         of true e =
             let k = h.near (opening q given true) there e in
             record {
@@ -134,8 +139,8 @@ failed_listed root s t begun listed heads trail q h = by (h.store q refl).1
               ahead = λ y low. subst (λ b. is_lt (place_cmp y b) ≡ false) (sym (meta_branch root q k.0 k.1.0 k.1.1.1 e)) low;
             }
         of false e =
-            let content : IsAmong (content_openings root trail) (opening q given true) = among_filter (λ x. not (is_meta root x.place)) trail (opening q given true) there (ap not e) in
-            let hashed = hashed_there root begun q (subst (λ l. IsAmong l q) h.opened (among_map (λ x. x.place) (content_openings root trail) (opening q given true) content)) in
+            let content : IsAmong (content_openings None root trail) (opening q given true) = among_filter (λ x. not (is_meta None root x.place)) trail (opening q given true) there (ap not e) in
+            let hashed = hashed_there root begun q (subst (λ l. IsAmong l q) h.opened (among_map (λ x. x.place) (content_openings None root trail) (opening q given true) content)) in
             absurd (true_not_false (sym hashed ∙ (h.store q refl).0))
 
 -- ---- a run that stopped there

@@ -38,7 +38,7 @@ AreFew (slice.Stopped why) ps = length ps ≤ 1
 AreFew _ ps = ⊤
 
 -- of the content files that it opened it took these, by where it led, and had begun with those
-pub record IsOpened (to : State) (end : SliceEnd) (ps : List Place) : Type 0 where
+pub record TookOrBegan (to : State) (end : SliceEnd) (ps : List Place) : Type 0 where
   pub took : List Place
   pub begun : List Place
   pub are : ps ≡ took ++ begun

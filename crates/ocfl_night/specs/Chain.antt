@@ -17,7 +17,7 @@ pub record RootRun : Type 0 where
 
 -- what it looked at
 abbrev pub look_of : RootRun → Look
-look_of r = record { root = r.root; unread = unread_of r.root r.run.opened }
+look_of r = record { root = r.root; unread = unread_of None r.root r.run.opened }
 
 -- each of some runs was one of these looks, if any are known
 abbrev pub AreLooked : Option Known → List RootRun → Type 0

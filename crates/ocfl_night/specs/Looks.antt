@@ -34,7 +34,7 @@ pub record Look : Type 0 where
 
 -- what a store of this root was looked at for from one moment to another
 abbrev pub look_between : StorageRoot → Store → Store → Look
-look_between root s t = record { root = root; unread = unread_of root (opened_since s t) }
+look_between root s t = record { root = root; unread = unread_of None root (opened_since s t) }
 
 -- no more was unread
 abbrev pub IsNoMore : Unread → Unread → Type 0

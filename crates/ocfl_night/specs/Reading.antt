@@ -18,7 +18,7 @@ use Rattle.ocfl_terms.specs.declared.plan.Halt.TheVariants as halt
 
 -- the content files that were opened from one moment to another, in order
 abbrev pub content_since : StorageRoot → Store → Store → List Place
-content_since root s t = content_trail root (opened_since s t)
+content_since root s t = content_trail None root (opened_since s t)
 
 -- the files that tell one storage root from another are declarations
 abbrev pub AreDeclarations : Identity → Type 0

@@ -152,7 +152,7 @@ pub record IsRun (part : Part) (c : Cursor) (look : Look) (lines : Text) (ran : 
   pub run : PartRun
   pub ran_is : run.ran ≡ ran
   pub made : Ran look.root part c run
-  pub looked : IsNoMore (unread_of look.root run.opened) look.unread
+  pub looked : IsNoMore (unread_of None look.root run.opened) look.unread
   pub lines_are : lines ≡ run.report
 
 -- the walk that is kept goes on where the run from a checkpoint's cursor begins

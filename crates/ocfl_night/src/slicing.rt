@@ -14,7 +14,7 @@ ghost use Rattle.ocfl_night.specs.Asking.{AskedFrom, GaveAll, IsMetBy, IsRunAndL
 ghost use Rattle.ocfl_night.specs.Chain.{part_after};
 ghost use Rattle.ocfl_night.specs.Looks.{Counts, IsOneOf, Look, Rounds, WithLook, look_between};
 ghost use Rattle.ocfl_night.specs.Halting.{FailedMore, stopped_at, unread_at};
-ghost use Rattle.ocfl_night.specs.Again.{IsOpened, OnlyGoesOn};
+ghost use Rattle.ocfl_night.specs.Again.{TookOrBegan, OnlyGoesOn};
 ghost use Rattle.ocfl_night.specs.Ending.{IsAway, IsMadeBy, IsNextBy, IsSlice, IsUnkept, KeepsTo, lost_by, place_or_pause, slice_end};
 ghost use Rattle.ocfl_night.specs.Promises.{IfReady, IfReadyIn, IfThere, IfWalkAt, IsSafeIn, SameClosed, StopsNextOver};
 ghost use Rattle.ocfl_night.specs.Reading.{AreBeyond, AreDeclarations, HasRead, content_since, reached};
@@ -78,7 +78,7 @@ fn make_run<T: Tree>(
         (content_since root (T.state tree.old) (T.state tree.new)))) }
     ensures took { AreDeclarations identity.now → IfTold T.told (T.state tree.old) (λ root.
         HasShortFiles root → IsWalkReady root (part_of part.now) (place_in cursor.state) kept.old
-        → IfOk result (λ r. IsOpened r.0.cursor.state (slice_end r.0.end)
+        → IfOk result (λ r. TookOrBegan r.0.cursor.state (slice_end r.0.end)
         (content_since root (T.state tree.old) (T.state tree.new)))) }
     ensures once { AreDeclarations identity.now → IfTold T.told (T.state tree.old) (λ root.
         HasShortFiles root → IsWalkReady root (part_of part.now) (place_in cursor.state) kept.old
@@ -310,7 +310,7 @@ pub fn slice<S: StateFolder, T: Tree>(
         IsAscending place_cmp (content_since root (T.state tree.old) (T.state tree.new))) }
     ensures took { AreDeclarations identity.now → IfWalkAt T.told (T.state tree.old)
         (part_of part.now) checkpoint kept.old (λ root. IfOk result (λ made.
-        IsOpened (reached made.checkpoint) made.end
+        TookOrBegan (reached made.checkpoint) made.end
         (content_since root (T.state tree.old) (T.state tree.new)))) }
     ensures crash { IsTrue S.told → AreDeclarations identity.now → IfWalkAt T.told
         (T.state tree.old) (part_of part.now) checkpoint kept.old (λ root.

@@ -213,7 +213,7 @@ module _ (root : StorageRoot) (known : Known) where
 
   unread_among : (r : RootRun) → r.root ≡ root → IsOneOf (Some known) (look_of r) → (e : Place × ℕ) → IsAmong (unread_by root r.run) e → CouldNot e
   unread_among r over one e is =
-      let opened : IsAmong (unread_of r.root r.run.opened) e = subst (λ (x : StorageRoot). IsAmong (unread_of x r.run.opened) e) (sym over) (among_filter (λ x. is_taken r.run.ran.cursor.state x.0) (unread_of root r.run.opened) e is) in
+      let opened : IsAmong (unread_of None r.root r.run.opened) e = subst (λ (x : StorageRoot). IsAmong (unread_of None x r.run.opened) e) (sym over) (among_filter (λ x. is_taken r.run.ran.cursor.state x.0) (unread_of None root r.run.opened) e is) in
       (one.0, (one.1.0, one.1.1.unread e opened))
 
   -- what they could not read, one of the looks could not
@@ -238,12 +238,12 @@ module _ {F : Type 0} (root : StorageRoot) (nights : List (Night F)) (over : Are
       let all : could.0.unread ≡ [] = among_map (λ (l : Look). l.unread ≡ []) (λ n. n.look) nights read could.0 could.1.0 in
       subst (λ (u : Unread). IsAmong u e) all could.1.1
 
-  module _ (join : (root : StorageRoot) (part : Part) (c : Cursor) (runs : List PartRun) → place_in c.state ≡ None → AreOneCycle root part c runs → (cursor_after c runs).state ≡ ended → reports_of runs ≡ text (within part (audit root (unread_together root runs)))) (part : Part) where
+  module _ (join : (root : StorageRoot) (part : Part) (c : Cursor) (runs : List PartRun) → place_in c.state ≡ None → AreOneCycle root part c runs → (cursor_after c runs).state ≡ ended → reports_of runs ≡ text (within part (audit None root (unread_together root runs)))) (part : Part) where
     module _ (d : Closed) (w : IsReportOf (rounds_of part nights) [] d) where
       one_root : AllByRecursion (λ r. r.root ≡ root) w.led.runs
       one_root = over_one root known looks_over w.led.runs w.led.looked
 
-      audited : d.report ≡ text (within part (audit root (unread_together root (map (λ r. r.run) w.led.runs))))
+      audited : d.report ≡ text (within part (audit None root (unread_together root (map (λ r. r.run) w.led.runs))))
       audited =
           let one = one_cycle root part w.led.first w.last w.led.runs one_root w.led.chain in
           w.report ∙ joined_reports w.led.runs ∙ join root part w.led.first (map (λ r. r.run) w.led.runs) w.led.starts one.0 one.1
@@ -255,9 +255,9 @@ module _ {F : Type 0} (root : StorageRoot) (nights : List (Night F)) (over : Are
         each = unread_each root known w.led.runs one_root w.led.looked;
       }
 
-      pub is_audit : HaveReadAll nights → d.report ≡ text (within part (audit root []))
+      pub is_audit : HaveReadAll nights → d.report ≡ text (within part (audit None root []))
       is_audit read =
-          audited ∙ ap (λ (u : Unread). text (within part (audit root u))) (none_among (unread_together root (map (λ r. r.run) w.led.runs)) (λ e is. read_none read e (unread_each root known w.led.runs one_root w.led.looked e is)))
+          audited ∙ ap (λ (u : Unread). text (within part (audit None root u))) (none_among (unread_together root (map (λ r. r.run) w.led.runs)) (λ e is. read_none read e (unread_each root known w.led.runs one_root w.led.looked e is)))
 
     -- ---- around what was left out
 
@@ -270,14 +270,14 @@ module _ {F : Type 0} (root : StorageRoot) (nights : List (Night F)) (over : Are
       is =
           w.report
           ∙ wrote_around root part w.led.first w.last w.led.runs left w.led.chain (over_one root known looks_over w.led.runs w.led.looked) (read_runs w.led.runs (over_one root known looks_over w.led.runs w.led.looked) w.led.looked)
-          ∙ ap (λ (from : Option Place). text (around part from left (audit root []))) w.led.starts;
+          ∙ ap (λ (from : Option Place). text (around part from left (audit None root []))) w.led.starts;
     }
       where
-        read_run : (r : RootRun) → r.root ≡ root → IsOneOf (Some known) (look_of r) → unread_of root r.run.opened ≡ []
+        read_run : (r : RootRun) → r.root ≡ root → IsOneOf (Some known) (look_of r) → unread_of None root r.run.opened ≡ []
         read_run r over one =
-            none_among (unread_of root r.run.opened) (λ e is. read_none read e (one.0, (one.1.0, one.1.1.unread e (subst (λ (x : StorageRoot). IsAmong (unread_of x r.run.opened) e) (sym over) is))))
+            none_among (unread_of None root r.run.opened) (λ e is. read_none read e (one.0, (one.1.0, one.1.1.unread e (subst (λ (x : StorageRoot). IsAmong (unread_of None x r.run.opened) e) (sym over) is))))
 
-        read_runs : (runs : List RootRun) → AllByRecursion (λ r. r.root ≡ root) runs → AreLooked (Some known) runs → AllByRecursion (λ r. unread_of root r.run.opened ≡ []) runs
+        read_runs : (runs : List RootRun) → AllByRecursion (λ r. r.root ≡ root) runs → AreLooked (Some known) runs → AllByRecursion (λ r. unread_of None root r.run.opened ≡ []) runs
         read_runs [] over looked = tt
         read_runs (r ∷ runs) over looked = (read_run r over.0 looked.0, read_runs runs over.1 looked.1)
 
@@ -296,10 +296,10 @@ nothing_there : (os : List Opening) → length os ≡ 0 → os ≡ []
 nothing_there [] is = refl
 nothing_there (o ∷ os) is = absurd (omega (arith, is))
 
-no_unread : (root : StorageRoot) (os : List Opening) → failed_openings os ≡ 0 → unread_of root os ≡ []
+no_unread : (root : StorageRoot) (os : List Opening) → failed_openings os ≡ 0 → unread_of None root os ≡ []
 no_unread root os none =
     let failed : Opening → Bool = λ o. o.failed in
-    let content : Opening → Bool = λ o. not (is_meta root o.place) in
+    let content : Opening → Bool = λ o. not (is_meta None root o.place) in
     ap (map (λ (o : Opening). (o.place, o.given))) (filters_turn failed content os ∙ ap (filter content) (nothing_there (filter failed os) none))
 
 pub all_read : (root : StorageRoot) (s t : Store) → Counts s t → t.failures ≡ s.failures → (look_between root s t).unread ≡ []

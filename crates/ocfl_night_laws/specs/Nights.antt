@@ -59,7 +59,7 @@ EachWhole Holds closed = (d : Closed) → IsAmong closed d → d.whole ≡ true 
 -- could not read it
 pub record IsAuditBut (root : StorageRoot) (part : Part) (looks : List Look) (report : Text) : Type 0 where
   pub unread : Unread
-  pub is : report ≡ text (within part (audit root unread))
+  pub is : report ≡ text (within part (audit None root unread))
   pub each : (e : Place × ℕ) → IsAmong unread e → (l : Look) × (IsAmong looks l × IsAmong l.unread e)
 
 -- all nights looked at this storage root
@@ -76,7 +76,7 @@ pub record IsAround (root : StorageRoot) (part : Part) (report : Text) : Type 0 
   pub left : List Left
   pub some : left ≢ []
   pub next : AreNext root part left
-  pub is : report ≡ text (around part None left (audit root []))
+  pub is : report ≡ text (around part None left (audit None root []))
 
 -- of each other one this holds
 abbrev pub EachOther : (Text → Type 0) → List Closed → Type 0

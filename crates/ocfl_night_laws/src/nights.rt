@@ -1,4 +1,5 @@
 //! The laws of nights.
+ghost use Rattle.std.specs.Prelude.{None};
 ghost use Rattle.std.specs.{Prelude.{◌≡◌, ◌≢◌, ◌⊎◌, ◌++◌, ℕ, [], Bool, Option, IsTrue, List, Some, flat_map, map, true}, List.{AllByRecursion}};
 ghost use Rattle.ocfl_tree.specs.{Ascending.{IsAmong, IsAscending}, Name.{IsPlace}, Place.{Place, place_cmp}};
 ghost use Rattle.ocfl_tree.specs.{StorageRoot.{StorageRoot}, Store.{Store}};
@@ -67,12 +68,12 @@ pub fn what_was_told_was_taken<S: StateFolder>()
 pub fn a_whole_report_is_the_audit()
     ensures unread { (root : StorageRoot) (rounds : Rounds) (d : Closed)
         (w : IsReportOf rounds [] d) → AllByRecursion (λ r. r.root ≡ root) w.led.runs
-        → d.report ≡ text (within rounds.part (audit root
+        → d.report ≡ text (within rounds.part (audit None root
         (unread_together root (map (λ r. r.run) w.led.runs)))) }
     ensures exact { (root : StorageRoot) (rounds : Rounds) (d : Closed)
         (w : IsReportOf rounds [] d) → AllByRecursion (λ r. r.root ≡ root) w.led.runs
         → unread_together root (map (λ r. r.run) w.led.runs) ≡ []
-        → d.report ≡ text (within rounds.part (audit root [])) }
+        → d.report ≡ text (within rounds.part (audit None root [])) }
 {
     runs_that_stop_join();
 }
@@ -90,7 +91,7 @@ pub fn each_whole_report_is_the_audit<S: StateFolder>()
         → AreNights S.StateFolder part (λ c. c ≡ empty) nights
         → AreOver root nights → HaveReadAll nights
         → AtAnyMoment S.StateFolder (λ c. EachWhole
-        (λ report. report ≡ text (within part (audit root []))) c.closed) nights }
+        (λ report. report ≡ text (within part (audit None root []))) c.closed) nights }
 {
     runs_that_stop_join();
 }
@@ -188,7 +189,7 @@ pub fn two_nights<S: StateFolder, T: Tree, C: Clock, O: Output>(
         → (T.state first.new).failures ≡ (T.state first.old).failures
         → (T.state second.new).failures ≡ (T.state second.old).failures
         → (c : Content) → S.may_leave folder.new c → EachWhole (λ report. report
-        ≡ text (within (part_at site.now.ends) (audit root []))) c.closed }
+        ≡ text (within (part_at site.now.ends) (audit None root []))) c.closed }
 
     // If both ended in order, and the first one did not end the cycle, they open no content file
     // twice.
@@ -217,10 +218,10 @@ pub fn what_is_left_out_is_missing_alone()
     ensures wrote { (root : StorageRoot) (part : Part) (first last : Cursor) (runs : List RootRun)
         (left : List Left) → LedToEnd part first runs left last
         → AllByRecursion (λ r. r.root ≡ root) runs
-        → AllByRecursion (λ r. unread_of root r.run.opened ≡ []) runs
-        → joined runs ≡ text (around part (place_in first.state) left (audit root [])) }
+        → AllByRecursion (λ r. unread_of None root r.run.opened ≡ []) runs
+        → joined runs ≡ text (around part (place_in first.state) left (audit None root [])) }
     ensures missing { (root : StorageRoot) (part : Part) (from : Option Place) (left : List Left)
         → AreNext root part left → (i : Item) → IsPlace i.place
-        → IsAmong (after (within part (audit root [])) from) i
-        → IsAmong (around part from left (audit root [])) i ⊎ IsInBranch left i.place }
+        → IsAmong (after (within part (audit None root [])) from) i
+        → IsAmong (around part from left (audit None root [])) i ⊎ IsInBranch left i.place }
 {}

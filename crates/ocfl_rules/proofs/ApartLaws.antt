@@ -8,8 +8,10 @@ use Rattle.ocfl_tree.specs.{Place.{Place, place_cmp, place_eq}, Ascending.{IsAsc
 use Rattle.ocfl_tree.specs.StorageRoot.{StorageRoot}
 use Rattle.ocfl_tree.proofs.Orders.{place_cmp_exact, true_not_false, among_from_filter}
 use Rattle.ocfl_report.specs.Text.{lines_text, text}
+use Rattle.ocfl_rules.specs.Inventories.{Further}
 use Rattle.ocfl_rules.specs.Audit.{Unread, given_by, item_of, audit, total_cost}
-use Rattle.ocfl_rules.specs.{Due.{item_places}, Runs.{total_files, sum_of}}
+use Rattle.ocfl_rules.specs.Due.{item_places}
+use Rattle.ocfl_rules.specs.Runs.{total_files, sum_of}
 use Rattle.ocfl_rules.specs.Parts.{Part, lies_in, within, places_within, parts_of, unread_in, together, audited_apart}
 use Rattle.ocfl_rules.proofs.DueLaws.{item_read}
 use Rattle.ocfl_rules.proofs.PartLaws.{flat_flat, kept_is, places_within_is, within_by_places, items_join, lies_once, costs_sum, files_sum}
@@ -116,10 +118,10 @@ module _ (z : Place) where
 
 -- ---- items if what was read agrees
 
-items_alike : (root : StorageRoot) (u v : Unread) (ps : List Place) → ((p : Place) → IsAmong ps p → given_by u p ≡ given_by v p) → map (item_of root u) ps ≡ map (item_of root v) ps
+items_alike : (further : Further) (root : StorageRoot) (u v : Unread) (ps : List Place) → ((p : Place) → IsAmong ps p → given_by u p ≡ given_by v p) → map (item_of further root u) ps ≡ map (item_of further root v) ps
 unfolding item_read
-items_alike root u v [] h = refl
-items_alike root u v (p ∷ ps) h = ap (λ g. item_read root p g ∷ map (item_of root u) ps) (h p (inl refl)) ∙ ap (λ is. item_of root v p ∷ is) (items_alike root u v ps (λ q i. h q (inr i)))
+items_alike further root u v [] h = refl
+items_alike further root u v (p ∷ ps) h = ap (λ g. item_read further root p g ∷ map (item_of further root u) ps) (h p (inl refl)) ∙ ap (λ is. item_of further root v p ∷ is) (items_alike further root u v ps (λ q i. h q (inr i)))
 
 -- the same of each place
 abbrev Agree : Unread → List (Part × Unread) → Type 0
@@ -129,32 +131,33 @@ at_each : (unread : Unread) (parts : List (Part × Unread)) → ((z : Place) →
 at_each unread [] h = tt
 at_each unread (e ∷ parts) h = (λ z. (h z).0, at_each unread parts (λ z. (h z).1))
 
-module _ (root : StorageRoot) where
-  part_alike : (part : Part) (u v : Unread) → ((z : Place) → lies_in part z ≡ true → given_by u z ≡ given_by v z) → within part (audit root u) ≡ within part (audit root v)
+module _ (further : Further) (root : StorageRoot) where
+  part_alike : (part : Part) (u v : Unread) → ((z : Place) → lies_in part z ≡ true → given_by u z ≡ given_by v z) → within part (audit further root u) ≡ within part (audit further root v)
   part_alike part u v h =
-      within_by_places root u part ∙ items_alike root u v (places_within part (item_places root)) (λ z i. h z (inside z i)) ∙ sym (within_by_places root v part)
+      within_by_places further root u part ∙ items_alike further root u v (places_within part (item_places further root)) (λ z i. h z (inside z i)) ∙ sym (within_by_places further root v part)
     where
-      inside : (z : Place) → IsAmong (places_within part (item_places root)) z → lies_in part z ≡ true
-      inside z i = (among_from_filter (lies_in part) (item_places root) z (rw (sym (places_within_is part (item_places root))) i)).1
+      inside : (z : Place) → IsAmong (places_within part (item_places further root)) z → lies_in part z ≡ true
+      inside z i = (among_from_filter (lies_in part) (item_places further root) z (rw (sym (places_within_is part (item_places further root))) i)).1
 
-  parts_alike : (unread : Unread) (parts : List (Part × Unread)) → Agree unread parts → audited_apart root parts ≡ flat_map (λ part. within part (audit root unread)) (map (λ e. e.0) parts)
+  parts_alike : (unread : Unread) (parts : List (Part × Unread)) → Agree unread parts → audited_apart further root parts ≡ flat_map (λ part. within part (audit further root unread)) (map (λ e. e.0) parts)
   parts_alike unread [] h = refl
   parts_alike unread (e ∷ parts) h =
-      ap (λ l. l ++ audited_apart root parts) (part_alike e.0 e.1 unread h.0) ∙ ap (λ l. within e.0 (audit root unread) ++ l) (parts_alike unread parts h.1)
+      ap (λ l. l ++ audited_apart further root parts) (part_alike e.0 e.1 unread h.0) ∙ ap (λ l. within e.0 (audit further root unread) ++ l) (parts_alike unread parts h.1)
 
 module _ (root : StorageRoot) (parts : List (Part × Unread)) (ps : List Place) (up : IsAscending place_cmp ps) (are : map (λ e. e.0) parts ≡ parts_of ps) where
   agree : Agree (together parts) parts
   agree = at_each (together parts) parts (λ z. let one = lies_once z ps up in one_given z parts one.0 (ap (filter (λ part. lies_in part z)) are ∙ one.1))
 
-  pub apart_join : audited_apart root parts ≡ audit root (together parts)
+module _ (further : Further) (root : StorageRoot) (parts : List (Part × Unread)) (ps : List Place) (up : IsAscending place_cmp ps) (are : map (λ e. e.0) parts ≡ parts_of ps) where
+  pub apart_join : audited_apart further root parts ≡ audit further root (together parts)
   apart_join =
-      parts_alike root (together parts) parts agree ∙ ap (flat_map (λ part. within part (audit root (together parts)))) are ∙ items_join root ps up (together parts)
+      parts_alike further root (together parts) parts (agree root parts ps up are) ∙ ap (flat_map (λ part. within part (audit further root (together parts)))) are ∙ items_join further root ps up (together parts)
 
-  pub apart_texts : flat_map (λ e. text (within e.0 (audit root e.1))) parts ≡ text (audit root (together parts))
-  apart_texts = sym (flat_flat (λ i. lines_text i.lines) (λ (e : Part × Unread). within e.0 (audit root e.1)) parts) ∙ ap text apart_join
+  pub apart_texts : flat_map (λ e. text (within e.0 (audit further root e.1))) parts ≡ text (audit further root (together parts))
+  apart_texts = sym (flat_flat (λ i. lines_text i.lines) (λ (e : Part × Unread). within e.0 (audit further root e.1)) parts) ∙ ap text apart_join
 
-  pub apart_costs : sum_of (map (λ e. total_cost (within e.0 (audit root e.1))) parts) ≡ total_cost (audit root (together parts))
-  apart_costs = costs_sum (λ (e : Part × Unread). within e.0 (audit root e.1)) parts ∙ ap total_cost apart_join
+  pub apart_costs : sum_of (map (λ e. total_cost (within e.0 (audit further root e.1))) parts) ≡ total_cost (audit further root (together parts))
+  apart_costs = costs_sum (λ (e : Part × Unread). within e.0 (audit further root e.1)) parts ∙ ap total_cost apart_join
 
-  pub apart_files : sum_of (map (λ e. total_files (within e.0 (audit root e.1))) parts) ≡ total_files (audit root (together parts))
-  apart_files = files_sum (λ (e : Part × Unread). within e.0 (audit root e.1)) parts ∙ ap total_files apart_join
+  pub apart_files : sum_of (map (λ e. total_files (within e.0 (audit further root e.1))) parts) ≡ total_files (audit further root (together parts))
+  apart_files = files_sum (λ (e : Part × Unread). within e.0 (audit further root e.1)) parts ∙ ap total_files apart_join

@@ -12,8 +12,8 @@ use Rattle.ocfl_inventory.specs.{Note.{Note, lines_at}, Declaration.{undeclared,
 use Rattle.ocfl_inventory.specs.Table.{Table, Triple, Named, named, paths_of}
 use Rattle.ocfl_inventory.specs.declared.declaration.Level.TheVariants.{Object}
 use Rattle.ocfl_rules.specs.Zone.{Zone, skipped, hierarchy, inside, object_zone, object_declared, zone, table_at, seen, max_listed_depth, files_in, is_declared}
-use Rattle.ocfl_rules.specs.Audit.{Unread, has_lines, candidates, named_places, audit, given_by, IsAudit}
-use Rattle.ocfl_rules.specs.Lines.{is_empty, notes, cost, notes_in, hierarchy_notes, missing_notes, within_notes, object_notes}
+use Rattle.ocfl_rules.specs.Audit.{has_lines, candidates, named_places}
+use Rattle.ocfl_rules.specs.Lines.{is_empty, common_notes, notes_in, hierarchy_notes, missing_notes, within_notes, object_notes}
 use Rattle.ocfl_tree.proofs.Orders.{place_cmp_total, place_cmp_exact, true_not_false, among_map, among_left, among_right, among_ascending, among_filter, among_from_filter, ascends_filter, ascends_ascending}
 
 -- ---- places of the tree
@@ -182,9 +182,9 @@ zone_candidate root p u (inside o (n ∷ q)) e some =
     let is = zone_is root p o (n ∷ q) e in
     object_candidate root p o (n ∷ q) u is.whole (object_key root o is.below (object_at root o is.declares)) (table_at root o) refl some
 
-pub notes_candidate : (root : StorageRoot) (u : Option ℕ) (p : Place) → notes root u p ≢ [] → IsAmong (candidates root) p
-notes_candidate root u [] some = among_left ([] ∷ map (λ e. e.0) root) _ [] (inl refl)
-notes_candidate root u (n ∷ p) some = zone_candidate root (n ∷ p) u (zone root (n ∷ p)) refl some
+pub common_candidate : (root : StorageRoot) (u : Option ℕ) (p : Place) → common_notes root u p ≢ [] → IsAmong (candidates root) p
+common_candidate root u [] some = among_left ([] ∷ map (λ e. e.0) root) _ [] (inl refl)
+common_candidate root u (n ∷ p) some = zone_candidate root (n ∷ p) u (zone root (n ∷ p)) refl some
 
 -- ---- the audit
 
@@ -230,8 +230,3 @@ module _ (lines : Place → List Note) (costs : Place → ℕ) where
           (among_filter (λ x. has_lines (made x)) (ascending place_cmp cs) p ((among_ascending place_cmp_exact cs p).0 (all p h)) ((lines_from_notes p _).1 h))),
     ),
   )
-
-pub audit_is : (root : StorageRoot) (unread : Unread) → IsAudit root unread (audit root unread)
-audit_is root unread =
-    let is = made_items (λ p. notes root (given_by unread p) p) (λ p. cost root (given_by unread p) p) (candidates root) (λ p. notes_candidate root (given_by unread p) p) in
-    record { ascends = is.0; each = is.1; exactly = is.2 }

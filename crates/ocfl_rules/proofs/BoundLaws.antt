@@ -13,12 +13,15 @@ use Rattle.ocfl_digest.specs.declared.algorithm.Algorithm.{Algorithm}
 use Rattle.ocfl_inventory.specs.Table.{Table, Triple, triple_cmp, triples_of, table_from, table_of, paths_of}
 use Rattle.ocfl_inventory.specs.Reading.{Inventory, Block, Reading, inventory_of}
 use Rattle.ocfl_inventory.specs.ListedPath.{is_empty_or_dots, is_too_long_or_nul, is_content_path, is_kept}
+use Rattle.ocfl_rules.specs.Inventories.{Further, notes}
 use Rattle.ocfl_rules.specs.Zone.{zone, table_at, inventory_at, inventory_limit, seen, is_entered, is_listed_zone, max_listed_depth, beginnings}
-use Rattle.ocfl_rules.specs.{Lines.{notes}, Walk.{is_reached, IsClosed}, Stack.{Frame, listed_at}}
-use Rattle.ocfl_tree.proofs.Orders.{true_not_false}
+use Rattle.ocfl_rules.specs.Walk.{is_reached, IsClosed}
+use Rattle.ocfl_rules.specs.Stack.{Frame, listed_at}
 use Rattle.ocfl_rules.proofs.AuditExists.{some_not_none, zone_is, append_one}
 use Rattle.ocfl_rules.proofs.BelowLaws.{from_append, from_flat_map, begins_front}
-use Rattle.ocfl_rules.proofs.WayLaws.{Reason, by_sight, by_table, reason, reached_front, object_short}
+use Rattle.ocfl_rules.proofs.WayLaws.{Reason, by_sight, by_table, reached_front, object_short}
+use Rattle.ocfl_rules.proofs.FurtherLaws.{reason}
+use Rattle.ocfl_tree.proofs.Orders.{true_not_false}
 
 -- ---- paths of tables are kept
 
@@ -145,8 +148,8 @@ seen_short root (n ∷ p) leaf h = by (list_all (is_entered root) (beginnings (n
         let whole : length (n ∷ p) ≡ length k.0 + length (k.1.0 ∷ []) = ap length k.1.1 ∙ length-append k.0 (k.1.0 ∷ []) in
         omega (arith, short, whole)
 
-pub item_short : (root : StorageRoot) (closed : IsClosed root) (u : Option ℕ) (p : Place) → notes root u p ≢ [] → length p < 256
-item_short root closed u p some = by (reason root closed u p some)
+pub item_short : (further : Further) (root : StorageRoot) (closed : IsClosed root) (u : Option ℕ) (p : Place) → notes further root u p ≢ [] → length p < 256
+item_short further root closed u p some = by (reason further root closed u p some)
   where
     by : Reason root closed p → length p < 256
     by (by_sight leaf h) = let m = seen_short root p leaf h in omega (arith, m)

@@ -23,5 +23,6 @@ pub mod RunLaws
 pub mod PartLaws
 pub mod ApartLaws
 pub mod BranchLaws
-mod InventoryLaws
+pub mod FurtherLaws
+pub mod InventoryLaws
 pub mod Cases

@@ -6,16 +6,18 @@ use Rattle.ocfl_tree.specs.Place.{Place, Text, text_cmp, place_cmp}
 use Rattle.ocfl_tree.specs.Ascending.{ascending, IsBeforeAll, IsAscending, IsAmong}
 use Rattle.ocfl_tree.specs.StorageRoot.{StorageRoot, Leaf}
 use Rattle.ocfl_inventory.specs.Table.{Table, paths_of}
+use Rattle.ocfl_rules.specs.Inventories.{Further}
 use Rattle.ocfl_rules.specs.Zone.{Zone, skipped, hierarchy, inside, zone, table_at, seen}
-use Rattle.ocfl_rules.specs.{Audit.{Unread, candidates, audit, after}, Head.{on}}
+use Rattle.ocfl_rules.specs.Audit.{Unread, candidates, audit, after}
+use Rattle.ocfl_rules.specs.Head.{on}
 use Rattle.ocfl_rules.specs.Walk.{seen_names, IsClosed, item_at, is_reached}
 use Rattle.ocfl_rules.specs.Stack.{Frame, listed_at, NoneSeenBetween, NoPathBetween, NoneSeenAbove, NoPathAbove, IsStack, IsNextPath, IsListed, entry_of, next_entry, first_of_list, next_path_of, next_path_in, next_path, lesser, next_place, taken_with, taken, lists_with, lists}
-use Rattle.ocfl_tree.proofs.Orders.{place_cmp_total, place_cmp_exact, true_not_false, not_below_itself, before_each, among_ascending, among_filter, among_from_filter, ascends_filter, ascends_ascending}
 use Rattle.ocfl_rules.proofs.AuditExists.{seen_candidate, path_candidate, object_key, object_at, zone_is}
 use Rattle.ocfl_rules.proofs.BelowLaws.{above, less_from, cmp_behind}
 use Rattle.ocfl_rules.proofs.NextLaws.{walk_takes, walk_ends}
 use Rattle.ocfl_rules.proofs.WalkLaws.{under_root, items_by_name, items_after_self}
 use Rattle.ocfl_rules.proofs.StackLaws.{entry_seen, stack_starts, stack_pops, stack_stays, stack_ends, path_least, path_none, path_off, path_hierarchy}
+use Rattle.ocfl_tree.proofs.Orders.{place_cmp_total, place_cmp_exact, true_not_false, not_below_itself, before_each, among_ascending, among_filter, among_from_filter, ascends_filter, ascends_ascending}
 
 -- ---- the number of places above
 
@@ -187,42 +189,9 @@ module _ (root : StorageRoot) (closed : IsClosed root) where
   pub next_place_is : (last : Place) (fs : List Frame) → IsStack root last fs → IsListed root fs → NextIs last (next_place root last fs)
   next_place_is last fs h l = both last fs h l (next_entry root fs) (entry_is last fs h l) (next_path root last) (path_is last)
 
-  -- ---- all of it
-
-  pub taken_is : (unread : Unread) (k : ℕ) (last : Place) (fs : List Frame) → IsStack root last fs → IsListed root fs
-      → length (filter (above last) (candidates root)) < k → taken k root unread last fs ≡ after (audit root unread) (Some last)
-  taken_is unread zero last fs h l m = absurd (omega (arith, m))
-  taken_is unread (suc k) last fs h l m = by (next_place root last fs) (next_place_is last fs h l) (taken_is unread k)
-    where
-      by : (o : Option (Place × List Frame)) → NextIs last o
-          → ((last' : Place) (fs' : List Frame) → IsStack root last' fs' → IsListed root fs' → length (filter (above last') (candidates root)) < k
-          → taken k root unread last' fs' ≡ after (audit root unread) (Some last'))
-          → taken_with root unread (taken k root unread) o ≡ after (audit root unread) (Some last)
-      by None n ih = sym (walk_ends root closed unread last n.0 n.1)
-      by (Some x) n ih =
-          let less : length (filter (above x.0) (candidates root)) < length (filter (above last) (candidates root)) = fewer (candidates root) last x.0 n.above_last n.candidate in
-          let rest : taken k root unread x.0 x.1 ≡ after (audit root unread) (Some x.0) = ih x.0 x.1 n.stack n.listed (omega (arith, less, m)) in
-          ap (λ xs. item_at root unread x.0 ++ xs) rest ∙ sym (walk_takes root closed unread last x.0 n.above_last n.none_seen n.none_named)
-
   listed_starts : (d q : Place) (fs : List Frame) → IsListed root fs → IsListed root (listed_at root d q fs)
   listed_starts d [] fs l = ((λ n i. i), l)
   listed_starts d (n ∷ q) fs l = listed_starts (d ++ n ∷ []) q _ ((λ m i. (among_from_filter (λ x. is_lt (text_cmp n x)) (seen_names root d) m i).0), l)
-
-  pub taken_from : (unread : Unread) (k : ℕ) (q : Place) → length (candidates root) < k → taken k root unread q (listed_at root [] q []) ≡ after (audit root unread) (Some q)
-  taken_from unread k q m = taken_is unread k q (listed_at root [] q []) (stack_starts root closed q) (listed_starts [] q [] tt) (let n = at_most (candidates root) in omega (arith, n, m))
-    where
-      at_most : (ps : List Place) → length (filter (above q) ps) ≤ length ps
-      at_most [] = omega arith
-      at_most (p ∷ ps) = go (above q p) (at_most ps)
-        where
-          go : (b : Bool) → length (filter (above q) ps) ≤ length ps → length (cond b (p ∷ filter (above q) ps) (filter (above q) ps)) ≤ length (p ∷ ps)
-          go true h = omega (arith, h)
-          go false h = omega (arith, h)
-
-  -- from the start: the root's item, and then what is above the root
-  pub from_root : (unread : Unread) → audit root unread ≡ item_at root unread [] ++ after (audit root unread) (Some [])
-  from_root unread = sym (under_root root closed unread) ∙ items_by_name root closed unread []
-      ∙ ap (λ xs. item_at root unread [] ++ xs) (sym (items_after_self root closed unread []) ∙ ap (λ xs. after xs (Some [])) (under_root root closed unread))
 
   -- ---- what is listed
 
@@ -249,3 +218,37 @@ module _ (root : StorageRoot) (closed : IsClosed root) where
 
   pub lists_from : (k : ℕ) (q : Place) → IsBeforeAll place_cmp q (lists k root q (listed_at root [] q [])) × IsAscending place_cmp (lists k root q (listed_at root [] q []))
   lists_from k q = lists_ascend k q (listed_at root [] q []) (stack_starts root closed q) (listed_starts [] q [] tt)
+
+module _ (further : Further) (root : StorageRoot) (closed : IsClosed root) where
+  -- ---- all of it
+
+  pub taken_is : (unread : Unread) (k : ℕ) (last : Place) (fs : List Frame) → IsStack root last fs → IsListed root fs
+      → length (filter (above last) (candidates root)) < k → taken further k root unread last fs ≡ after (audit further root unread) (Some last)
+  taken_is unread zero last fs h l m = absurd (omega (arith, m))
+  taken_is unread (suc k) last fs h l m = by (next_place root last fs) (next_place_is root closed last fs h l) (taken_is unread k)
+    where
+      by : (o : Option (Place × List Frame)) → NextIs root closed last o
+          → ((last' : Place) (fs' : List Frame) → IsStack root last' fs' → IsListed root fs' → length (filter (above last') (candidates root)) < k
+          → taken further k root unread last' fs' ≡ after (audit further root unread) (Some last'))
+          → taken_with further root unread (taken further k root unread) o ≡ after (audit further root unread) (Some last)
+      by None n ih = sym (walk_ends further root closed unread last n.0 n.1)
+      by (Some x) n ih =
+          let less : length (filter (above x.0) (candidates root)) < length (filter (above last) (candidates root)) = fewer (candidates root) last x.0 n.above_last n.candidate in
+          let rest : taken further k root unread x.0 x.1 ≡ after (audit further root unread) (Some x.0) = ih x.0 x.1 n.stack n.listed (omega (arith, less, m)) in
+          ap (λ xs. item_at further root unread x.0 ++ xs) rest ∙ sym (walk_takes further root closed unread last x.0 n.above_last n.none_seen n.none_named)
+
+  pub taken_from : (unread : Unread) (k : ℕ) (q : Place) → length (candidates root) < k → taken further k root unread q (listed_at root [] q []) ≡ after (audit further root unread) (Some q)
+  taken_from unread k q m = taken_is unread k q (listed_at root [] q []) (stack_starts root closed q) (listed_starts root closed [] q [] tt) (let n = at_most (candidates root) in omega (arith, n, m))
+    where
+      at_most : (ps : List Place) → length (filter (above q) ps) ≤ length ps
+      at_most [] = omega arith
+      at_most (p ∷ ps) = go (above q p) (at_most ps)
+        where
+          go : (b : Bool) → length (filter (above q) ps) ≤ length ps → length (cond b (p ∷ filter (above q) ps) (filter (above q) ps)) ≤ length (p ∷ ps)
+          go true h = omega (arith, h)
+          go false h = omega (arith, h)
+
+  -- from the start: the root's item, and then what is above the root
+  pub from_root : (unread : Unread) → audit further root unread ≡ item_at further root unread [] ++ after (audit further root unread) (Some [])
+  from_root unread = sym (under_root further root closed unread) ∙ items_by_name further root closed unread []
+      ∙ ap (λ xs. item_at further root unread [] ++ xs) (sym (items_after_self further root closed unread []) ∙ ap (λ xs. after xs (Some [])) (under_root further root closed unread))

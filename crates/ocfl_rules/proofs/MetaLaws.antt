@@ -1,7 +1,7 @@
 -- Which names are allowed, what is metadata, and what openings show.
-use Rattle.std.proofs.Common.{◌≡◌, ◌≢◌, ◌↔◌, ℕ, List, [], ◌∷◌, ◌++◌, refl, sym, ◌∙◌, ap, true, false, Bool, map, filter, Some, codes, append_assoc}
+use Rattle.std.proofs.Common.{◌≡◌, ◌≢◌, ◌↔◌, ◌⊎◌, inl, inr, ℕ, List, [], ◌∷◌, ◌++◌, refl, sym, ◌∙◌, ap, true, false, Bool, map, filter, Some, None, codes, append_assoc}
 use Rattle.std.proofs.{lemmas.List.{map-append}, lemmas.Bool.{false_from_ne_true, or_right}}
-use Rattle.std.specs.Prelude.{cond, ◌||◌, ◌&&◌, not, nat_lt, length}
+use Rattle.std.specs.Prelude.{cond, is_some, ◌||◌, ◌&&◌, not, nat_lt, length}
 use Rattle.ocfl_tree.specs.Place.{Place, Text, text_eq, place_eq}
 use Rattle.ocfl_tree.specs.StorageRoot.{StorageRoot, file, dir, at, is_dir, is_dir_leaf, names_in}
 use Rattle.ocfl_tree.specs.declared.store.Opening.{Opening}
@@ -11,16 +11,19 @@ use Rattle.ocfl_inventory.specs.declared.declaration.Level.TheVariants.{Object}
 use Rattle.ocfl_report.specs.declared.code.Code.TheVariants.{E001, E015, S05}
 use Rattle.ocfl_tree.proofs.{Orders.{true_not_false}, Trees.{dir_from_leaf}}
 use Rattle.ocfl_digest.specs.declared.algorithm.Algorithm.TheVariants.{Sha256, Sha512}
+use Rattle.ocfl_rules.specs.Inventories.{Further, is_version_sidecar}
 use Rattle.ocfl_rules.specs.Zone.{Zone, skipped, hierarchy, inside, zone, inventory_name, max_listed_depth, is_in_extensions}
 use Rattle.ocfl_rules.specs.Head.{on, sidecar_name}
 use Rattle.ocfl_rules.specs.Lines.{is_empty, is_inventory_or_sidecar, listed_dir_notes, object_entry_notes, version_entry_notes}
 use Rattle.ocfl_rules.specs.Audit.{Unread, given_by}
-use Rattle.ocfl_rules.specs.Trail.{is_root_meta, is_meta_zone, is_meta, content_openings, content_trail, unread_of, inventory_of, heads_of}
-use Rattle.ocfl_rules.specs.Objects.{IsObjectRoot, IsInventoryFile, inventory, sidecar_sha256, sidecar_sha512, IsObjectFile, declaration, of_inventory, IsMetadata, of_root, of_object}
+use Rattle.ocfl_rules.specs.Trail.{is_root_meta, is_meta_zone, is_common_meta, is_meta, content_openings, content_trail, unread_of, inventory_of, heads_of}
+use Rattle.ocfl_rules.specs.Objects.{IsObjectRoot, IsInventoryFile, inventory, sidecar_sha256, sidecar_sha512, IsObjectFile, declaration, of_inventory, IsMetadata, of_root, of_object, of_version, IsVersionSidecar}
 use Rattle.ocfl_rules.proofs.AuditExists.{append_nothing, zone_is, place_from_test}
 use Rattle.ocfl_rules.proofs.BelowLaws.{text_from_test, text_eq-same, place_eq-same}
-use Rattle.ocfl_rules.proofs.{WayLaws.{is_closed, zone_part}, NextLaws.{zone_longer}}
-use Rattle.ocfl_rules.proofs.{ObjectLaws.{object_by_zone}, Trails.{filter_append}}
+use Rattle.ocfl_rules.proofs.WayLaws.{is_closed, zone_part}
+use Rattle.ocfl_rules.proofs.NextLaws.{zone_longer}
+use Rattle.ocfl_rules.proofs.ObjectLaws.{object_by_zone}
+use Rattle.ocfl_rules.proofs.Trails.{filter_append}
 
 -- ---- names of files
 
@@ -124,86 +127,6 @@ module _ (root : StorageRoot) where
   entry_zone : (o : Place) (n : Text) → IsObjectRoot root o → zone root (o ++ n ∷ []) ≡ inside o (n ∷ [])
   entry_zone o n h = zone_longer root (is_closed root) o o [] (n ∷ []) ((object_by_zone root o).0 h)
 
-  by_root : (p : Place) → is_root_meta p ≡ true → IsMetadata root p
-  by_root [] h = absurd (true_not_false (sym h))
-  by_root (n ∷ []) h = of_root n h refl
-  by_root (n ∷ m ∷ q) h = absurd (true_not_false (sym h))
-
-  by_zone : (p : Place) (z : Zone) → zone root p ≡ z → is_meta_zone z ≡ true → IsMetadata root p
-  by_zone p skipped z h = absurd (true_not_false (sym h))
-  by_zone p hierarchy z h = absurd (true_not_false (sym h))
-  by_zone p (inside o []) z h = absurd (true_not_false (sym h))
-  by_zone p (inside o (n ∷ [])) z h = of_object o n (object_around p o (n ∷ []) z) (object_file n h) (zone_is root p o (n ∷ []) z).whole
-  by_zone p (inside o (n ∷ m ∷ q)) z h = absurd (true_not_false (sym h))
-
-  metadata : (p : Place) → is_meta root p ≡ true → IsMetadata root p
-  metadata p h = by (is_root_meta p) refl h
-    where
-      by : (b : Bool) → is_root_meta p ≡ b → (b || is_meta_zone (zone root p)) ≡ true → IsMetadata root p
-      by true e g = by_root p e
-      by false e g = by_zone p (zone root p) refl g
-
-  is_there : (p : Place) → IsMetadata root p → is_meta root p ≡ true
-  is_there p (of_root n h whole) = ap (is_meta root) whole ∙ ap (λ b. b || is_meta_zone (zone root (n ∷ []))) h
-  is_there p (of_object o n is h whole) = ap (is_meta root) whole
-      ∙ or_right (is_root_meta (o ++ n ∷ [])) (is_meta_zone (zone root (o ++ n ∷ []))) (ap is_meta_zone (entry_zone o n is) ∙ object_test n h)
-
-  pub meta_is : (p : Place) → (is_meta root p ≡ true) ↔ IsMetadata root p
-  meta_is p = (metadata p, is_there p)
-
-  not_meta : (p : Place) → (IsMetadata root p → ⊥) → is_meta root p ≡ false
-  not_meta p isnt = false_from_ne_true (is_meta root p) (λ e. isnt (metadata p e))
-
-  -- ---- what one opening shows of content
-
-  meta_shows_nothing : (o : Opening) → IsMetadata root o.place → content_openings root (o ∷ []) ≡ []
-  meta_shows_nothing o h = ap (λ b. cond (not b) (o ∷ []) []) (is_there o.place h)
-
-  shows_itself : (o : Opening) → (IsMetadata root o.place → ⊥) → content_openings root (o ∷ []) ≡ o ∷ []
-  shows_itself o h = ap (λ b. cond (not b) (o ∷ []) []) (not_meta o.place h)
-
-  -- what it gave, if it failed
-  abbrev gave : Opening → Place × ℕ
-  gave o = (o.place, o.given)
-
-  failed_alone : (o : Opening) (b : Bool) → o.failed ≡ b → map (λ x. gave x) (filter (λ x. x.failed) (o ∷ [])) ≡ cond b (gave o ∷ []) []
-  failed_alone o b e = ap (λ c. map (λ x. gave x) (cond c (o ∷ []) [])) e ∙ by b
-    where
-      by : (c : Bool) → map (λ x. gave x) (cond c (o ∷ []) []) ≡ cond c (gave o ∷ []) []
-      by true = refl
-      by false = refl
-
-  pub content_shown : (o : Opening) → (IsMetadata root o.place → ⊥) → content_trail root (o ∷ []) ≡ o.place ∷ []
-  content_shown o h = ap (map (λ x. x.place)) (shows_itself o h)
-
-  pub unread_shown : (o : Opening) → (IsMetadata root o.place → ⊥) → o.failed ≡ true → unread_of root (o ∷ []) ≡ (o.place, o.given) ∷ []
-  unread_shown o h e = ap (λ os. map (λ x. gave x) (filter (λ x. x.failed) os)) (shows_itself o h) ∙ failed_alone o true e
-
-  pub read_shown : (o : Opening) → o.failed ≡ false → unread_of root (o ∷ []) ≡ []
-  read_shown o e = by (is_meta root o.place)
-    where
-      by : (b : Bool) → map (λ x. gave x) (filter (λ x. x.failed) (cond (not b) (o ∷ []) [])) ≡ []
-      by true = refl
-      by false = failed_alone o false e
-
-  pub meta_shown : (o : Opening) → IsMetadata root o.place → (content_trail root (o ∷ []) ≡ []) × (unread_of root (o ∷ []) ≡ [])
-  meta_shown o h =
-      let e = meta_shows_nothing o h in
-      (ap (map (λ x. x.place)) e, ap (λ os. map (λ x. gave x) (filter (λ x. x.failed) os)) e)
-
-  -- and more of them
-  content_on : (front trail : List Opening) → content_openings root (front ++ trail) ≡ content_openings root front ++ content_openings root trail
-  content_on front trail = filter_append (λ o. not (is_meta root o.place)) front trail
-
-  pub trail_on : (front trail : List Opening) → content_trail root (front ++ trail) ≡ content_trail root front ++ content_trail root trail
-  trail_on front trail = ap (map (λ o. o.place)) (content_on front trail) ∙ map-append (λ o. o.place) (content_openings root front) (content_openings root trail)
-
-  pub unread_on : (front trail : List Opening) → unread_of root (front ++ trail) ≡ unread_of root front ++ unread_of root trail
-  unread_on front trail =
-      ap (λ os. map (λ x. gave x) (filter (λ o. o.failed) os)) (content_on front trail)
-      ∙ ap (map (λ x. gave x)) (filter_append (λ o. o.failed) (content_openings root front) (content_openings root trail))
-      ∙ map-append (λ x. gave x) (filter (λ o. o.failed) (content_openings root front)) (filter (λ o. o.failed) (content_openings root trail))
-
   -- ---- whose inventories were opened
 
   pub head_shown : (x : Opening) (o : Place) → IsObjectRoot root o → x.place ≡ o ++ codes "inventory.json" ∷ [] → heads_of root (x ∷ []) ≡ o ∷ []
@@ -227,6 +150,148 @@ module _ (root : StorageRoot) where
   heads_on [] trail = refl
   heads_on (x ∷ front) trail = ap (λ l. inventory_of (zone root x.place) ++ l) (heads_on front trail)
       ∙ sym (append_assoc (inventory_of (zone root x.place)) (heads_of root front) (heads_of root trail))
+
+-- ---- sidecars in version directories
+
+pub version_sidecar_is : (root : StorageRoot) (p : Place) → (is_version_sidecar (zone root p) ≡ true) ↔ IsVersionSidecar root p
+version_sidecar_is root p = (to, back)
+  where
+    named : (n : Text) → (text_eq n (sidecar_name Sha256) || text_eq n (sidecar_name Sha512)) ≡ true → (n ≡ codes "inventory.json.sha256") ⊎ (n ≡ codes "inventory.json.sha512")
+    named n h = by (text_eq n (sidecar_name Sha256)) refl h
+      where
+        by : (b : Bool) → text_eq n (sidecar_name Sha256) ≡ b → (b || text_eq n (sidecar_name Sha512)) ≡ true → (n ≡ codes "inventory.json.sha256") ⊎ (n ≡ codes "inventory.json.sha512")
+        by true e g = inl (text_from_test n (sidecar_name Sha256) e)
+        by false e g = inr (text_from_test n (sidecar_name Sha512) g)
+
+    unnamed : (n : Text) → (n ≡ codes "inventory.json.sha256") ⊎ (n ≡ codes "inventory.json.sha512") → (text_eq n (sidecar_name Sha256) || text_eq n (sidecar_name Sha512)) ≡ true
+    unnamed n (inl e) = ap (λ m. text_eq m (sidecar_name Sha256) || text_eq m (sidecar_name Sha512)) e
+    unnamed n (inr e) = ap (λ m. text_eq m (sidecar_name Sha256) || text_eq m (sidecar_name Sha512)) e
+
+    found : (o : Place) (v n : Text) → zone root p ≡ inside o (v ∷ n ∷ []) → (is_version_name v && (text_eq n (sidecar_name Sha256) || text_eq n (sidecar_name Sha512))) ≡ true → IsVersionSidecar root p
+    found o v n z h = by (is_version_name v) refl h
+      where
+        by : (b : Bool) → is_version_name v ≡ b → (b && (text_eq n (sidecar_name Sha256) || text_eq n (sidecar_name Sha512))) ≡ true → IsVersionSidecar root p
+        by true e g = record { object = o; version = v; name = n; is_object = object_around root p o (v ∷ n ∷ []) z; is_version = e; named = named n g; whole = (zone_is root p o (v ∷ n ∷ []) z).whole }
+        by false e g = absurd (true_not_false (sym g))
+
+    to : is_version_sidecar (zone root p) ≡ true → IsVersionSidecar root p
+    to h = by (zone root p) refl h
+      where
+        by : (z : Zone) → zone root p ≡ z → is_version_sidecar z ≡ true → IsVersionSidecar root p
+        by skipped z g = absurd (true_not_false (sym g))
+        by hierarchy z g = absurd (true_not_false (sym g))
+        by (inside o []) z g = absurd (true_not_false (sym g))
+        by (inside o (n ∷ [])) z g = absurd (true_not_false (sym g))
+        by (inside o (v ∷ n ∷ [])) z g = found o v n z g
+        by (inside o (v ∷ c ∷ n ∷ q)) z g = absurd (true_not_false (sym g))
+
+    back : IsVersionSidecar root p → is_version_sidecar (zone root p) ≡ true
+    back k =
+        ap (λ x. is_version_sidecar (zone root x)) k.whole
+        ∙ ap is_version_sidecar (zone_longer root (is_closed root) k.object k.object [] (k.version ∷ k.name ∷ []) ((object_by_zone root k.object).0 k.is_object))
+        ∙ (λ i. k.is_version i && (text_eq k.name (sidecar_name Sha256) || text_eq k.name (sidecar_name Sha512))) ∙ unnamed k.name k.named
+
+-- ---- what is metadata
+
+module _ (further : Further) (root : StorageRoot) where
+  by_root : (p : Place) → is_root_meta p ≡ true → IsMetadata further root p
+  by_root [] h = absurd (true_not_false (sym h))
+  by_root (n ∷ []) h = of_root n h refl
+  by_root (n ∷ m ∷ q) h = absurd (true_not_false (sym h))
+
+  by_zone : (p : Place) (z : Zone) → zone root p ≡ z → is_meta_zone z ≡ true → IsMetadata further root p
+  by_zone p skipped z h = absurd (true_not_false (sym h))
+  by_zone p hierarchy z h = absurd (true_not_false (sym h))
+  by_zone p (inside o []) z h = absurd (true_not_false (sym h))
+  by_zone p (inside o (n ∷ [])) z h = of_object o n (object_around root p o (n ∷ []) z) (object_file n h) (zone_is root p o (n ∷ []) z).whole
+  by_zone p (inside o (n ∷ m ∷ q)) z h = absurd (true_not_false (sym h))
+
+  -- that of each audit
+  common_metadata : (p : Place) → is_common_meta root p ≡ true → IsMetadata further root p
+  common_metadata p h = by (is_root_meta p) refl h
+    where
+      by : (b : Bool) → is_root_meta p ≡ b → (b || is_meta_zone (zone root p)) ≡ true → IsMetadata further root p
+      by true e g = by_root p e
+      by false e g = by_zone p (zone root p) refl g
+
+metadata : (further : Further) (root : StorageRoot) (p : Place) → is_meta further root p ≡ true → IsMetadata further root p
+metadata None root p h = common_metadata None root p h
+metadata (Some k) root p h = by (is_common_meta root p) refl h
+  where
+    by : (b : Bool) → is_common_meta root p ≡ b → (b || is_version_sidecar (zone root p)) ≡ true → IsMetadata (Some k) root p
+    by true e g = common_metadata (Some k) root p e
+    by false e g = of_version refl ((version_sidecar_is root p).0 g)
+
+pub common_is_meta : (further : Further) (root : StorageRoot) (p : Place) → is_common_meta root p ≡ true → is_meta further root p ≡ true
+common_is_meta None root p h = h
+common_is_meta (Some k) root p h = ap (λ b. b || is_version_sidecar (zone root p)) h
+
+sidecar_is_meta : (further : Further) (root : StorageRoot) (p : Place) → is_some further ≡ true → is_version_sidecar (zone root p) ≡ true → is_meta further root p ≡ true
+sidecar_is_meta None root p some h = absurd (true_not_false (sym some))
+sidecar_is_meta (Some k) root p some h = or_right (is_common_meta root p) (is_version_sidecar (zone root p)) h
+
+module _ (further : Further) (root : StorageRoot) where
+  is_there : (p : Place) → IsMetadata further root p → is_meta further root p ≡ true
+  is_there p (of_root n h whole) = common_is_meta further root p (ap (is_common_meta root) whole ∙ ap (λ b. b || is_meta_zone (zone root (n ∷ []))) h)
+  is_there p (of_object o n is h whole) = common_is_meta further root p (ap (is_common_meta root) whole
+      ∙ or_right (is_root_meta (o ++ n ∷ [])) (is_meta_zone (zone root (o ++ n ∷ []))) (ap is_meta_zone (entry_zone root o n is) ∙ object_test n h))
+  is_there p (of_version some s) = sidecar_is_meta further root p some ((version_sidecar_is root p).1 s)
+
+  pub meta_is : (p : Place) → (is_meta further root p ≡ true) ↔ IsMetadata further root p
+  meta_is p = (metadata further root p, is_there p)
+
+  not_meta : (p : Place) → (IsMetadata further root p → ⊥) → is_meta further root p ≡ false
+  not_meta p isnt = false_from_ne_true (is_meta further root p) (λ e. isnt (metadata further root p e))
+
+  -- ---- what one opening shows of content
+
+  meta_shows_nothing : (o : Opening) → IsMetadata further root o.place → content_openings further root (o ∷ []) ≡ []
+  meta_shows_nothing o h = ap (λ b. cond (not b) (o ∷ []) []) (is_there o.place h)
+
+  shows_itself : (o : Opening) → (IsMetadata further root o.place → ⊥) → content_openings further root (o ∷ []) ≡ o ∷ []
+  shows_itself o h = ap (λ b. cond (not b) (o ∷ []) []) (not_meta o.place h)
+
+  -- what it gave, if it failed
+  abbrev gave : Opening → Place × ℕ
+  gave o = (o.place, o.given)
+
+  failed_alone : (o : Opening) (b : Bool) → o.failed ≡ b → map (λ x. gave x) (filter (λ x. x.failed) (o ∷ [])) ≡ cond b (gave o ∷ []) []
+  failed_alone o b e = ap (λ c. map (λ x. gave x) (cond c (o ∷ []) [])) e ∙ by b
+    where
+      by : (c : Bool) → map (λ x. gave x) (cond c (o ∷ []) []) ≡ cond c (gave o ∷ []) []
+      by true = refl
+      by false = refl
+
+  pub content_shown : (o : Opening) → (IsMetadata further root o.place → ⊥) → content_trail further root (o ∷ []) ≡ o.place ∷ []
+  content_shown o h = ap (map (λ x. x.place)) (shows_itself o h)
+
+  pub unread_shown : (o : Opening) → (IsMetadata further root o.place → ⊥) → o.failed ≡ true → unread_of further root (o ∷ []) ≡ (o.place, o.given) ∷ []
+  unread_shown o h e = ap (λ os. map (λ x. gave x) (filter (λ x. x.failed) os)) (shows_itself o h) ∙ failed_alone o true e
+
+  pub read_shown : (o : Opening) → o.failed ≡ false → unread_of further root (o ∷ []) ≡ []
+  read_shown o e = by (is_meta further root o.place)
+    where
+      by : (b : Bool) → map (λ x. gave x) (filter (λ x. x.failed) (cond (not b) (o ∷ []) [])) ≡ []
+      by true = refl
+      by false = failed_alone o false e
+
+  pub meta_shown : (o : Opening) → IsMetadata further root o.place → (content_trail further root (o ∷ []) ≡ []) × (unread_of further root (o ∷ []) ≡ [])
+  meta_shown o h =
+      let e = meta_shows_nothing o h in
+      (ap (map (λ x. x.place)) e, ap (λ os. map (λ x. gave x) (filter (λ x. x.failed) os)) e)
+
+  -- and more of them
+  content_on : (front trail : List Opening) → content_openings further root (front ++ trail) ≡ content_openings further root front ++ content_openings further root trail
+  content_on front trail = filter_append (λ o. not (is_meta further root o.place)) front trail
+
+  pub trail_on : (front trail : List Opening) → content_trail further root (front ++ trail) ≡ content_trail further root front ++ content_trail further root trail
+  trail_on front trail = ap (map (λ o. o.place)) (content_on front trail) ∙ map-append (λ o. o.place) (content_openings further root front) (content_openings further root trail)
+
+  pub unread_on : (front trail : List Opening) → unread_of further root (front ++ trail) ≡ unread_of further root front ++ unread_of further root trail
+  unread_on front trail =
+      ap (λ os. map (λ x. gave x) (filter (λ o. o.failed) os)) (content_on front trail)
+      ∙ ap (map (λ x. gave x)) (filter_append (λ o. o.failed) (content_openings further root front) (content_openings further root trail))
+      ∙ map-append (λ x. gave x) (filter (λ o. o.failed) (content_openings further root front)) (filter (λ o. o.failed) (content_openings further root trail))
 
 -- ---- what a content file gave
 

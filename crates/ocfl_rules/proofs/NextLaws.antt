@@ -7,15 +7,17 @@ use Rattle.ocfl_tree.specs.Place.{Place, Text, text_cmp, place_cmp, place_eq, ch
 use Rattle.ocfl_tree.specs.Ascending.{ascending, IsAscending, IsBeforeAll, IsAmong}
 use Rattle.ocfl_tree.specs.StorageRoot.{StorageRoot, Leaf, dir, names_in}
 use Rattle.ocfl_inventory.specs.Table.{Table, paths_of}
+use Rattle.ocfl_rules.specs.Inventories.{Further, notes}
 use Rattle.ocfl_rules.specs.Zone.{skipped, inside, zone, table_at, seen}
 use Rattle.ocfl_rules.specs.Audit.{Unread, given_by, item_of, has_lines, candidates, audit, after}
-use Rattle.ocfl_rules.specs.{Head.{on}, Lines.{notes}}
+use Rattle.ocfl_rules.specs.Head.{on}
 use Rattle.ocfl_rules.specs.Walk.{is_reached, seen_names, IsClosed, item_at, step_zone, is_extensions}
 use Rattle.ocfl_rules.specs.Stack.{Frame, seen_places, seen_in, seen_left, listed_at, NoneSeenBetween, NoPathBetween, NoneSeenAbove, NoPathAbove, Ahead, in_sight, in_table, in_later}
 use Rattle.ocfl_rules.proofs.StepLaws.{zone_step}
 use Rattle.ocfl_rules.proofs.AuditExists.{append_one, append_nothing, zone_is, seen_candidate, place_from_test}
 use Rattle.ocfl_rules.proofs.BelowLaws.{text_cmp_total, text_cmp_exact, on_ascends, place_eq-same, under, above, less_from, above_self, begins_rest, text_eq-same, equal_itself, split_names, split_self, split_after}
-use Rattle.ocfl_rules.proofs.WayLaws.{seen_way, Reason, by_sight, by_table, reason, head_seen, zone_part}
+use Rattle.ocfl_rules.proofs.WayLaws.{seen_way, Reason, by_sight, by_table, head_seen, zone_part}
+use Rattle.ocfl_rules.proofs.FurtherLaws.{reason}
 use Rattle.ocfl_rules.proofs.WalkLaws.{item_places, places_ascend, audit_places, filter_items, place_has, has_place, none_among}
 use Rattle.ocfl_tree.proofs.Orders.{place_cmp_total, place_cmp_exact, true_not_false, below_from_greater, ascending_unique, among_ascending, among_filter, among_from_filter, ascends_filter, ascends_ascending}
 
@@ -65,25 +67,25 @@ module _ (ps : List Place) (ascends : IsAscending place_cmp ps) where
 
 -- ---- the same of items
 
-module _ (root : StorageRoot) (unread : Unread) where
-  after_kept : (p : Place) → after (audit root unread) (Some p) ≡ map (item_of root unread) (filter (above p) (item_places root unread))
-  after_kept p = ap (λ xs. after xs (Some p)) (audit_places root unread) ∙ filter_items root unread (above p) (item_places root unread)
+module _ (further : Further) (root : StorageRoot) (unread : Unread) where
+  after_kept : (p : Place) → after (audit further root unread) (Some p) ≡ map (item_of further root unread) (filter (above p) (item_places further root unread))
+  after_kept p = ap (λ xs. after xs (Some p)) (audit_places further root unread) ∙ filter_items further root unread (above p) (item_places further root unread)
 
   -- the least place with lines above p is the next item
-  pub next_is : (p x : Place) → has_lines (item_of root unread x) ≡ true → place_cmp p x ≡ Less
-      → ((y : Place) → has_lines (item_of root unread y) ≡ true → place_cmp p y ≡ Less → place_cmp y x ≡ Less → ⊥)
-      → after (audit root unread) (Some p) ≡ item_of root unread x ∷ after (audit root unread) (Some x)
+  pub next_is : (p x : Place) → has_lines (item_of further root unread x) ≡ true → place_cmp p x ≡ Less
+      → ((y : Place) → has_lines (item_of further root unread y) ≡ true → place_cmp p y ≡ Less → place_cmp y x ≡ Less → ⊥)
+      → after (audit further root unread) (Some p) ≡ item_of further root unread x ∷ after (audit further root unread) (Some x)
   next_is p x h l least =
-      after_kept p ∙ ap (map (item_of root unread)) (least_above (item_places root unread) (places_ascend root unread) p x (has_place root unread x h) l (λ y i. least y (lined y i)))
-      ∙ ap (λ xs. item_of root unread x ∷ xs) (sym (after_kept x))
+      after_kept p ∙ ap (map (item_of further root unread)) (least_above (item_places further root unread) (places_ascend further root unread) p x (has_place further root unread x h) l (λ y i. least y (lined y i)))
+      ∙ ap (λ xs. item_of further root unread x ∷ xs) (sym (after_kept x))
     where
-      lined : (y : Place) → IsAmong (item_places root unread) y → has_lines (item_of root unread y) ≡ true
-      lined y i = (among_from_filter (λ z. has_lines (item_of root unread z)) (ascending place_cmp (candidates root)) y i).1
+      lined : (y : Place) → IsAmong (item_places further root unread) y → has_lines (item_of further root unread y) ≡ true
+      lined y i = (among_from_filter (λ z. has_lines (item_of further root unread z)) (ascending place_cmp (candidates root)) y i).1
 
-  pub nothing_next : (p : Place) → ((y : Place) → has_lines (item_of root unread y) ≡ true → place_cmp p y ≡ Less → ⊥) → after (audit root unread) (Some p) ≡ []
+  pub nothing_next : (p : Place) → ((y : Place) → has_lines (item_of further root unread y) ≡ true → place_cmp p y ≡ Less → ⊥) → after (audit further root unread) (Some p) ≡ []
   nothing_next p h = after_kept p
-      ∙ ap (map (item_of root unread))
-      (none_above (item_places root unread) (places_ascend root unread) p (λ y i. h y (among_from_filter (λ z. has_lines (item_of root unread z)) (ascending place_cmp (candidates root)) y i).1))
+      ∙ ap (map (item_of further root unread))
+      (none_above (item_places further root unread) (places_ascend further root unread) p (λ y i. h y (among_from_filter (λ z. has_lines (item_of further root unread z)) (ascending place_cmp (candidates root)) y i).1))
 
 -- ---- what is seen, in the order of a stack of listings
 
@@ -197,13 +199,14 @@ module _ (root : StorageRoot) (closed : IsClosed root) where
       by Equal e g k = alike (text_cmp_exact b a e) (k g)
       by Greater e g k = absurd cc
 
-  pub ahead : (u : Option ℕ) (last p : Place) → notes root u p ≢ [] → place_cmp last p ≡ Less → Ahead root last p
-  ahead u last p some l = by (reason root closed u p some)
+module _ (further : Further) (root : StorageRoot) (closed : IsClosed root) where
+  pub ahead : (u : Option ℕ) (last p : Place) → notes further root u p ≢ [] → place_cmp last p ≡ Less → Ahead root last p
+  ahead u last p some l = by (reason further root closed u p some)
     where
       within : (o q : Place) (t : Table) → zone root p ≡ inside o q → table_at root o ≡ Some t → IsAmong (paths_of t) q → p ≡ o ++ q → (s : Place) × (last ≡ o ++ s) → Ahead root last p
       within o q t z h i e k =
           let head : zone root (o ++ []) ≡ inside o [] = zone_part root closed p o [] q z in
-          in_table o k.0 q t (ap (zone root) (k.1 ∙ ap (λ x. x ++ k.0) (sym (append_nothing o))) ∙ zone_longer (o ++ []) o [] k.0 head) h i e
+          in_table o k.0 q t (ap (zone root) (k.1 ∙ ap (λ x. x ++ k.0) (sym (append_nothing o))) ∙ zone_longer root closed (o ++ []) o [] k.0 head) h i e
 
       apart : (o q : Place) (t : Table) → zone root p ≡ inside o q → table_at root o ≡ Some t → IsAmong (paths_of t) q → p ≡ o ++ q → (begins o last ≡ true)
           ⊎ (place_cmp last o ≡ Less) → Ahead root last p
@@ -212,10 +215,10 @@ module _ (root : StorageRoot) (closed : IsClosed root) where
 
       by : Reason root closed p → Ahead root last p
       by (by_sight leaf h) = in_sight leaf h
-      by (by_table o q t z h i) = let e = (zone_is root p o q z).whole in apart o q t z h i e (between o q last (ap (place_cmp last) (sym e) ∙ l))
+      by (by_table o q t z h i) = let e = (zone_is root p o q z).whole in apart o q t z h i e (between root closed o q last (ap (place_cmp last) (sym e) ∙ l))
 
   -- what neither the listings nor the table lead to is no item
-  none_between : (u : Option ℕ) (last x : Place) → NoneSeenBetween root last x → NoPathBetween root last x → (y : Place) → notes root u y ≢ [] → place_cmp last y ≡ Less → place_cmp y x ≡ Less → ⊥
+  none_between : (u : Option ℕ) (last x : Place) → NoneSeenBetween root last x → NoPathBetween root last x → (y : Place) → notes further root u y ≢ [] → place_cmp last y ≡ Less → place_cmp y x ≡ Less → ⊥
   none_between u last x sight path y some l m = by (ahead u last y some l)
     where
       front : (o q : Place) → y ≡ o ++ q → place_cmp o x ≡ Less
@@ -227,7 +230,7 @@ module _ (root : StorageRoot) (closed : IsClosed root) where
       by (in_table o s q t z h i e) = path o s q t z h i (ap (place_cmp last) (sym e) ∙ l) (ap (λ w. place_cmp w x) (sym e) ∙ m)
       by (in_later o q h k e) = sight o dir h k (front o q e)
 
-  none_ahead : (u : Option ℕ) (last : Place) → NoneSeenAbove root last → NoPathAbove root last → (y : Place) → notes root u y ≢ [] → place_cmp last y ≡ Less → ⊥
+  none_ahead : (u : Option ℕ) (last : Place) → NoneSeenAbove root last → NoPathAbove root last → (y : Place) → notes further root u y ≢ [] → place_cmp last y ≡ Less → ⊥
   none_ahead u last sight path y some l = by (ahead u last y some l)
     where
       by : Ahead root last y → ⊥
@@ -235,36 +238,36 @@ module _ (root : StorageRoot) (closed : IsClosed root) where
       by (in_table o s q t z h i e) = path o s q t z h i (ap (place_cmp last) (sym e) ∙ l)
       by (in_later o q h k e) = sight o dir h k
 
-module _ (root : StorageRoot) (closed : IsClosed root) (unread : Unread) where
-  lined_notes : (y : Place) → has_lines (item_of root unread y) ≡ true → notes root (given_by unread y) y ≢ []
-  lined_notes y h = place_has root unread y (has_place root unread y h)
+module _ (further : Further) (root : StorageRoot) (closed : IsClosed root) (unread : Unread) where
+  lined_notes : (y : Place) → has_lines (item_of further root unread y) ≡ true → notes further root (given_by unread y) y ≢ []
+  lined_notes y h = place_has further root unread y (has_place further root unread y h)
 
   -- a step of the walk: the least of what the listings and the table lead to, with its item if it
   -- has lines
   pub walk_takes : (last x : Place) → place_cmp last x ≡ Less → NoneSeenBetween root last x → NoPathBetween root last x
-      → after (audit root unread) (Some last) ≡ item_at root unread x ++ after (audit root unread) (Some x)
-  walk_takes last x l sight path = by (has_lines (item_of root unread x)) refl
+      → after (audit further root unread) (Some last) ≡ item_at further root unread x ++ after (audit further root unread) (Some x)
+  walk_takes last x l sight path = by (has_lines (item_of further root unread x)) refl
     where
-      none : (y : Place) → has_lines (item_of root unread y) ≡ true → place_cmp last y ≡ Less → place_cmp y x ≡ Less → ⊥
-      none y h = none_between root closed (given_by unread y) last x sight path y (lined_notes y h)
+      none : (y : Place) → has_lines (item_of further root unread y) ≡ true → place_cmp last y ≡ Less → place_cmp y x ≡ Less → ⊥
+      none y h = none_between further root closed (given_by unread y) last x sight path y (lined_notes y h)
 
-      onward : has_lines (item_of root unread x) ≡ false → (y : Place) → IsAmong (item_places root unread) y → place_cmp last y ≡ Less → place_cmp x y ≡ Less
+      onward : has_lines (item_of further root unread x) ≡ false → (y : Place) → IsAmong (item_places further root unread) y → place_cmp last y ≡ Less → place_cmp x y ≡ Less
       onward e y i k = go (place_cmp x y) refl
         where
-          lined : has_lines (item_of root unread y) ≡ true
-          lined = (among_from_filter (λ z. has_lines (item_of root unread z)) (ascending place_cmp (candidates root)) y i).1
+          lined : has_lines (item_of further root unread y) ≡ true
+          lined = (among_from_filter (λ z. has_lines (item_of further root unread z)) (ascending place_cmp (candidates root)) y i).1
 
           go : (r : Ordering) → place_cmp x y ≡ r → place_cmp x y ≡ Less
           go Less f = f
-          go Equal f = absurd (true_not_false (sym lined ∙ ap (λ z. has_lines (item_of root unread z)) (sym (place_cmp_exact x y f)) ∙ e))
+          go Equal f = absurd (true_not_false (sym lined ∙ ap (λ z. has_lines (item_of further root unread z)) (sym (place_cmp_exact x y f)) ∙ e))
           go Greater f = absurd (none y lined k (below_from_greater place_cmp_total x y f))
 
-      by : (b : Bool) → has_lines (item_of root unread x) ≡ b → after (audit root unread) (Some last) ≡ on b (item_of root unread x) ++ after (audit root unread) (Some x)
-      by true e = next_is root unread last x e l none
+      by : (b : Bool) → has_lines (item_of further root unread x) ≡ b → after (audit further root unread) (Some last) ≡ on b (item_of further root unread x) ++ after (audit further root unread) (Some x)
+      by true e = next_is further root unread last x e l none
       by false e =
-          after_kept root unread last
-          ∙ ap (map (item_of root unread)) (same_above (item_places root unread) (places_ascend root unread) last x (onward e) (λ y i k. place_cmp_total.trans last x y l k))
-          ∙ sym (after_kept root unread x)
+          after_kept further root unread last
+          ∙ ap (map (item_of further root unread)) (same_above (item_places further root unread) (places_ascend further root unread) last x (onward e) (λ y i k. place_cmp_total.trans last x y l k))
+          ∙ sym (after_kept further root unread x)
 
-  pub walk_ends : (last : Place) → NoneSeenAbove root last → NoPathAbove root last → after (audit root unread) (Some last) ≡ []
-  walk_ends last sight path = nothing_next root unread last (λ y h. none_ahead root closed (given_by unread y) last sight path y (lined_notes y h))
+  pub walk_ends : (last : Place) → NoneSeenAbove root last → NoPathAbove root last → after (audit further root unread) (Some last) ≡ []
+  walk_ends last sight path = nothing_next further root unread last (λ y h. none_ahead further root closed (given_by unread y) last sight path y (lined_notes y h))

@@ -9,13 +9,17 @@ use Rattle.ocfl_tree.specs.Ascending.{ascending, IsAscending, IsBeforeAll}
 use Rattle.ocfl_tree.specs.StorageRoot.{StorageRoot}
 use Rattle.ocfl_tree.proofs.Orders.{place_cmp_total, true_not_false, not_less, ascends_filter, ascends_ascending}
 use Rattle.ocfl_report.specs.{Line.{Item}, Text.{lines_text, text}}
-use Rattle.ocfl_rules.specs.Lines.{is_empty, notes, is_hashed}
+use Rattle.ocfl_rules.specs.Inventories.{Further, notes, is_hashed}
+use Rattle.ocfl_rules.specs.Lines.{is_empty}
 use Rattle.ocfl_rules.specs.Audit.{Unread, candidates, item_of, audit, total_cost, after}
-use Rattle.ocfl_rules.specs.{Due.{item_places, hashed_among}, Walk.{items_under}}
+use Rattle.ocfl_rules.specs.Due.{item_places, hashed_among}
+use Rattle.ocfl_rules.specs.Walk.{items_under}
 use Rattle.ocfl_rules.specs.Runs.{Limits, total_files, sum_of, runs, joined, IsAtLeast}
 use Rattle.ocfl_rules.specs.Parts.{Part, branch, is_from, lies_in, kept, within, places_within, parts_from, parts_of, costs_of, file_counts}
-use Rattle.ocfl_rules.proofs.{AuditExists.{audit_is}, Lists.{map_filter, filter_same}}
-use Rattle.ocfl_rules.proofs.{BelowLaws.{less_from}, DueLaws.{audit_by_places}}
+use Rattle.ocfl_rules.proofs.AuditLaws.{audit_is}
+use Rattle.ocfl_rules.proofs.Lists.{map_filter, filter_same}
+use Rattle.ocfl_rules.proofs.BelowLaws.{less_from}
+use Rattle.ocfl_rules.proofs.DueLaws.{audit_by_places}
 use Rattle.ocfl_rules.proofs.RunLaws.{large_whole, large_few, cost_append, files_append}
 
 -- ---- lists
@@ -62,11 +66,11 @@ pub places_within_is : (part : Part) (places : List Place) → places_within par
 places_within_is part places = kept_is part (λ p. p) places
 
 -- the items of a part are those of its places
-pub within_by_places : (root : StorageRoot) (unread : Unread) (part : Part) → within part (audit root unread) ≡ map (item_of root unread) (places_within part (item_places root))
-within_by_places root unread part =
-    ap (within part) (audit_by_places root unread) ∙ within_is part (map (item_of root unread) (item_places root))
-    ∙ map_filter (λ i. lies_in part i.place) (item_of root unread) (item_places root)
-    ∙ ap (map (item_of root unread)) (sym (places_within_is part (item_places root)))
+pub within_by_places : (further : Further) (root : StorageRoot) (unread : Unread) (part : Part) → within part (audit further root unread) ≡ map (item_of further root unread) (places_within part (item_places further root))
+within_by_places further root unread part =
+    ap (within part) (audit_by_places further root unread) ∙ within_is part (map (item_of further root unread) (item_places further root))
+    ∙ map_filter (λ i. lies_in part i.place) (item_of further root unread) (item_places further root)
+    ∙ ap (map (item_of further root unread)) (sym (places_within_is part (item_places further root)))
 
 -- those of a branch
 pub branch_is : (p : Place) (items : List Item) → within (branch p) items ≡ items_under p items
@@ -165,23 +169,23 @@ map_same (p ∷ ps) = ap (λ l. p ∷ l) (map_same ps)
 pub places_join : (ps qs : List Place) → IsAscending place_cmp ps → IsAscending place_cmp qs → flat_map (λ part. places_within part qs) (parts_of ps) ≡ qs
 places_join ps qs up qs_up = kept_join (λ p. p) ps up qs (rw (map_same qs) qs_up)
 
-pub items_ascend : (root : StorageRoot) → IsAscending place_cmp (item_places root)
+pub items_ascend : (further : Further) (root : StorageRoot) → IsAscending place_cmp (item_places further root)
 unfolding item_places
-items_ascend root = ascends_filter place_cmp (λ p. not (is_empty (notes root None p))) (ascending place_cmp (candidates root)) (ascends_ascending place_cmp_total (candidates root))
+items_ascend further root = ascends_filter place_cmp (λ p. not (is_empty (notes further root None p))) (ascending place_cmp (candidates root)) (ascends_ascending place_cmp_total (candidates root))
 
-module _ (root : StorageRoot) (ps : List Place) (up : IsAscending place_cmp ps) where
-  pub items_join : (unread : Unread) → flat_map (λ part. within part (audit root unread)) (parts_of ps) ≡ audit root unread
-  items_join unread = let is = audit_is root unread in kept_join (λ i. i.place) ps up (audit root unread) is.ascends
+module _ (further : Further) (root : StorageRoot) (ps : List Place) (up : IsAscending place_cmp ps) where
+  pub items_join : (unread : Unread) → flat_map (λ part. within part (audit further root unread)) (parts_of ps) ≡ audit further root unread
+  items_join unread = let is = audit_is further root unread in kept_join (λ i. i.place) ps up (audit further root unread) is.ascends
 
   -- so do the texts
-  pub texts_join : (unread : Unread) → flat_map (λ part. text (within part (audit root unread))) (parts_of ps) ≡ text (audit root unread)
-  texts_join unread = sym (flat_flat (λ i. lines_text i.lines) (λ part. within part (audit root unread)) (parts_of ps)) ∙ ap text (items_join unread)
+  pub texts_join : (unread : Unread) → flat_map (λ part. text (within part (audit further root unread))) (parts_of ps) ≡ text (audit further root unread)
+  texts_join unread = sym (flat_flat (λ i. lines_text i.lines) (λ part. within part (audit further root unread)) (parts_of ps)) ∙ ap text (items_join unread)
 
-  pub hashed_join : flat_map (λ part. hashed_among root (places_within part (item_places root))) (parts_of ps) ≡ hashed_among root (item_places root)
+  pub hashed_join : flat_map (λ part. hashed_among further root (places_within part (item_places further root))) (parts_of ps) ≡ hashed_among further root (item_places further root)
   unfolding hashed_among
   hashed_join =
-      sym (filter_flat (is_hashed root) (λ part. places_within part (item_places root)) (parts_of ps))
-      ∙ ap (filter (is_hashed root)) (places_join ps (item_places root) up (items_ascend root))
+      sym (filter_flat (is_hashed further root) (λ part. places_within part (item_places further root)) (parts_of ps))
+      ∙ ap (filter (is_hashed further root)) (places_join ps (item_places further root) up (items_ascend further root))
 
 -- ---- costs and files
 
@@ -194,12 +198,12 @@ module _ {A : Type 0} (items_of : A → List Item) where
   files_sum [] = refl
   files_sum (x ∷ xs) = let m = files_sum xs in let e = files_append (items_of x) (flat_map items_of xs) in omega (arith, m, e)
 
-module _ (root : StorageRoot) (unread : Unread) (ps : List Place) (up : IsAscending place_cmp ps) where
-  pub costs_add_up : sum_of (costs_of (parts_of ps) (audit root unread)) ≡ total_cost (audit root unread)
-  costs_add_up = costs_sum (λ part. within part (audit root unread)) (parts_of ps) ∙ ap total_cost (items_join root ps up unread)
+module _ (further : Further) (root : StorageRoot) (unread : Unread) (ps : List Place) (up : IsAscending place_cmp ps) where
+  pub costs_add_up : sum_of (costs_of (parts_of ps) (audit further root unread)) ≡ total_cost (audit further root unread)
+  costs_add_up = costs_sum (λ part. within part (audit further root unread)) (parts_of ps) ∙ ap total_cost (items_join further root ps up unread)
 
-  pub files_add_up : sum_of (file_counts (parts_of ps) (audit root unread)) ≡ total_files (audit root unread)
-  files_add_up = files_sum (λ part. within part (audit root unread)) (parts_of ps) ∙ ap total_files (items_join root ps up unread)
+  pub files_add_up : sum_of (file_counts (parts_of ps) (audit further root unread)) ≡ total_files (audit further root unread)
+  files_add_up = files_sum (λ part. within part (audit further root unread)) (parts_of ps) ∙ ap total_files (items_join further root ps up unread)
 
 -- ---- a place is in one part
 
@@ -244,12 +248,12 @@ module _ (z : Place) where
 
 -- ---- runs of a part
 
-module _ (root : StorageRoot) (unread : Unread) (part : Part) where
+module _ (further : Further) (root : StorageRoot) (unread : Unread) (part : Part) where
   pub part_runs_join : (b n : ℕ) (limits : List Limits) → 1 ≤ b → 1 ≤ n → All (IsAtLeast b n) limits
-      → total_cost (within part (audit root unread)) / b + total_files (within part (audit root unread)) / n + 1 ≤ length limits
-      → joined (runs (within part (audit root unread)) limits) ≡ within part (audit root unread)
-  part_runs_join b n limits some_budget some_files large enough = large_whole b n some_budget some_files limits (within part (audit root unread)) large enough
+      → total_cost (within part (audit further root unread)) / b + total_files (within part (audit further root unread)) / n + 1 ≤ length limits
+      → joined (runs (within part (audit further root unread)) limits) ≡ within part (audit further root unread)
+  part_runs_join b n limits some_budget some_files large enough = large_whole b n some_budget some_files limits (within part (audit further root unread)) large enough
 
   pub part_runs_few : (b n : ℕ) (limits : List Limits) → 1 ≤ b → 1 ≤ n → All (IsAtLeast b n) limits
-      → length (runs (within part (audit root unread)) limits) ≤ total_cost (within part (audit root unread)) / b + total_files (within part (audit root unread)) / n + 1
-  part_runs_few b n limits some_budget some_files large = large_few b n some_budget some_files limits (within part (audit root unread)) large
+      → length (runs (within part (audit further root unread)) limits) ≤ total_cost (within part (audit further root unread)) / b + total_files (within part (audit further root unread)) / n + 1
+  part_runs_few b n limits some_budget some_files large = large_few b n some_budget some_files limits (within part (audit further root unread)) large

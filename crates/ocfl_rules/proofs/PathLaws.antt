@@ -10,8 +10,8 @@ use Rattle.ocfl_inventory.specs.{Note.{note}, Table.{Table, Triple, Named, named
 use Rattle.ocfl_inventory.specs.ListedPath.{is_content_path}
 use Rattle.ocfl_digest.specs.Algorithm.{algorithm_name}
 use Rattle.ocfl_rules.specs.Zone.{skipped, hierarchy, inside, zone, table_at, seen, Zone}
-use Rattle.ocfl_rules.specs.Lines.{block_cmp, block_code, is_empty, file_notes, missing_notes, listed_dir_notes, content_notes, object_notes, notes_in, notes, cost_of, is_hashed, named_in, named_at}
-use Rattle.ocfl_rules.specs.Trail.{is_root_meta, is_meta, is_meta_zone}
+use Rattle.ocfl_rules.specs.Lines.{block_cmp, block_code, is_empty, file_notes, missing_notes, listed_dir_notes, content_notes, object_notes, notes_in, common_notes, cost_of, is_named, named_in, named_at}
+use Rattle.ocfl_rules.specs.Trail.{is_root_meta, is_common_meta, is_meta_zone}
 use Rattle.ocfl_tree.proofs.Orders.{true_not_false}
 use Rattle.ocfl_rules.proofs.{AuditExists.{zone_is, path_among}, BelowLaws.{place_eq-same}}
 use Rattle.ocfl_rules.proofs.BoundLaws.{kept_paths, kept_short, table_from_inventory}
@@ -64,7 +64,7 @@ content_filled root p ns u (Some (file bytes)) h = not_filled (file_notes bytes 
 content_filled root p ns u (Some dir) h = append_filled (listed_dir_notes root p _) (missing_notes ns) (missing_filled ns h)
 content_filled root p ns u (Some other) h = filled _ _
 
-pub notes_at : (root : StorageRoot) (u : Option ℕ) (p : Place) → p ≢ [] → notes root u p ≡ notes_in root p u (zone root p)
+pub notes_at : (root : StorageRoot) (u : Option ℕ) (p : Place) → p ≢ [] → common_notes root u p ≡ notes_in root p u (zone root p)
 notes_at root u [] h = absurd (h refl)
 notes_at root u (n ∷ p) h = refl
 
@@ -74,8 +74,8 @@ deep_path content (v ∷ []) h = absurd (true_not_false (sym h))
 deep_path content (v ∷ c ∷ []) h = absurd (true_not_false (sym h))
 deep_path content (v ∷ c ∷ n ∷ r) h = (v, (c, (n, (r, refl))))
 
-pub path_lines : (root : StorageRoot) (u : Option ℕ) (p o q : Place) (t : Table) → zone root p ≡ inside o q → table_at root o ≡ Some t → IsAmong (paths_of t) q → notes root u p ≢ []
-path_lines root u p o q t z h i =
+pub common_path_lines : (root : StorageRoot) (u : Option ℕ) (p o q : Place) (t : Table) → zone root p ≡ inside o q → table_at root o ≡ Some t → IsAmong (paths_of t) q → common_notes root u p ≢ []
+common_path_lines root u p o q t z h i =
     let k = table_from_inventory root o t h in
     let m = kept_paths k.0 q (subst (λ x. IsAmong (paths_of x) q) k.1 i) in
     let deep : is_content_path k.0.content q ≡ true = ap (is_content_path k.0.content) m.is ∙ (kept_short k.0.content m.text m.kept).0 in
@@ -91,13 +91,13 @@ path_lines root u p o q t z h i =
         front [] b f = refl
         front (x ∷ a) b f = absurd (filled x (a ++ b) (sym f))
 
-    by : (v : Text) × ((c : Text) × ((n : Text) × ((r : Place) × (q ≡ v ∷ c ∷ n ∷ r)))) → notes root u p ≢ []
+    by : (v : Text) × ((c : Text) × ((n : Text) × ((r : Place) × (q ≡ v ∷ c ∷ n ∷ r)))) → common_notes root u p ≢ []
     by d e =
         let shape : q ≡ d.0 ∷ d.1.0 ∷ d.1.1.0 ∷ d.1.1.1.0 = d.1.1.1.1 in
         content_filled root p (named t (d.0 ∷ d.1.0 ∷ d.1.1.0 ∷ d.1.1.1.0)) u (seen root p) (subst (λ x. named t x ≢ []) shape names)
         (ap (λ y. object_notes root p u y (d.0 ∷ d.1.0 ∷ d.1.1.0 ∷ d.1.1.1.0)) (sym h) ∙ ap (notes_in root p u) (ap (inside o) (sym shape) ∙ sym z) ∙ sym (notes_at root u p below) ∙ e)
 
--- ---- no hashed place is a declaration, an inventory or a sidecar
+-- ---- no place with a named digest is a declaration, an inventory or a sidecar
 
 no_root_meta : (o : Place) (v c n : Text) (r : Place) → is_root_meta (o ++ v ∷ c ∷ n ∷ r) ≡ false
 no_root_meta [] v c n r = refl
@@ -152,18 +152,18 @@ named_path root p some = by (zone root p) refl some
         go None e l = absurd (l refl)
         go (Some t) e l = in_table o q t z e l
 
-pub hashed_path : (root : StorageRoot) (p : Place) → is_hashed root p ≡ true → IsPath root p
-hashed_path root p h = named_path root p (hashed_named (named_at root p) (seen root p) h)
+pub named_has_path : (root : StorageRoot) (p : Place) → is_named root p ≡ true → IsPath root p
+named_has_path root p h = named_path root p (hashed_named (named_at root p) (seen root p) h)
 
-pub hashed_no_meta : (root : StorageRoot) (p : Place) → is_hashed root p ≡ true → is_meta root p ≡ false
-hashed_no_meta root p h = by (hashed_path root p h)
+pub named_no_meta : (root : StorageRoot) (p : Place) → is_named root p ≡ true → is_common_meta root p ≡ false
+named_no_meta root p h = by (named_has_path root p h)
   where
-    by : IsPath root p → is_meta root p ≡ false
+    by : IsPath root p → is_common_meta root p ≡ false
     by k =
         let q : Place = k.version ∷ k.content ∷ k.name ∷ k.rest in
         let whole : p ≡ k.object ++ q = (zone_is root p k.object q k.lies).whole in
         (λ i. is_root_meta (whole i) || is_meta_zone (k.lies i)) ∙ ap (λ b. b || false) (no_root_meta k.object k.version k.content k.name k.rest)
 
 -- and so it has lines
-pub hashed_lines : (root : StorageRoot) (u : Option ℕ) (p : Place) → is_hashed root p ≡ true → notes root u p ≢ []
-hashed_lines root u p h = let k = hashed_path root p h in path_lines root u p k.object _ k.table k.lies k.has k.among
+pub named_lines : (root : StorageRoot) (u : Option ℕ) (p : Place) → is_named root p ≡ true → common_notes root u p ≢ []
+named_lines root u p h = let k = named_has_path root p h in common_path_lines root u p k.object _ k.table k.lies k.has k.among

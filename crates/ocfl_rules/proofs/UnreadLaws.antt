@@ -1,10 +1,11 @@
 -- Which places have lines does not depend on what could be read.
-use Rattle.std.proofs.Common.{◌≡◌, List, [], ◌∷◌, ◌++◌, refl, sym, ◌∙◌, true, false, Bool, Option, Some, None, ℕ}
+use Rattle.std.proofs.Common.{◌≡◌, List, [], ◌∷◌, ◌++◌, refl, sym, ◌∙◌, ap, true, false, Bool, Option, Some, None, ℕ}
 use Rattle.ocfl_tree.specs.{Place.{Place, Text}, StorageRoot.{StorageRoot, Leaf, file, dir, other}}
 use Rattle.ocfl_inventory.specs.{Note.{Note}, Table.{Table, Named, named}}
 use Rattle.ocfl_rules.specs.Zone.{Zone, skipped, hierarchy, inside, zone, seen, table_at}
-use Rattle.ocfl_rules.specs.Lines.{is_empty, or_bytes, file_notes, content_notes, within_notes, object_notes, notes_in, notes}
+use Rattle.ocfl_rules.specs.Lines.{is_empty, or_bytes, file_notes, content_notes, within_notes, object_notes, notes_in, common_notes}
 use Rattle.ocfl_rules.specs.Head.{on}
+use Rattle.ocfl_tree.proofs.Orders.{true_not_false}
 
 pub or_bytes_some : (bytes : Text) (ns : List Note) → is_empty (or_bytes bytes ns) ≡ false
 or_bytes_some bytes [] = refl
@@ -41,6 +42,10 @@ zone_alike root p u v hierarchy = refl
 zone_alike root p u v (inside o []) = refl
 zone_alike root p u v (inside o (n ∷ q)) = object_alike root p u v (table_at root o) (n ∷ q)
 
-pub notes_alike : (root : StorageRoot) (u v : Option ℕ) (p : Place) → is_empty (notes root u p) ≡ is_empty (notes root v p)
-notes_alike root u v [] = refl
-notes_alike root u v (n ∷ p) = zone_alike root (n ∷ p) u v (zone root (n ∷ p))
+pub common_alike : (root : StorageRoot) (u v : Option ℕ) (p : Place) → is_empty (common_notes root u p) ≡ is_empty (common_notes root v p)
+common_alike root u v [] = refl
+common_alike root u v (n ∷ p) = zone_alike root (n ∷ p) u v (zone root (n ∷ p))
+
+pub no_notes : (xs ys : List Note) → is_empty xs ≡ is_empty ys → xs ≡ [] → ys ≡ []
+no_notes xs [] e h = refl
+no_notes xs (y ∷ ys) e h = absurd (true_not_false (sym (ap is_empty h) ∙ e))

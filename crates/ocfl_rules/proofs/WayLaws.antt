@@ -9,7 +9,7 @@ use Rattle.ocfl_tree.specs.StorageRoot.{StorageRoot, Leaf, dir, lookup, at, is_d
 use Rattle.ocfl_inventory.specs.{Declaration.{undeclared, declared}, Table.{Table, paths_of}}
 use Rattle.ocfl_inventory.specs.declared.declaration.Level.TheVariants.{Object}
 use Rattle.ocfl_rules.specs.Zone.{Zone, skipped, hierarchy, inside, object_zone, object_declared, root_declared, is_in_extensions, zone, table_at, seen, max_listed_depth, is_entered, is_listed_zone, beginnings, files_in, is_known, is_declared}
-use Rattle.ocfl_rules.specs.Lines.{notes, notes_in, hierarchy_notes, within_notes, object_notes}
+use Rattle.ocfl_rules.specs.Lines.{common_notes, notes_in, hierarchy_notes, within_notes, object_notes}
 use Rattle.ocfl_rules.specs.Walk.{is_reached, seen_names, next_name, names_of_table, path_names_in, path_names, names_below, IsClosed, step_zone}
 use Rattle.ocfl_tree.proofs.Bools.{and_first, and_second, and_both}
 use Rattle.ocfl_tree.proofs.{Orders.{true_not_false, among_ascending, among_left, among_right}, Trees.{at-append, dir_from_leaf}}
@@ -273,14 +273,11 @@ module _ (root : StorageRoot) (closed : IsClosed root) where
       by_sight dir (ap (seen root) ((zone_is root p o [] e).whole ∙ append_nothing o) ∙ head_seen root closed p o [] e)
   zone_reason p u (inside o (n ∷ q)) e some = object_reason p o (n ∷ q) u e (table_at root o) refl some
 
-  pub reason : (u : Option ℕ) (p : Place) → notes root u p ≢ [] → Reason p
-  reason u [] some = by_sight dir refl
-  reason u (n ∷ p) some = zone_reason (n ∷ p) u (zone root (n ∷ p)) refl some
+  pub common_reason : (u : Option ℕ) (p : Place) → common_notes root u p ≢ [] → Reason p
+  common_reason u [] some = by_sight dir refl
+  common_reason u (n ∷ p) some = zone_reason (n ∷ p) u (zone root (n ∷ p)) refl some
 
-  way_of_reason : (p : Place) → Reason p → (d : Place) (n : Text) (r : Place) → p ≡ d ++ n ∷ r → IsAmong (names_below root d) n
+  -- the names on the way to it are among those that the walk takes
+  pub way_of_reason : (p : Place) → Reason p → (d : Place) (n : Text) (r : Place) → p ≡ d ++ n ∷ r → IsAmong (names_below root d) n
   way_of_reason p (by_sight leaf h) d n r e = way_of_seen p leaf h d n r e
   way_of_reason p (by_table o q t z h i) d n r e = way_of_path p o q t z h i d n r e
-
-  -- the names on the way to an item are among those that the walk takes
-  pub item_way : (u : Option ℕ) (d : Place) (n : Text) (r : Place) → notes root u (d ++ n ∷ r) ≢ [] → IsAmong (names_below root d) n
-  item_way u d n r some = way_of_reason (d ++ n ∷ r) (reason u (d ++ n ∷ r) some) d n r refl

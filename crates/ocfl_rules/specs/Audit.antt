@@ -5,7 +5,9 @@ use Rattle.ocfl_tree.specs.Place.{Place, place_cmp, place_eq}
 use Rattle.ocfl_tree.specs.{Ascending.{ascending, IsAscending, IsAmong}, StorageRoot.{StorageRoot}}
 use Rattle.ocfl_report.specs.Line.{Item}
 use Rattle.ocfl_inventory.specs.{Note.{lines_at}, Table.{Table, paths_of}}
-use Rattle.ocfl_rules.specs.{Zone.{table_at}, Lines.{is_empty, notes, cost}}
+use Rattle.ocfl_rules.specs.Inventories.{Further, notes, cost}
+use Rattle.ocfl_rules.specs.Zone.{table_at}
+use Rattle.ocfl_rules.specs.Lines.{is_empty}
 
 -- the content files that could not be read, each with the bytes that it gave
 abbrev pub Unread : Type 0
@@ -15,11 +17,11 @@ abbrev pub given_by : Unread → Place → Option ℕ
 given_by [] p = None
 given_by (e ∷ unread) p = if place_eq e.0 p then Some e.1 else given_by unread p
 
-abbrev pub item_of : StorageRoot → Unread → Place → Item
-item_of root unread p = record {
+abbrev pub item_of : Further → StorageRoot → Unread → Place → Item
+item_of further root unread p = record {
   place = p;
-  lines = lines_at p (notes root (given_by unread p) p);
-  cost = cost root (given_by unread p) p;
+  lines = lines_at p (notes further root (given_by unread p) p);
+  cost = cost further root (given_by unread p) p;
 }
 
 -- the places that an object's table names
@@ -38,8 +40,8 @@ abbrev pub has_lines : Item → Bool
 has_lines i = not (is_empty i.lines)
 
 -- the audit: each place that has lines, in order
-abbrev pub audit : StorageRoot → Unread → List Item
-audit root unread = filter has_lines (map (item_of root unread) (ascending place_cmp (candidates root)))
+abbrev pub audit : Further → StorageRoot → Unread → List Item
+audit further root unread = filter has_lines (map (item_of further root unread) (ascending place_cmp (candidates root)))
 
 abbrev pub total_cost : List Item → ℕ
 total_cost [] = 0
@@ -47,10 +49,10 @@ total_cost (i ∷ items) = i.cost + total_cost items
 
 -- the same said without a computation: the items ascend, are those of their places, and stand for
 -- just the places with lines
-pub record IsAudit (root : StorageRoot) (unread : Unread) (items : List Item) : Type 0 where
+pub record IsAudit (further : Further) (root : StorageRoot) (unread : Unread) (items : List Item) : Type 0 where
   pub ascends : IsAscending place_cmp (map (λ i. i.place) items)
-  pub each : AllByRecursion (λ i. i ≡ item_of root unread i.place) items
-  pub exactly : (p : Place) → IsAmong (map (λ i. i.place) items) p ↔ (notes root (given_by unread p) p ≢ [])
+  pub each : AllByRecursion (λ i. i ≡ item_of further root unread i.place) items
+  pub exactly : (p : Place) → IsAmong (map (λ i. i.place) items) p ↔ (notes further root (given_by unread p) p ≢ [])
 
 -- the items whose place is above p, whether or not p is one; all of them for the start
 abbrev pub after : List Item → Option Place → List Item

@@ -5,30 +5,18 @@
 use Rattle.std.specs.Prelude.{◌≡◌, ◌≢◌, ◌↔◌, ◌⊎◌, ℕ, ◌+◌, ◌&&◌, ◌||◌, nat_lt, List, [], ◌∷◌, ◌++◌, Bool, true, false, not, length, if◌then◌else◌, Option, Some, None, is_some, option_and_then, option_map, Ok, Err, map, filter, flat_map, codes}
 use Rattle.std.specs.List.{AllByRecursion}
 use Rattle.hex.specs.Hex.{encode_lower}
-use Rattle.serde_json.specs.{Data.{Members}, Find.{as_str, get_member}}
-use Rattle.ocfl_tree.specs.Place.{Text, Place, place_cmp, text_eq}
-use Rattle.ocfl_tree.specs.Ascending.{ascending, IsAscending, IsAmong}
+use Rattle.ocfl_tree.specs.Place.{Text, Place, text_eq}
 use Rattle.ocfl_tree.specs.StorageRoot.{StorageRoot, Leaf, file, dir, other}
-use Rattle.ocfl_tree.specs.declared.store.Opening.{Opening}
-use Rattle.ocfl_report.specs.Line.{Item}
 use Rattle.ocfl_report.specs.declared.code.Code.{Code}
 use Rattle.ocfl_report.specs.declared.code.Code.TheVariants.{E058, E060, E061, S08}
-use Rattle.ocfl_inventory.specs.{Note.{note, Note, plain, lines_at}, Reading.{Reading, object_of}}
+use Rattle.ocfl_inventory.specs.{Note.{note, Note, plain}, Reading.{head_of}}
 use Rattle.ocfl_inventory.specs.{ListedPath.{is_version_name}, Sidecar.{sidecar_of}, Table.{Table}}
 use Rattle.ocfl_digest.specs.{Algorithm.{algorithm_name}, declared.algorithm.Algorithm.{Algorithm}}
 use Rattle.ocfl_digest.specs.declared.algorithm.Algorithm.TheVariants.{Sha256, Sha512}
+use Rattle.ocfl_rules.specs.declared.further.NewCodes.{NewCodes}
 use Rattle.ocfl_rules.specs.Zone.{Zone, skipped, hierarchy, inside, zone, seen, table_at, inventory_at, inventory_name}
 use Rattle.ocfl_rules.specs.Head.{on, digest_of, mismatch, sidecar_name, sidecar_at, are_sidecars_missing}
-use Rattle.ocfl_rules.specs.Lines.{is_empty, notes, cost, or_bytes}
-use Rattle.ocfl_rules.specs.Audit.{Unread, given_by, candidates, has_lines}
-use Rattle.ocfl_rules.specs.{Trail.{is_meta, places_of}, Due.{places_after}, Objects.{IsObjectRoot}}
-
--- the codes of the lines that only such an audit has: an inventory that is not the root inventory,
--- though its version is the root inventory's head (E064 in the list of OCFL 1.1); and a note, which
--- says what the root inventory is
-pub record NewCodes : Type 0 where
-  pub differs : Code
-  pub is_now : Code
+use Rattle.ocfl_rules.specs.Lines.{or_bytes, common_notes, common_cost}
 
 -- what an audit checks beside what each audit does: nothing, or the inventories of version
 -- directories
@@ -36,10 +24,6 @@ abbrev pub Further : Type 0
 Further = Option NewCodes
 
 -- ---- the root inventory
-
-abbrev pub head_in : Reading Members → Option Text
-head_in (Ok ms) = option_and_then as_str (get_member (codes "head") ms)
-head_in (Err n) = None
 
 -- what an object's root inventory is, if the object's head does not stop at it: its digest by its
 -- own algorithm, and the version that it names as the newest, if that is a text
@@ -52,7 +36,7 @@ abbrev pub root_inventory_of : Text → Table → RootInventory
 root_inventory_of bytes t = record {
   algorithm = t.algorithm;
   digest = digest_of t.algorithm bytes;
-  head = head_in (object_of bytes);
+  head = head_of bytes;
 }
 
 abbrev pub root_inventory : StorageRoot → Place → Option RootInventory
@@ -185,82 +169,19 @@ is_version_sidecar (inside o (n ∷ [])) = false
 is_version_sidecar (inside o (v ∷ n ∷ [])) = is_version_name v && (text_eq n (sidecar_name Sha256) || text_eq n (sidecar_name Sha512))
 is_version_sidecar (inside o (v ∷ c ∷ n ∷ q)) = false
 
--- ---- lines, cost and metadata of each place
+-- ---- the lines and the cost of each place
 
-abbrev pub notes_with : Further → StorageRoot → Option ℕ → Place → List Note
-notes_with None root u p = notes root u p
-notes_with (Some k) root u p = notes root u p ++ further_notes k root u p
+-- the lines of a place
+abbrev pub notes : Further → StorageRoot → Option ℕ → Place → List Note
+notes None root u p = common_notes root u p
+notes (Some k) root u p = common_notes root u p ++ further_notes k root u p
 
-abbrev pub cost_with : Further → StorageRoot → Option ℕ → Place → ℕ
-cost_with None root u p = cost root u p
-cost_with (Some k) root u p = cost root u p + further_cost k root u p
+-- what auditing a place costs: one more than the bytes that were delivered, if its file is hashed,
+-- and else nothing
+abbrev pub cost : Further → StorageRoot → Option ℕ → Place → ℕ
+cost None root u p = common_cost root u p
+cost (Some k) root u p = common_cost root u p + further_cost k root u p
 
--- some digest is named for the file there, or expected of it
-abbrev pub is_hashed_with : Further → StorageRoot → Place → Bool
-is_hashed_with further root p = nat_lt 0 (cost_with further root None p)
-
--- what is read for its own sake
-abbrev pub is_meta_with : Further → StorageRoot → Place → Bool
-is_meta_with None root p = is_meta root p
-is_meta_with (Some k) root p = is_meta root p || is_version_sidecar (zone root p)
-
--- ---- the audit
-
-abbrev pub item_with : Further → StorageRoot → Unread → Place → Item
-item_with further root unread p = record {
-  place = p;
-  lines = lines_at p (notes_with further root (given_by unread p) p);
-  cost = cost_with further root (given_by unread p) p;
-}
-
-abbrev pub audit_with : Further → StorageRoot → Unread → List Item
-audit_with further root unread = filter has_lines (map (item_with further root unread) (ascending place_cmp (candidates root)))
-
--- the same said without a computation
-pub record IsAuditWith (further : Further) (root : StorageRoot) (unread : Unread) (items : List Item) : Type 0 where
-  pub ascends : IsAscending place_cmp (map (λ i. i.place) items)
-  pub each : AllByRecursion (λ i. i ≡ item_with further root unread i.place) items
-  pub exactly : (p : Place) → IsAmong (map (λ i. i.place) items) p ↔ (notes_with further root (given_by unread p) p ≢ [])
-
--- ---- what openings show of it
-
-abbrev pub content_openings_with : Further → StorageRoot → List Opening → List Opening
-content_openings_with further root trail = filter (λ o. not (is_meta_with further root o.place)) trail
-
-abbrev pub content_trail_with : Further → StorageRoot → List Opening → List Place
-content_trail_with further root trail = places_of (content_openings_with further root trail)
-
-abbrev pub unread_with : Further → StorageRoot → List Opening → Unread
-unread_with further root trail = map (λ o. (o.place, o.given)) (filter (λ o. o.failed) (content_openings_with further root trail))
-
--- ---- the audit by its places
-
-unfoldable pub item_places_with : Further → StorageRoot → List Place
-item_places_with further root = filter (λ p. not (is_empty (notes_with further root None p))) (ascending place_cmp (candidates root))
-
-unfoldable pub due_with : Further → StorageRoot → Option Place → List Place
-due_with further root last = places_after (item_places_with further root) last
-
-unfoldable pub items_with : Further → StorageRoot → List Opening → List Place → List Item
-items_with further root trail places = map (item_with further root (unread_with further root trail)) places
-
-unfoldable pub hashed_with : Further → StorageRoot → List Place → List Place
-hashed_with further root places = filter (is_hashed_with further root) places
-
--- ---- the same in words of the field
-
--- a sidecar in a version directory of an object
-pub record IsVersionSidecar (root : StorageRoot) (p : Place) : Type 0 where
-  pub object : Place
-  pub version : Text
-  pub name : Text
-  pub is_object : IsObjectRoot root object
-  pub is_version : is_version_name version ≡ true
-  pub named : (name ≡ codes "inventory.json.sha256") ⊎ (name ≡ codes "inventory.json.sha512")
-  pub whole : p ≡ object ++ version ∷ name ∷ []
-
--- the inventory in a version directory of an object, if it is seen
-pub record IsVersionInventory (root : StorageRoot) (p object : Place) (version bytes : Text) : Type 0 where
-  pub is_object : IsObjectRoot root object
-  pub is_seen : seen root p ≡ Some (file bytes)
-  pub whole : p ≡ object ++ version ∷ codes "inventory.json" ∷ []
+-- a file is seen there, and some digest is named for it or expected of it
+abbrev pub is_hashed : Further → StorageRoot → Place → Bool
+is_hashed further root p = nat_lt 0 (cost further root None p)

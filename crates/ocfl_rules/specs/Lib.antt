@@ -1,6 +1,7 @@
 pub mod Zone
 pub mod Head
 pub mod Lines
+pub mod Inventories
 pub mod Audit
 pub mod Due
 pub mod Trail
@@ -8,6 +9,5 @@ pub mod Walk
 pub mod Stack
 pub mod Between
 pub mod Objects
-pub mod Inventories
 pub mod Runs
 pub mod Parts

@@ -116,10 +116,10 @@ notes_in root p u hierarchy = hierarchy_notes root p (seen root p)
 notes_in root p u (inside o []) = head_notes_by root o (object_declared root o)
 notes_in root p u (inside o (n ∷ q)) = object_notes root p u (table_at root o) (n ∷ q)
 
--- the lines of a place
-abbrev pub notes : StorageRoot → Option ℕ → Place → List Note
-notes root u [] = root_notes_by root (root_declared root)
-notes root u (n ∷ p) = notes_in root (n ∷ p) u (zone root (n ∷ p))
+-- the lines of a place that each audit has
+abbrev pub common_notes : StorageRoot → Option ℕ → Place → List Note
+common_notes root u [] = root_notes_by root (root_declared root)
+common_notes root u (n ∷ p) = notes_in root (n ∷ p) u (zone root (n ∷ p))
 
 -- ---- what is hashed
 
@@ -144,11 +144,11 @@ cost_of (n ∷ ns) (Some given) (Some (file bytes)) = given + 1
 cost_of (n ∷ ns) u (Some dir) = 0
 cost_of (n ∷ ns) u (Some other) = 0
 
--- what auditing a place costs: one more than the bytes that were delivered, if its file is hashed,
--- and else nothing
-abbrev pub cost : StorageRoot → Option ℕ → Place → ℕ
-cost root u p = cost_of (named_at root p) u (seen root p)
+-- what auditing a place costs in each audit: one more than the bytes that were delivered, if a
+-- digest is named for its file, and else nothing
+abbrev pub common_cost : StorageRoot → Option ℕ → Place → ℕ
+common_cost root u p = cost_of (named_at root p) u (seen root p)
 
 -- a file is seen there, and some digest is named for it
-abbrev pub is_hashed : StorageRoot → Place → Bool
-is_hashed root p = nat_lt 0 (cost root None p)
+abbrev pub is_named : StorageRoot → Place → Bool
+is_named root p = nat_lt 0 (common_cost root None p)

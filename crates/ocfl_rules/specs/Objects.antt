@@ -1,10 +1,11 @@
 -- Which objects an audit reaches, which of them have an inventory that it reads, which directories
 -- it looks into, and what is metadata.
-use Rattle.std.specs.Prelude.{◌≡◌, ◌≢◌, ◌≤◌, length, [], ◌∷◌, ◌++◌, true, false, Some, codes}
-use Rattle.ocfl_tree.specs.{Place.{Text, Place}, StorageRoot.{StorageRoot, dir, file_at}}
+use Rattle.std.specs.Prelude.{◌≡◌, ◌≢◌, ◌⊎◌, ◌≤◌, length, [], ◌∷◌, ◌++◌, true, false, Some, is_some, codes}
+use Rattle.ocfl_tree.specs.{Place.{Text, Place}, StorageRoot.{StorageRoot, dir, file, file_at}}
 use Rattle.ocfl_inventory.specs.Declaration.{known, is_declaration}
 use Rattle.ocfl_inventory.specs.declared.declaration.Level.TheVariants.{Root, Object}
-use Rattle.ocfl_inventory.specs.{declared.declaration.Version.{Version}, Table.{Table}}
+use Rattle.ocfl_inventory.specs.{declared.declaration.Version.{Version}, Table.{Table}, ListedPath.{is_version_name}}
+use Rattle.ocfl_rules.specs.Inventories.{Further}
 use Rattle.ocfl_rules.specs.Zone.{hierarchy, inside, zone, seen, table_at, is_listed_within, inventory_name, root_declared, object_declared, is_in_extensions, is_known, is_declared, max_listed_depth}
 
 -- an object's root: in a storage root of known version, outside its extensions, declared, and with
@@ -47,8 +48,25 @@ pub data IsObjectFile (n : Text) : Type 0 where
   declaration : is_declaration Object n ≡ true → IsObjectFile n
   of_inventory : IsInventoryFile n → IsObjectFile n
 
+-- a sidecar in a version directory of an object
+pub record IsVersionSidecar (root : StorageRoot) (p : Place) : Type 0 where
+  pub object : Place
+  pub version : Text
+  pub name : Text
+  pub is_object : IsObjectRoot root object
+  pub is_version : is_version_name version ≡ true
+  pub named : (name ≡ codes "inventory.json.sha256") ⊎ (name ≡ codes "inventory.json.sha512")
+  pub whole : p ≡ object ++ version ∷ name ∷ []
+
+-- the inventory in a version directory of an object, if it is seen
+pub record IsVersionInventory (root : StorageRoot) (p object : Place) (version bytes : Text) : Type 0 where
+  pub is_object : IsObjectRoot root object
+  pub is_seen : seen root p ≡ Some (file bytes)
+  pub whole : p ≡ object ++ version ∷ codes "inventory.json" ∷ []
+
 -- what is read for its own sake: the storage root's declarations, and such files right in an
--- object's root
-pub data IsMetadata (root : StorageRoot) (p : Place) : Type 0 where
-  of_root : (n : Text) → is_declaration Root n ≡ true → p ≡ n ∷ [] → IsMetadata root p
-  of_object : (o : Place) (n : Text) → IsObjectRoot root o → IsObjectFile n → p ≡ o ++ n ∷ [] → IsMetadata root p
+-- object's root; and sidecars in version directories, if their inventories are checked
+pub data IsMetadata (further : Further) (root : StorageRoot) (p : Place) : Type 0 where
+  of_root : (n : Text) → is_declaration Root n ≡ true → p ≡ n ∷ [] → IsMetadata further root p
+  of_object : (o : Place) (n : Text) → IsObjectRoot root o → IsObjectFile n → p ≡ o ++ n ∷ [] → IsMetadata further root p
+  of_version : is_some further ≡ true → IsVersionSidecar root p → IsMetadata further root p

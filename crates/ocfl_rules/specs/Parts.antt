@@ -4,7 +4,9 @@ use Rattle.std.specs.Prelude.{ℕ, ◌&&◌, ◌||◌, List, [], ◌∷◌, ◌+
 use Rattle.std.specs.Ordering.{is_lt}
 use Rattle.ocfl_tree.specs.{Place.{Text, Place, place_cmp, begins}, StorageRoot.{StorageRoot}}
 use Rattle.ocfl_report.specs.Line.{Item}
-use Rattle.ocfl_rules.specs.{Lines.{is_empty}, Audit.{Unread, audit, total_cost}}
+use Rattle.ocfl_rules.specs.Inventories.{Further}
+use Rattle.ocfl_rules.specs.Lines.{is_empty}
+use Rattle.ocfl_rules.specs.Audit.{Unread, audit, total_cost}
 use Rattle.ocfl_rules.specs.Runs.{total_files}
 
 -- the places at `under` and below it, not less than `from` and less than `below`, if these are
@@ -84,8 +86,8 @@ abbrev pub together : List (Part × Unread) → Unread
 together parts = flat_map (λ e. unread_in e.0 e.1) parts
 
 -- the items of each part, by what its own audit could read
-abbrev pub audited_apart : StorageRoot → List (Part × Unread) → List Item
-audited_apart root parts = flat_map (λ e. within e.0 (audit root e.1)) parts
+abbrev pub audited_apart : Further → StorageRoot → List (Part × Unread) → List Item
+audited_apart further root parts = flat_map (λ e. within e.0 (audit further root e.1)) parts
 
 -- ---- a branch between two separators
 

@@ -5,8 +5,10 @@ use Rattle.ocfl_tree.specs.Place.{Text, Place, text_cmp, place_cmp, begins}
 use Rattle.ocfl_tree.specs.{Ascending.{ascending, IsAmong}, StorageRoot.{StorageRoot, Leaf, dir}}
 use Rattle.ocfl_report.specs.Line.{Item}
 use Rattle.ocfl_inventory.specs.Table.{Table, paths_of}
-use Rattle.ocfl_rules.specs.Zone.{Zone, skipped, hierarchy, inside, zone, seen, table_at}
-use Rattle.ocfl_rules.specs.{Audit.{Unread, candidates}, Head.{on}}
+use Rattle.ocfl_rules.specs.Inventories.{Further}
+use Rattle.ocfl_rules.specs.Zone.{Zone, inside, zone, seen, table_at, skipped, hierarchy}
+use Rattle.ocfl_rules.specs.Audit.{Unread, candidates}
+use Rattle.ocfl_rules.specs.Head.{on}
 use Rattle.ocfl_rules.specs.Walk.{is_reached, item_at, items_under, names_below, seen_names}
 
 -- ---- a stack of directories, the deepest first, each with its names that are still to be taken
@@ -132,13 +134,13 @@ abbrev pub next_place : StorageRoot → Place → List Frame → Option Next
 next_place root last fs = lesser fs (next_entry root fs) (next_path root last)
 
 -- the items of the next k places
-abbrev pub taken_with : StorageRoot → Unread → (Place → List Frame → List Item) → Option Next → List Item
-taken_with root unread more None = []
-taken_with root unread more (Some x) = item_at root unread x.0 ++ more x.0 x.1
+abbrev pub taken_with : Further → StorageRoot → Unread → (Place → List Frame → List Item) → Option Next → List Item
+taken_with further root unread more None = []
+taken_with further root unread more (Some x) = item_at further root unread x.0 ++ more x.0 x.1
 
-abbrev pub taken : ℕ → StorageRoot → Unread → Place → List Frame → List Item
-taken zero root unread last fs = []
-taken (suc k) root unread last fs = taken_with root unread (taken k root unread) (next_place root last fs)
+abbrev pub taken : Further → ℕ → StorageRoot → Unread → Place → List Frame → List Item
+taken further zero root unread last fs = []
+taken further (suc k) root unread last fs = taken_with further root unread (taken further k root unread) (next_place root last fs)
 
 -- the directories that the next k places make the walk list
 abbrev pub lists_with : StorageRoot → (Place → List Frame → List Place) → Option Next → List Place

@@ -1,11 +1,13 @@
 -- What openings and listings show of an audit.
-use Rattle.std.specs.Prelude.{◌&&◌, ◌||◌, List, [], ◌∷◌, ◌++◌, Bool, true, false, not, is_some, map, filter, if◌then◌else◌}
+use Rattle.std.specs.Prelude.{◌&&◌, ◌||◌, List, [], ◌∷◌, ◌++◌, Bool, true, false, not, Some, None, is_some, map, filter, if◌then◌else◌}
 use Rattle.ocfl_tree.specs.{Place.{Place, place_cmp, text_eq}, Ascending.{ascending}}
 use Rattle.ocfl_tree.specs.{StorageRoot.{StorageRoot}, declared.store.Opening.{Opening}}
 use Rattle.ocfl_inventory.specs.Declaration.{is_declaration}
 use Rattle.ocfl_inventory.specs.declared.declaration.Level.TheVariants.{Root, Object}
-use Rattle.ocfl_rules.specs.Zone.{Zone, skipped, hierarchy, inside, zone, inventory_name, inventory_at}
-use Rattle.ocfl_rules.specs.{Lines.{is_inventory_or_sidecar}, Audit.{Unread}}
+use Rattle.ocfl_rules.specs.Inventories.{Further, is_version_sidecar}
+use Rattle.ocfl_rules.specs.Zone.{Zone, inside, zone, inventory_name, inventory_at, skipped, hierarchy}
+use Rattle.ocfl_rules.specs.Lines.{is_inventory_or_sidecar}
+use Rattle.ocfl_rules.specs.Audit.{Unread}
 
 -- ---- what is read for its own sake: declarations, inventories and sidecars, by name and zone
 
@@ -24,8 +26,12 @@ is_meta_zone skipped = false
 is_meta_zone hierarchy = false
 is_meta_zone (inside o q) = is_object_meta q
 
-abbrev pub is_meta : StorageRoot → Place → Bool
-is_meta root p = is_root_meta p || is_meta_zone (zone root p)
+abbrev pub is_common_meta : StorageRoot → Place → Bool
+is_common_meta root p = is_root_meta p || is_meta_zone (zone root p)
+
+abbrev pub is_meta : Further → StorageRoot → Place → Bool
+is_meta None root p = is_common_meta root p
+is_meta (Some k) root p = is_common_meta root p || is_version_sidecar (zone root p)
 
 -- ---- what openings show of content
 
@@ -33,15 +39,15 @@ abbrev pub places_of : List Opening → List Place
 places_of trail = map (λ o. o.place) trail
 
 -- the openings of a trail outside them
-abbrev pub content_openings : StorageRoot → List Opening → List Opening
-content_openings root trail = filter (λ o. not (is_meta root o.place)) trail
+abbrev pub content_openings : Further → StorageRoot → List Opening → List Opening
+content_openings further root trail = filter (λ o. not (is_meta further root o.place)) trail
 
-abbrev pub content_trail : StorageRoot → List Opening → List Place
-content_trail root trail = places_of (content_openings root trail)
+abbrev pub content_trail : Further → StorageRoot → List Opening → List Place
+content_trail further root trail = places_of (content_openings further root trail)
 
 -- the content files that a trail shows to be unreadable, each with what it gave
-abbrev pub unread_of : StorageRoot → List Opening → Unread
-unread_of root trail = map (λ o. (o.place, o.given)) (filter (λ o. o.failed) (content_openings root trail))
+abbrev pub unread_of : Further → StorageRoot → List Opening → Unread
+unread_of further root trail = map (λ o. (o.place, o.given)) (filter (λ o. o.failed) (content_openings further root trail))
 
 -- ---- the inventories that heads read
 

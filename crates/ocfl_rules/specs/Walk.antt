@@ -6,8 +6,10 @@ use Rattle.ocfl_tree.specs.Ascending.{ascending}
 use Rattle.ocfl_tree.specs.StorageRoot.{StorageRoot, Leaf, dir, at, names_in}
 use Rattle.ocfl_report.specs.Line.{Item}
 use Rattle.ocfl_inventory.specs.{Table.{Table, paths_of}, ListedPath.{is_version_name}}
+use Rattle.ocfl_rules.specs.Inventories.{Further}
 use Rattle.ocfl_rules.specs.Zone.{Zone, skipped, hierarchy, inside, zone, is_entered, table_at, object_declared, is_in_extensions, is_listed_within, beginnings, is_declared}
-use Rattle.ocfl_rules.specs.{Audit.{Unread, has_lines, item_of}, Head.{on}}
+use Rattle.ocfl_rules.specs.Audit.{Unread, has_lines, item_of}
+use Rattle.ocfl_rules.specs.Head.{on}
 
 -- the items at d and below it
 abbrev pub items_under : Place → List Item → List Item
@@ -51,19 +53,19 @@ names_below root d = ascending text_cmp (seen_names root d ++ path_names root d)
 
 -- ---- the walk
 
-abbrev pub item_at : StorageRoot → Unread → Place → List Item
-item_at root unread d = on (has_lines (item_of root unread d)) (item_of root unread d)
+abbrev pub item_at : Further → StorageRoot → Unread → Place → List Item
+item_at further root unread d = on (has_lines (item_of further root unread d)) (item_of further root unread d)
 
 -- the items at d and below it, k levels deep
-abbrev pub walk : ℕ → StorageRoot → Unread → Place → List Item
-walk zero root unread d = []
-walk (suc k) root unread d = item_at root unread d ++ flat_map (λ n. walk k root unread (d ++ n ∷ [])) (names_below root d)
+abbrev pub walk : Further → ℕ → StorageRoot → Unread → Place → List Item
+walk further zero root unread d = []
+walk further (suc k) root unread d = item_at further root unread d ++ flat_map (λ n. walk further k root unread (d ++ n ∷ [])) (names_below root d)
 
 -- those of them above d ++ q
-abbrev pub walk_after : ℕ → StorageRoot → Unread → Place → Place → List Item
-walk_after zero root unread d q = []
-walk_after (suc k) root unread d [] = flat_map (λ n. walk k root unread (d ++ n ∷ [])) (names_below root d)
-walk_after (suc k) root unread d (n ∷ q) = walk_after k root unread (d ++ n ∷ []) q ++ flat_map (λ m. walk k root unread (d ++ m ∷ [])) (filter (λ m. is_lt (text_cmp n m)) (names_below root d))
+abbrev pub walk_after : Further → ℕ → StorageRoot → Unread → Place → Place → List Item
+walk_after further zero root unread d q = []
+walk_after further (suc k) root unread d [] = flat_map (λ n. walk further k root unread (d ++ n ∷ [])) (names_below root d)
+walk_after further (suc k) root unread d (n ∷ q) = walk_after further k root unread (d ++ n ∷ []) q ++ flat_map (λ m. walk further k root unread (d ++ m ∷ [])) (filter (λ m. is_lt (text_cmp n m)) (names_below root d))
 
 -- ---- what a folder keeps: above each place there is a directory
 abbrev pub IsClosed : StorageRoot → Type 0

@@ -11,12 +11,13 @@ ghost use Rattle.ocfl_report.specs.declared.code.Code.TheVariants.{E001};
 ghost use Rattle.ocfl_inventory.specs.{Note.{plain}, Table.{Table, paths_of}, Notes.{listed}};
 ghost use Rattle.ocfl_inventory.specs.{ListedPath.{is_version_name}, Declaration.{is_declaration}};
 ghost use Rattle.ocfl_inventory.specs.declared.declaration.Level.TheVariants.{Object};
+ghost use Rattle.ocfl_rules.specs.Inventories.{Further, notes, is_hashed};
 ghost use Rattle.ocfl_rules.specs.Audit.{IsAudit, Unread, after, audit, candidates, given_by, item_of, total_cost};
 ghost use Rattle.ocfl_rules.specs.Walk.{is_extensions, is_reached, item_at, items_of_place, items_under, names_below, step_listed, step_zone, walk, walk_after};
 ghost use Rattle.ocfl_rules.specs.Stack.{IsStack, NoPathAbove, NoPathBetween, NoneSeenAbove, NoneSeenBetween, entered_at, left_of, listed_at, lists, taken};
 ghost use Rattle.ocfl_rules.specs.Zone.{is_entered, is_in_extensions, is_listed_within, files_in, is_declared, is_known, is_listed_zone, max_listed_depth, seen, skipped, zone, inside, inventory_name, object_declared, root_declared, table_at};
 ghost use Rattle.ocfl_rules.specs.Objects.{IsObjectRoot, HasInventory, IsInventoryFile, IsLookedInto, IsObjectFile, IsMetadata};
-ghost use Rattle.ocfl_rules.specs.Lines.{notes, is_hashed, object_entry_notes, version_entry_notes};
+ghost use Rattle.ocfl_rules.specs.Lines.{object_entry_notes, version_entry_notes};
 ghost use Rattle.ocfl_rules.specs.Trail.{inventories, is_meta, content_trail, unread_of, heads_of};
 ghost use Rattle.ocfl_rules.specs.Due.{item_places, items_at, due, hashed_among};
 ghost use Rattle.ocfl_rules.specs.Between.{IsBeyond, IsWithin, is_looked_into, looked_between, read_between};
@@ -26,13 +27,15 @@ ghost use Rattle.ocfl_rules.specs.Parts.{Part, whole, branch, lies_in, within, p
 /// The audit is the one list that its description fits.
 #[tactic(auto, using(crate::proofs::AuditLaws::audit_unique))]
 pub fn audit_is_unique()
-    ensures { (root : StorageRoot) (unread : Unread) (xs ys : List Item) → IsAudit root unread xs
-        → IsAudit root unread ys → xs ≡ ys }
+    ensures { (further : Further) (root : StorageRoot) (unread : Unread) (xs ys : List Item)
+        → IsAudit further root unread xs
+        → IsAudit further root unread ys → xs ≡ ys }
 {}
 
 /// The audit fits its description.
 pub fn audit_is_there()
-    ensures { (root : StorageRoot) (unread : Unread) → IsAudit root unread (audit root unread) }
+    ensures { (further : Further) (root : StorageRoot) (unread : Unread)
+        → IsAudit further root unread (audit further root unread) }
 {}
 
 /// What is above a place is an end of the audit.
@@ -44,25 +47,28 @@ pub fn after_is_an_end()
 
 /// The items at a place and below it: its own, and then those under each name, ascending.
 pub fn items_go_by_name()
-    ensures by_name { (root : StorageRoot) (unread : Unread) (d : Place)
-        → items_under d (audit root unread) ≡ item_at root unread d
-        ++ flat_map (λ n. items_under (d ++ n ∷ []) (audit root unread)) (names_below root d) }
+    ensures by_name { (further : Further) (root : StorageRoot) (unread : Unread) (d : Place)
+        → items_under d (audit further root unread) ≡ item_at further root unread d
+        ++ flat_map (λ n. items_under (d
+        ++ n ∷ []) (audit further root unread)) (names_below root d) }
     ensures names { (root : StorageRoot) (d : Place) → IsAscending text_cmp (names_below root d) }
-    ensures here { (root : StorageRoot) (unread : Unread) (d : Place)
-        → items_of_place d (audit root unread) ≡ item_at root unread d }
+    ensures here { (further : Further) (root : StorageRoot) (unread : Unread) (d : Place)
+        → items_of_place d (audit further root unread) ≡ item_at further root unread d }
 {}
 
 /// Those above a place further down: what is above it under its next name, and then all under
 /// greater names.
-#[tactic(auto, using(crate::proofs::PublicLaws::at_itself, crate::proofs::PublicLaws::further))]
+#[tactic(auto, using(crate::proofs::PublicLaws::at_itself, crate::proofs::PublicLaws::further_down))]
 pub fn items_go_on()
-    ensures at_itself { (root : StorageRoot) (unread : Unread) (d : Place)
-        → after (items_under d (audit root unread)) (Some d)
-        ≡ flat_map (λ n. items_under (d ++ n ∷ []) (audit root unread)) (names_below root d) }
-    ensures further { (root : StorageRoot) (unread : Unread) (d q : Place) (n : Text)
-        → after (items_under d (audit root unread)) (Some (d ++ n ∷ q))
-        ≡ after (items_under (d ++ n ∷ []) (audit root unread)) (Some (d ++ n ∷ q))
-        ++ flat_map (λ m. items_under (d ++ m ∷ []) (audit root unread))
+    ensures at_itself { (further : Further) (root : StorageRoot) (unread : Unread) (d : Place)
+        → after (items_under d (audit further root unread)) (Some d)
+        ≡ flat_map (λ n. items_under (d
+        ++ n ∷ []) (audit further root unread)) (names_below root d) }
+    ensures further_down { (further : Further) (root : StorageRoot) (unread : Unread)
+        (d q : Place) (n : Text)
+        → after (items_under d (audit further root unread)) (Some (d ++ n ∷ q))
+        ≡ after (items_under (d ++ n ∷ []) (audit further root unread)) (Some (d ++ n ∷ q))
+        ++ flat_map (λ m. items_under (d ++ m ∷ []) (audit further root unread))
         (filter (λ m. is_lt (text_cmp n m)) (names_below root d)) }
 {}
 
@@ -94,26 +100,29 @@ pub fn a_name_is_one_step()
 
 /// The walk gives the audit, and resumed at a place what is above it.
 pub fn walk_gives_the_audit()
-    ensures whole { (root : StorageRoot) (unread : Unread) (k : ℕ) → 255 < k
-        → walk k root unread [] ≡ audit root unread }
-    ensures resumed { (root : StorageRoot) (unread : Unread) (k : ℕ) (q : Place) → 255 < k
-        → walk_after k root unread [] q ≡ after (audit root unread) (Some q) }
-    ensures short { (root : StorageRoot) (u : Option ℕ) (p : Place) → notes root u p ≢ []
+    ensures whole { (further : Further) (root : StorageRoot) (unread : Unread) (k : ℕ) → 255 < k
+        → walk further k root unread [] ≡ audit further root unread }
+    ensures resumed { (further : Further) (root : StorageRoot) (unread : Unread) (k : ℕ)
+        (q : Place) → 255 < k
+        → walk_after further k root unread [] q ≡ after (audit further root unread) (Some q) }
+    ensures short { (further : Further) (root : StorageRoot) (u : Option ℕ) (p : Place)
+        → notes further root u p ≢ []
         → length p < 256 }
-    ensures stacked { (root : StorageRoot) (unread : Unread) (q : Place)
-        → left_of (audit root unread) (entered_at root [] q [])
-        ≡ after (audit root unread) (Some q) }
+    ensures stacked { (further : Further) (root : StorageRoot) (unread : Unread) (q : Place)
+        → left_of (audit further root unread) (entered_at root [] q [])
+        ≡ after (audit further root unread) (Some q) }
 {}
 
 /// A step of a walk over a stack of listings and one table.
 pub fn walk_goes_on()
-    ensures takes { (root : StorageRoot) (unread : Unread) (last x : Place)
+    ensures takes { (further : Further) (root : StorageRoot) (unread : Unread) (last x : Place)
         → place_cmp last x ≡ Less
         → NoneSeenBetween root last x → NoPathBetween root last x
-        → after (audit root unread) (Some last)
-        ≡ item_at root unread x ++ after (audit root unread) (Some x) }
-    ensures ends { (root : StorageRoot) (unread : Unread) (last : Place) → NoneSeenAbove root last
-        → NoPathAbove root last → after (audit root unread) (Some last) ≡ [] }
+        → after (audit further root unread) (Some last)
+        ≡ item_at further root unread x ++ after (audit further root unread) (Some x) }
+    ensures ends { (further : Further) (root : StorageRoot) (unread : Unread) (last : Place)
+        → NoneSeenAbove root last
+        → NoPathAbove root last → after (audit further root unread) (Some last) ≡ [] }
     ensures starts { (root : StorageRoot) (q : Place) → IsStack root q (listed_at root [] q []) }
     ensures way { (root : StorageRoot) (q e : Place)
         → IsAmong (map (λ f. f.0) (listed_at root [] q [])) e
@@ -123,34 +132,40 @@ pub fn walk_goes_on()
 /// The walk over a stack of listings and the table of one object gives what is above the place at
 /// which it starts.
 pub fn walk_over_a_stack()
-    ensures first { (root : StorageRoot) (unread : Unread)
-        → audit root unread ≡ item_at root unread [] ++ after (audit root unread) (Some []) }
+    ensures first { (further : Further) (root : StorageRoot) (unread : Unread)
+        → audit further root unread
+        ≡ item_at further root unread [] ++ after (audit further root unread) (Some []) }
     ensures lists { (root : StorageRoot) (k : ℕ) (q : Place)
         → IsBeforeAll place_cmp q (lists k root q (listed_at root [] q []))
         × IsAscending place_cmp (lists k root q (listed_at root [] q [])) }
-    ensures rest { (root : StorageRoot) (unread : Unread) (k : ℕ) (q : Place)
-        → length (candidates root) < k → taken k root unread q (listed_at root [] q [])
-        ≡ after (audit root unread) (Some q) }
+    ensures rest { (further : Further) (root : StorageRoot) (unread : Unread) (k : ℕ) (q : Place)
+        → length (candidates root) < k → taken further k root unread q (listed_at root [] q [])
+        ≡ after (audit further root unread) (Some q) }
 {}
 
 /// Which places have lines does not depend on what could be read, and what could be read changes an
 /// item at its own place alone.
-#[tactic(auto, using(crate::proofs::DueLaws::lines_alike, crate::proofs::DueLaws::items_agree, crate::proofs::DueLaws::audit_by_places, crate::proofs::DueLaws::after_is_due))]
+#[tactic(auto, using(crate::proofs::FurtherLaws::lines_alike, crate::proofs::DueLaws::items_agree, crate::proofs::DueLaws::audit_by_places, crate::proofs::DueLaws::after_is_due))]
 pub fn reading_moves_no_lines()
-    ensures places { (root : StorageRoot) (u v : Option ℕ) (p : Place) → notes root u p ≡ []
-        → notes root v p ≡ [] }
-    ensures items { (root : StorageRoot) (u v : Unread) (p : Place) → given_by u p ≡ given_by v p
-        → items_of_place p (audit root u) ≡ items_of_place p (audit root v) }
-    ensures by_places { (root : StorageRoot) (u : Unread)
-        → audit root u ≡ map (item_of root u) (item_places root) }
-    ensures due { (root : StorageRoot) (trail : List Opening) (last : Option Place)
-        → after (audit root (unread_of root trail)) last ≡ items_at root trail (due root last) }
+    ensures places { (further : Further) (root : StorageRoot) (u v : Option ℕ) (p : Place)
+        → notes further root u p ≡ []
+        → notes further root v p ≡ [] }
+    ensures items { (further : Further) (root : StorageRoot) (u v : Unread) (p : Place)
+        → given_by u p ≡ given_by v p
+        → items_of_place p (audit further root u) ≡ items_of_place p (audit further root v) }
+    ensures by_places { (further : Further) (root : StorageRoot) (u : Unread)
+        → audit further root u ≡ map (item_of further root u) (item_places further root) }
+    ensures due { (further : Further) (root : StorageRoot) (trail : List Opening)
+        (last : Option Place)
+        → after (audit further root (unread_of further root trail)) last
+        ≡ items_at further root trail (due further root last) }
 {}
 
 /// No hashed file is a declaration, an inventory or a sidecar.
-#[tactic(auto, using(crate::proofs::PathLaws::hashed_no_meta))]
+#[tactic(auto, using(crate::proofs::InventoryLaws::hashed_no_meta))]
 pub fn content_is_no_meta()
-    ensures { (root : StorageRoot) (p : Place) → is_hashed root p ≡ true → is_meta root p ≡ false }
+    ensures { (further : Further) (root : StorageRoot) (p : Place)
+        → is_hashed further root p ≡ true → is_meta further root p ≡ false }
 {}
 
 /// The storage root's extensions are what is at and below a directory `extensions` right in it.
@@ -174,25 +189,30 @@ pub fn allowed_names_are_exact()
 /// Metadata is the storage root's declarations, and right in an object's root its declarations, its
 /// inventory and the two sidecars; and nothing else.
 pub fn metadata_is_exact()
-    ensures { (root : StorageRoot) (p : Place) → (is_meta root p ≡ true) ↔ IsMetadata root p }
+    ensures { (further : Further) (root : StorageRoot) (p : Place)
+        → (is_meta further root p ≡ true) ↔ IsMetadata further root p }
 {}
 
 /// An opening of anything but metadata shows its place as content, and an unreadable file if it
 /// failed; one of metadata shows neither. More openings show more, in order.
 pub fn openings_show_content()
-    ensures content { (root : StorageRoot) (o : Opening) → (IsMetadata root o.place → ⊥)
-        → content_trail root (o ∷ []) ≡ o.place ∷ [] }
-    ensures unread { (root : StorageRoot) (o : Opening) → (IsMetadata root o.place → ⊥)
-        → o.failed ≡ true → unread_of root (o ∷ []) ≡ (o.place, o.given) ∷ [] }
-    ensures read { (root : StorageRoot) (o : Opening) → o.failed ≡ false
-        → unread_of root (o ∷ []) ≡ [] }
-    ensures metadata { (root : StorageRoot) (o : Opening) → IsMetadata root o.place
-        → (content_trail root (o ∷ []) ≡ []) × (unread_of root (o ∷ []) ≡ []) }
-    ensures more_content { (root : StorageRoot) (front trail : List Opening)
-        → content_trail root (front ++ trail)
-        ≡ content_trail root front ++ content_trail root trail }
-    ensures more_unread { (root : StorageRoot) (front trail : List Opening)
-        → unread_of root (front ++ trail) ≡ unread_of root front ++ unread_of root trail }
+    ensures content { (further : Further) (root : StorageRoot) (o : Opening)
+        → (IsMetadata further root o.place → ⊥)
+        → content_trail further root (o ∷ []) ≡ o.place ∷ [] }
+    ensures unread { (further : Further) (root : StorageRoot) (o : Opening)
+        → (IsMetadata further root o.place → ⊥)
+        → o.failed ≡ true → unread_of further root (o ∷ []) ≡ (o.place, o.given) ∷ [] }
+    ensures read { (further : Further) (root : StorageRoot) (o : Opening) → o.failed ≡ false
+        → unread_of further root (o ∷ []) ≡ [] }
+    ensures metadata { (further : Further) (root : StorageRoot) (o : Opening)
+        → IsMetadata further root o.place
+        → (content_trail further root (o ∷ []) ≡ []) × (unread_of further root (o ∷ []) ≡ []) }
+    ensures more_content { (further : Further) (root : StorageRoot) (front trail : List Opening)
+        → content_trail further root (front ++ trail)
+        ≡ content_trail further root front ++ content_trail further root trail }
+    ensures more_unread { (further : Further) (root : StorageRoot) (front trail : List Opening)
+        → unread_of further root (front ++ trail)
+        ≡ unread_of further root front ++ unread_of further root trail }
 {}
 
 /// An opening of the inventory of an object shows that object, and no other opening shows one. More
@@ -218,11 +238,11 @@ pub fn first_reading_counts()
 {}
 
 /// Each path that an object's table names has lines.
-#[tactic(auto, using(crate::proofs::PathLaws::path_lines))]
+#[tactic(auto, using(crate::proofs::InventoryLaws::path_lines))]
 pub fn named_paths_have_lines()
-    ensures { (root : StorageRoot) (u : Option ℕ) (p o q : Place) (t : Table)
+    ensures { (further : Further) (root : StorageRoot) (u : Option ℕ) (p o q : Place) (t : Table)
         → zone root p ≡ inside o q
-        → table_at root o ≡ Some t → IsAmong (paths_of t) q → notes root u p ≢ [] }
+        → table_at root o ≡ Some t → IsAmong (paths_of t) q → notes further root u p ≢ [] }
 {}
 
 /// What an audit looks into and reads on the way from one place to another adds up, and is all if
@@ -388,9 +408,9 @@ pub fn parts_are_filters()
         → places_within part places ≡ filter (lies_in part) places }
     ensures unread { (part : Part) (unread : Unread)
         → unread_in part unread ≡ filter (λ e. lies_in part e.0) unread }
-    ensures by_places { (root : StorageRoot) (unread : Unread) (part : Part)
-        → within part (audit root unread)
-        ≡ map (item_of root unread) (places_within part (item_places root)) }
+    ensures by_places { (further : Further) (root : StorageRoot) (unread : Unread) (part : Part)
+        → within part (audit further root unread)
+        ≡ map (item_of further root unread) (places_within part (item_places further root)) }
 {}
 
 /// The whole has all items, and a branch those at its place and below it.
@@ -412,19 +432,22 @@ pub fn each_place_lies_in_one_part()
 /// The items of such parts, joined, are the audit, whether or not items are at the separators. So
 /// are their texts, the files that they hash, and any places in order.
 pub fn parts_join()
-    ensures items { (root : StorageRoot) (unread : Unread) (separators : List Place)
+    ensures items { (further : Further) (root : StorageRoot) (unread : Unread)
+        (separators : List Place)
         → IsAscending place_cmp separators
-        → flat_map (λ part. within part (audit root unread)) (parts_of separators)
-        ≡ audit root unread }
-    ensures texts { (root : StorageRoot) (unread : Unread) (separators : List Place)
+        → flat_map (λ part. within part (audit further root unread)) (parts_of separators)
+        ≡ audit further root unread }
+    ensures texts { (further : Further) (root : StorageRoot) (unread : Unread)
+        (separators : List Place)
         → IsAscending place_cmp separators
-        → flat_map (λ part. text (within part (audit root unread))) (parts_of separators)
-        ≡ text (audit root unread) }
-    ensures hashed { (root : StorageRoot) (separators : List Place)
+        → flat_map (λ part. text (within part (audit further root unread))) (parts_of separators)
+        ≡ text (audit further root unread) }
+    ensures hashed { (further : Further) (root : StorageRoot) (separators : List Place)
         → IsAscending place_cmp separators
-        → flat_map (λ part. hashed_among root (places_within part (item_places root)))
+        → flat_map (λ part. hashed_among further root (places_within part
+        (item_places further root)))
         (parts_of separators)
-        ≡ hashed_among root (item_places root) }
+        ≡ hashed_among further root (item_places further root) }
     ensures places { (separators places : List Place) → IsAscending place_cmp separators
         → IsAscending place_cmp places
         → flat_map (λ part. places_within part places) (parts_of separators) ≡ places }
@@ -433,33 +456,39 @@ pub fn parts_join()
 /// Audits of such parts, each with what it could not read itself, joined, are the audit with what
 /// they could not read together: each set counts in its own part. Texts, costs and files follow.
 pub fn parts_apart_join()
-    ensures items { (root : StorageRoot) (separators : List Place) (parts : List (Part × Unread))
+    ensures items { (further : Further) (root : StorageRoot) (separators : List Place)
+        (parts : List (Part × Unread))
         → IsAscending place_cmp separators → map (λ e. e.0) parts ≡ parts_of separators
-        → audited_apart root parts ≡ audit root (together parts) }
-    ensures texts { (root : StorageRoot) (separators : List Place) (parts : List (Part × Unread))
+        → audited_apart further root parts ≡ audit further root (together parts) }
+    ensures texts { (further : Further) (root : StorageRoot) (separators : List Place)
+        (parts : List (Part × Unread))
         → IsAscending place_cmp separators → map (λ e. e.0) parts ≡ parts_of separators
-        → flat_map (λ e. text (within e.0 (audit root e.1))) parts
-        ≡ text (audit root (together parts)) }
-    ensures costs { (root : StorageRoot) (separators : List Place) (parts : List (Part × Unread))
+        → flat_map (λ e. text (within e.0 (audit further root e.1))) parts
+        ≡ text (audit further root (together parts)) }
+    ensures costs { (further : Further) (root : StorageRoot) (separators : List Place)
+        (parts : List (Part × Unread))
         → IsAscending place_cmp separators → map (λ e. e.0) parts ≡ parts_of separators
-        → sum_of (map (λ e. total_cost (within e.0 (audit root e.1))) parts)
-        ≡ total_cost (audit root (together parts)) }
-    ensures files { (root : StorageRoot) (separators : List Place) (parts : List (Part × Unread))
+        → sum_of (map (λ e. total_cost (within e.0 (audit further root e.1))) parts)
+        ≡ total_cost (audit further root (together parts)) }
+    ensures files { (further : Further) (root : StorageRoot) (separators : List Place)
+        (parts : List (Part × Unread))
         → IsAscending place_cmp separators → map (λ e. e.0) parts ≡ parts_of separators
-        → sum_of (map (λ e. total_files (within e.0 (audit root e.1))) parts)
-        ≡ total_files (audit root (together parts)) }
+        → sum_of (map (λ e. total_files (within e.0 (audit further root e.1))) parts)
+        ≡ total_files (audit further root (together parts)) }
 {}
 
 /// What such parts cost and how many files they have sums to that of the audit.
 pub fn parts_add_up()
-    ensures costs { (root : StorageRoot) (unread : Unread) (separators : List Place)
+    ensures costs { (further : Further) (root : StorageRoot) (unread : Unread)
+        (separators : List Place)
         → IsAscending place_cmp separators
-        → sum_of (costs_of (parts_of separators) (audit root unread))
-        ≡ total_cost (audit root unread) }
-    ensures files { (root : StorageRoot) (unread : Unread) (separators : List Place)
+        → sum_of (costs_of (parts_of separators) (audit further root unread))
+        ≡ total_cost (audit further root unread) }
+    ensures files { (further : Further) (root : StorageRoot) (unread : Unread)
+        (separators : List Place)
         → IsAscending place_cmp separators
-        → sum_of (file_counts (parts_of separators) (audit root unread))
-        ≡ total_files (audit root unread) }
+        → sum_of (file_counts (parts_of separators) (audit further root unread))
+        ≡ total_files (audit further root unread) }
 {}
 
 /// What is above a place in a part is those of the items above it that are in the part.
@@ -485,14 +514,16 @@ pub fn two_separators_enclose_a_branch()
 /// Limits that are each at least a given size take a part in at most one run more than its own cost
 /// by the budget and its own files by their limit.
 pub fn parts_take_few_runs()
-    ensures whole { (root : StorageRoot) (unread : Unread) (part : Part) (b n : ℕ)
+    ensures whole { (further : Further) (root : StorageRoot) (unread : Unread) (part : Part)
+        (b n : ℕ)
         (limits : List Limits) → 1 ≤ b → 1 ≤ n → All (IsAtLeast b n) limits
-        → total_cost (within part (audit root unread)) / b
-        + total_files (within part (audit root unread)) / n + 1 ≤ length limits
-        → joined (runs (within part (audit root unread)) limits) ≡ within part (audit root unread) }
-    ensures few { (root : StorageRoot) (unread : Unread) (part : Part) (b n : ℕ)
+        → total_cost (within part (audit further root unread)) / b
+        + total_files (within part (audit further root unread)) / n + 1 ≤ length limits
+        → joined (runs (within part (audit further root unread)) limits)
+        ≡ within part (audit further root unread) }
+    ensures few { (further : Further) (root : StorageRoot) (unread : Unread) (part : Part) (b n : ℕ)
         (limits : List Limits) → 1 ≤ b → 1 ≤ n → All (IsAtLeast b n) limits
-        → length (runs (within part (audit root unread)) limits)
-        ≤ total_cost (within part (audit root unread)) / b
-        + total_files (within part (audit root unread)) / n + 1 }
+        → length (runs (within part (audit further root unread)) limits)
+        ≤ total_cost (within part (audit further root unread)) / b
+        + total_files (within part (audit further root unread)) / n + 1 }
 {}

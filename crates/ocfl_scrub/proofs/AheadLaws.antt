@@ -15,7 +15,7 @@ use Rattle.ocfl_scrub.proofs.{PartStarts.{entry_beyond}, PassLaws.{among_beyond}
 -- what a part has above a place is not before a directory on the way down to where it begins
 pub way_ahead : (root : StorageRoot) (part : Part) (from : Option Place) (listed : List Place) → IsFront listed (way_of (entry part from)) → AreAhead listed (due_within root part from)
 way_ahead root part from listed front d y i j =
-    let k = among_from_filter (lies_in part) (due root from) y (subst (λ ps. IsAmong ps y) (places_within_is part (due root from)) j) in
+    let k = among_from_filter (lies_in part) (due None root from) y (subst (λ ps. IsAmong ps y) (places_within_is part (due None root from)) j) in
     let far : IsBeyond (entry part from) y = entry_beyond part from y k.1 (among_beyond root from y k.0) in
     not_below d y (way_beyond (entry part from) d y (subst (λ ps. IsAmong ps d) (sym front.1) (among_left listed front.0 d i)) far)
 

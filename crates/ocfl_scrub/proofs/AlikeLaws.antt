@@ -119,11 +119,11 @@ module _ (s t a : Store) (os : List Opening) (ls : List Place) (f : ℕ) (h : Di
   }
 
 module _ (root : StorageRoot) (s t a : Store) (over : a.tree ≡ root) where
-  audits_with : (rest : Option Text) (largest : ℕ) (ps ls hs : List Place) (os : List Opening) (h : Audits root s t ps ls hs os)
-      → Audits root a (done_with s t a os ls (length (unread_of root os)) h.did rest largest) ps ls hs os
+  audits_with : (rest : Option Text) (largest : ℕ) (ps ls hs : List Place) (os : List Opening) (h : Audits None root s t ps ls hs os)
+      → Audits None root a (done_with s t a os ls (length (unread_of None root os)) h.did rest largest) ps ls hs os
   audits_with rest largest ps ls hs os h = record {
     over = over;
-    did = did_there s t a os ls (length (unread_of root os)) h.did rest largest;
+    did = did_there s t a os ls (length (unread_of None root os)) h.did rest largest;
     read = h.read;
     opened = h.opened;
     heads_are = h.heads_are;
@@ -131,18 +131,18 @@ module _ (root : StorageRoot) (s t a : Store) (over : a.tree ≡ root) where
   }
 
   failed_there : (b : Store) (ls : List Place) (os : List Opening) (q : Place) (fs : List Place) → t.failed_listings ≡ s.failed_listings ++ fs → b.failed_listings ≡ a.failed_listings ++ fs
-      → FailedAt root s t ls os q → FailedAt root a b ls os q
+      → FailedAt None root s t ls os q → FailedAt None root a b ls os q
   failed_there b ls os q fs e f (in_listing before is failed read) =
       in_listing before is (f ∙ ap (λ x. a.failed_listings ++ x) (append_cancel_left s.failed_listings fs (q ∷ []) (sym e ∙ failed))) read
   failed_there b ls os q fs e f (in_opening before given is none) =
       in_opening before given is
       (f ∙ ap (λ x. a.failed_listings ++ x) (append_cancel_left s.failed_listings fs [] (sym e ∙ none ∙ sym (append-nil s.failed_listings))) ∙ append-nil a.failed_listings)
 
-  fails_there : (ps ls hs : List Place) (os : List Opening) (failed : Option Place) (h : Fails root s t ps ls hs os failed)
-      → Fails root a (elsewhere s t a os ls (length (unread_of root os) + failures_at failed) h.did) ps ls hs os failed
+  fails_there : (ps ls hs : List Place) (os : List Opening) (failed : Option Place) (h : Fails None root s t ps ls hs os failed)
+      → Fails None root a (elsewhere s t a os ls (length (unread_of None root os) + failures_at failed) h.did) ps ls hs os failed
   fails_there ps ls hs os failed h = record {
     over = over;
-    did = did_there s t a os ls (length (unread_of root os) + failures_at failed) h.did t.rest t.largest;
+    did = did_there s t a os ls (length (unread_of None root os) + failures_at failed) h.did t.rest t.largest;
     opened = h.opened;
     heads_are = h.heads_are;
     near = h.near;
@@ -150,12 +150,12 @@ module _ (root : StorageRoot) (s t a : Store) (over : a.tree ≡ root) where
   }
 
   -- what is so after calls there, is so after calls here
-  audits_alike : (X : Store → Type 0) {ps ls hs : List Place} {os : List Opening} → Audits root s t ps ls hs os → ((b : Store) → Audits root a b ps ls hs os → X b)
+  audits_alike : (X : Store → Type 0) {ps ls hs : List Place} {os : List Opening} → Audits None root s t ps ls hs os → ((b : Store) → Audits None root a b ps ls hs os → X b)
       → (b : Store) × (IsAlike s t a b × X b)
   audits_alike X h then = (elsewhere s t a _ _ _ h.did, (alike_did s t a _ _ _ h.did, then _ (audits_with t.rest t.largest _ _ _ _ h)))
 
-  fails_alike : (X : Store → Type 0) {ps ls hs : List Place} {os : List Opening} {failed : Option Place} → Fails root s t ps ls hs os failed
-      → ((b : Store) → Fails root a b ps ls hs os failed → X b) → (b : Store) × (IsAlike s t a b × X b)
+  fails_alike : (X : Store → Type 0) {ps ls hs : List Place} {os : List Opening} {failed : Option Place} → Fails None root s t ps ls hs os failed
+      → ((b : Store) → Fails None root a b ps ls hs os failed → X b) → (b : Store) × (IsAlike s t a b × X b)
   fails_alike X h then = (elsewhere s t a _ _ _ h.did, (alike_did s t a _ _ _ h.did, then _ (fails_there _ _ _ _ _ h)))
 
   -- ---- a walk

@@ -28,37 +28,37 @@ use Rattle.ocfl_scrub.proofs.{WayListed.{halted_lie, taken_lie}, AuditsJoined.{i
 use Rattle.ocfl_scrub.proofs.TakeLaws.{nothing_of}
 use Rattle.ocfl_scrub.proofs.TakeLaws.{fault_other}
 
-pub due_all : (root : StorageRoot) → due root None ≡ item_places root
+pub due_all : (root : StorageRoot) → due None root None ≡ item_places None root
 unfolding due
 due_all root = refl
 
-pub places_of_items : (root : StorageRoot) (os : List Opening) (ps : List Place) → places (items_at root os ps) ≡ ps
+pub places_of_items : (root : StorageRoot) (os : List Opening) (ps : List Place) → places (items_at None root os ps) ≡ ps
 unfolding items_at
 places_of_items root os [] = refl
 places_of_items root os (p ∷ ps) = ap (λ qs. p ∷ qs) (places_of_items root os ps)
 
-pub take_items : (root : StorageRoot) (os : List Opening) (n : ℕ) (ps : List Place) → take n (items_at root os ps) ≡ items_at root os (take n ps)
+pub take_items : (root : StorageRoot) (os : List Opening) (n : ℕ) (ps : List Place) → take n (items_at None root os ps) ≡ items_at None root os (take n ps)
 unfolding items_at
 take_items root os zero [] = refl
 take_items root os zero (p ∷ ps) = refl
 take_items root os (suc n) [] = refl
-take_items root os (suc n) (p ∷ ps) = ap (λ is. item_of root (unread_of root os) p ∷ is) (take_items root os n ps)
+take_items root os (suc n) (p ∷ ps) = ap (λ is. item_of None root (unread_of None root os) p ∷ is) (take_items root os n ps)
 
 -- ---- after a walk that went down to where the pass over a part begins
 
 module _ (root : StorageRoot) (part : Part) (s t : Store) (from : Option Place) (g : GoesDown root s t (entry part from)) where
   -- what was read on the way down has no part in the items
-  walked : (os : List Opening) (ps : List Place) → items_at root (g.trail ++ os) ps ≡ items_at root os ps
+  walked : (os : List Opening) (ps : List Place) → items_at None root (g.trail ++ os) ps ≡ items_at None root os ps
   unfolding items_at
-  walked os ps = ap (λ v. map (item_of root v) ps) (unread_behind root g.trail os (g.audits.opened ∙ none_hashed root))
+  walked os ps = ap (λ v. map (item_of None root v) ps) (unread_behind None root g.trail os (g.audits.opened ∙ none_hashed root))
 
   -- the items of the part are those of what is due before the end
-  pub above_at : (os : List Opening) → items_in root (g.trail ++ os) part from ≡ items_at root os (due_in root (end_of part) (stand root part from))
-  above_at os = above_in root part from (g.trail ++ os) ∙ ap (items_at root (g.trail ++ os)) (sym (due_starts root part from)) ∙ walked os (due_in root (end_of part) (stand root part from))
+  pub above_at : (os : List Opening) → items_in root (g.trail ++ os) part from ≡ items_at None root os (due_in root (end_of part) (stand root part from))
+  above_at os = above_in root part from (g.trail ++ os) ∙ ap (items_at None root (g.trail ++ os)) (sym (due_starts root part from)) ∙ walked os (due_in root (end_of part) (stand root part from))
 
   pub above_are : (os : List Opening) (done later : List Place) → due_in root (end_of part) (stand root part from) ≡ done ++ later
-      → items_in root (g.trail ++ os) part from ≡ items_at root os done ++ items_at root os later
-  above_are os done later due_are = above_at os ∙ ap (items_at root os) due_are ∙ items_append root os done later
+      → items_in root (g.trail ++ os) part from ≡ items_at None root os done ++ items_at None root os later
+  above_are os done later due_are = above_at os ∙ ap (items_at None root os) due_are ∙ items_append root os done later
 
 -- ---- a pass over all items of a part
 
@@ -67,9 +67,9 @@ module _ (root : StorageRoot) (part : Part) (s t u : Store) (old new : Option (L
       → last ≡ last_or None (due_in root (end_of part) (stand root part None)) → AuditsWithin (call_of root s u old new) part last finding
   finish_part h last_is =
       let all : List Place = due_in root (end_of part) (stand root part None) in
-      let items : items_at root h.trail all ≡ items_in root (g.trail ++ h.trail) part None = sym (above_at root part s t None g h.trail) in
+      let items : items_at None root h.trail all ≡ items_in root (g.trail ++ h.trail) part None = sym (above_at root part s t None g h.trail) in
       let at_places : all ≡ places (items_in root (g.trail ++ h.trail) part None) = sym (places_of_items root h.trail all) ∙ ap places items in
-      let below : Audits root t u all (looked_in root part None None) (read_in root part None None) h.trail = audits_as (looked_all root part None) (read_all root part None) h.audits in
+      let below : Audits None root t u all (looked_in root part None None) (read_in root part None None) h.trail = audits_as (looked_all root part None) (read_all root part None) h.audits in
       record {
         trail = g.trail ++ h.trail;
         looks = subst (λ ps. LooksOver (call_of root s u old new) part None None ps (g.trail ++ h.trail)) at_places (looks_over root part s t u old new None g None all h.trail
@@ -83,15 +83,15 @@ module _ (root : StorageRoot) (part : Part) (s t u : Store) (old new : Option (L
       → AuditStopsWithin (call_of root s u old new) part last finding why
   halt_part why h last_is =
       let left : List Place = due_in root (end_of part) stood in
-      let next : items_at root h.trail (take 1 left) ≡ take 1 (items_at root h.trail left) = sym (take_items root h.trail 1 left) in
-      let whole_places : h.done ≡ places (items_at root h.trail h.done) = sym (places_of_items root h.trail h.done) in
+      let next : items_at None root h.trail (take 1 left) ≡ take 1 (items_at None root h.trail left) = sym (take_items root h.trail 1 left) in
+      let whole_places : h.done ≡ places (items_at None root h.trail h.done) = sym (places_of_items root h.trail h.done) in
       let listed_front = subst (IsFront h.listed) (looked_all root part None) h.listed_front in
       let heads_front = subst (IsFront h.heads) (read_all root part None) h.heads_front in
       record {
         trail = g.trail ++ h.trail;
         stops = record {
-          whole = items_at root h.trail h.done;
-          others = items_at root h.trail left;
+          whole = items_at None root h.trail h.done;
+          others = items_at None root h.trail left;
           items_are = above_are root part s t None g h.trail h.done left h.due_are;
           begun = h.begun;
           one = subst (IsFront h.begun) (sym (places_of_items root h.trail (take 1 left)) ∙ ap places next) h.one;
@@ -132,8 +132,8 @@ unstarted root part s t old why g = record {
 
 -- ---- the whole is one part
 
-pub all_places : (root : StorageRoot) (os : List Opening) → places (items_in root os whole None) ≡ item_places root
-all_places root os = ap places (after_is_due root os None) ∙ places_of_items root os (due root None) ∙ due_all root
+pub all_places : (root : StorageRoot) (os : List Opening) → places (items_in root os whole None) ≡ item_places None root
+all_places root os = ap places (after_is_due None root os None) ∙ places_of_items root os (due None root None) ∙ due_all root
 
 -- ---- if no failure was counted
 
@@ -144,13 +144,13 @@ none_left (x ∷ xs) n e = absurd (omega (arith, e))
 -- what was written is the text of the audit of files that can all be read
 pub nothing_unread : (root : StorageRoot) (part : Part) (s t : Store) (old new : Option (List ℕ)) (last : Option Place) (finding : Bool) (end : AuditStatus)
     → AuditEndsWithin (call_of root s t old new) part last finding end → end ≡ Ended
-    → t.failures ≡ s.failures → Appends old new (text (within part (audit root []))) × (finding ≡ found (within part (audit root [])))
+    → t.failures ≡ s.failures → Appends old new (text (within part (audit None root []))) × (finding ≡ found (within part (audit None root [])))
 nothing_unread root part s t old new last finding Ended h e same =
-    let none : unread_of root h.trail ≡ [] = none_left (unread_of root h.trail) s.failures (sym same ∙ h.looks.audits.did.failures_are) in
-    (subst (λ u. Appends old new (text (within part (audit root u)))) none h.wrote, h.found_is ∙ ap (λ u. found (within part (audit root u))) none)
+    let none : unread_of None root h.trail ≡ [] = none_left (unread_of None root h.trail) s.failures (sym same ∙ h.looks.audits.did.failures_are) in
+    (subst (λ u. Appends old new (text (within part (audit None root u)))) none h.wrote, h.found_is ∙ ap (λ u. found (within part (audit None root u))) none)
 nothing_unread root part s t old new last finding (Stopped why) h e same = absurd cc
 
 pub whole_unread : (root : StorageRoot) (part : Part) (old new : Option (List ℕ)) (finding : Bool) → part ≡ whole
-    → Appends old new (text (within part (audit root []))) × (finding ≡ found (within part (audit root [])))
-    → Appends old new (text (audit root [])) × (finding ≡ found (audit root []))
-whole_unread root part old new finding e h = subst (λ p. Appends old new (text (within p (audit root []))) × (finding ≡ found (within p (audit root [])))) e h
+    → Appends old new (text (within part (audit None root []))) × (finding ≡ found (within part (audit None root [])))
+    → Appends old new (text (audit None root [])) × (finding ≡ found (audit None root []))
+whole_unread root part old new finding e h = subst (λ p. Appends old new (text (within p (audit None root []))) × (finding ≡ found (within p (audit None root [])))) e h

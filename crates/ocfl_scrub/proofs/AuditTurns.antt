@@ -57,7 +57,7 @@ module _ {root : StorageRoot} {s t : Store} {old mid : Option (List ℕ)} {walk 
       item = gives_item root (end_of part) t u walk next h.stood _ _ gave (passes_over h.passes) h.stands is before
 
       pub audit_took : (place : Place) (cost : ℕ) (more either : Bool) → place ≡ q.place → either ≡ (finding || more)
-          → (u.tree ≡ root → IsPending root q → Takes (call_of root u v mid new) q.place cost more)
+          → (u.tree ≡ root → IsPending None root q → Takes (call_of root u v mid new) q.place cost more)
           → HasTaken root part s v old new next (Some place) either
       unfolding passes_took
       audit_took place cost more either e f takes = subst (λ p. HasTaken root part s v old new next (Some p) either) (sym e) (record {
@@ -71,7 +71,7 @@ module _ {root : StorageRoot} {s t : Store} {old mid : Option (List ℕ)} {walk 
         last_is = sym (last_append None h.passes.done q.place);
       })
 
-      pub audit_missed : (why : ReportStop) → (u.tree ≡ root → IsPending root q → Misses (call_of root u v mid new) q.place why) → AuditStopsWithin (call_of root s v old new) part last finding why
+      pub audit_missed : (why : ReportStop) → (u.tree ≡ root → IsPending None root q → Misses (call_of root u v mid new) q.place why) → AuditStopsWithin (call_of root s v old new) part last finding why
       unfolding passes_missed
       audit_missed why misses = halt_part root part s h.begun v old new h.stood last finding h.down why
           (passes_missed root (end_of part) h.begun t u old mid (stand root part None) h.stood finding h.beyond h.passes q.place item.above item.gives.3

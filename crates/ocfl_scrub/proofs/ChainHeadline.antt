@@ -71,7 +71,7 @@ module _ (root : StorageRoot) (part : Part) where
 
   -- what the part has above a place
   abbrev above : Option Place → List Item
-  above from = after (within part (audit root [])) from
+  above from = after (within part (audit None root [])) from
 
   record Step (k : Call) (from : Option Place) (l : Limits) (next last : Option Place) : Type 0 where
     below : StartsBelow l k (cut (above from) l)
@@ -81,17 +81,17 @@ module _ (root : StorageRoot) (part : Part) where
   step : (s t : Store) (old new : Option (List ℕ)) (from last : Option Place) (l : Limits) (spent files : ℕ) (finding : Bool) (next : Option Place)
       → RunsWithin (call_of root s t old new) part from last l spent files finding next → t.failures ≡ s.failures → Step (call_of root s t old new) from l next last
   step s t old new from last l spent files finding next h same =
-      let none : unread_of root h.trail ≡ [] = none_left (unread_of root h.trail) s.failures (sym same ∙ h.looks.audits.did.failures_are) in
-      let last_is : last ≡ last_or from (places (cut (above from) l)) = h.last_is ∙ ap (λ u. last_or from (places (cut (after (within part (audit root u)) from) l))) none in
+      let none : unread_of None root h.trail ≡ [] = none_left (unread_of None root h.trail) s.failures (sym same ∙ h.looks.audits.did.failures_are) in
+      let last_is : last ≡ last_or from (places (cut (above from) l)) = h.last_is ∙ ap (λ u. last_or from (places (cut (after (within part (audit None root u)) from) l))) none in
       record {
         below = record {
-          wrote = subst (λ u. Appends old new (text (cut (after (within part (audit root u)) from) l))) none h.wrote;
+          wrote = subst (λ u. Appends old new (text (cut (after (within part (audit None root u)) from) l))) none h.wrote;
           trail = h.trail;
           opened = h.looks.audits.did.openings_are;
-          files = h.looks.audits.opened ∙ ap (λ u. hashed_among root (places (cut (after (within part (audit root u)) from) l))) none;
+          files = h.looks.audits.opened ∙ ap (λ u. hashed_among None root (places (cut (after (within part (audit None root u)) from) l))) none;
           below = stays_within l (cut (above from) l) (cut_paid l (above from));
         };
-        next_is = h.next_is ∙ ap (λ u. slice_get (places (left (after (within part (audit root u)) from) l)) 0) none;
+        next_is = h.next_is ∙ ap (λ u. slice_get (places (left (after (within part (audit None root u)) from) l)) 0) none;
         goes_on = ap above last_is ∙ after_front root [] part from (cut (above from) l) (left (above from) l) (sym (cut_and_left (above from) l));
       }
 
@@ -165,8 +165,8 @@ module _ (call : Call) (part : Part) (limits : List Limits) (ran : CycleEnd) (h 
   a = apart call part limits ran h
 
   each_below : (last_end a.runs ≡ run.Ended) ⊎ ((last_end a.runs ≡ run.Spent) × (a.unused ≡ []))
-      → EachStartsBelow limits (calls_of a.runs) (runs (within part (audit call.root [])) limits)
-  each_below ends = subst (λ ls. EachStartsBelow ls (calls_of a.runs) (runs (within part (audit call.root [])) ls)) (sym a.limits_are)
+      → EachStartsBelow limits (calls_of a.runs) (runs (within part (audit None call.root [])) limits)
+  each_below ends = subst (λ ls. EachStartsBelow ls (calls_of a.runs) (runs (within part (audit None call.root [])) ls)) (sym a.limits_are)
       (starts call.root part a.runs a.unused new_cursor call.before call.after call.old call.new a.chained a.made_of a.spent ends same)
 
   by_end : (end : CycleStatus) → CyclesToWithin call part limits ran.cursor ran.found end → LastEnds a.runs a.unused end → HeadlineOfPart call part limits ran.runs end

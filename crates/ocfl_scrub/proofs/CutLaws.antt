@@ -5,7 +5,9 @@ use Rattle.std.specs.Prelude.{if◌then◌else◌, cond, ◌==◌, ◌||◌, ◌
 use Rattle.ocfl_tree.specs.{Place.{Place}, StorageRoot.{StorageRoot, Leaf, file, dir, other}}
 use Rattle.ocfl_report.specs.Line.{Item}
 use Rattle.ocfl_inventory.specs.Table.{Named}
-use Rattle.ocfl_rules.specs.{Zone.{seen}, Lines.{named_at, cost_of, cost, is_hashed}}
+use Rattle.ocfl_rules.specs.Zone.{seen}
+use Rattle.ocfl_rules.specs.Lines.{named_at, cost_of}
+use Rattle.ocfl_rules.specs.Inventories.{cost, is_hashed}
 use Rattle.ocfl_rules.specs.Audit.{total_cost}
 use Rattle.ocfl_rules.specs.Runs.{Limits, files_of, total_files, may_take, cut_len, cut, left}
 pub use Rattle.ocfl_rules.proofs.RunLaws.{cut_and_left, taken_test}
@@ -107,14 +109,14 @@ cost_is (n ∷ ns) (Some g) (Some dir) = refl
 cost_is (n ∷ ns) (Some g) (Some other) = refl
 
 -- a hashed item costs something, whatever could be read, and another nothing
-cost_read_or_not : (root : StorageRoot) (u : Option ℕ) (p : Place) → is_hashed root p ≡ nat_lt 0 (cost root u p)
+cost_read_or_not : (root : StorageRoot) (u : Option ℕ) (p : Place) → is_hashed None root p ≡ nat_lt 0 (cost None root u p)
 cost_read_or_not root u p = cost_is (named_at root p) u (seen root p)
 
-pub hashed_costs : (root : StorageRoot) (u : Option ℕ) (p : Place) → is_hashed root p ≡ true → 0 < cost root u p
-hashed_costs root u p h = ltb-true 0 (cost root u p) (sym (cost_read_or_not root u p) ∙ h)
+pub hashed_costs : (root : StorageRoot) (u : Option ℕ) (p : Place) → is_hashed None root p ≡ true → 0 < cost None root u p
+hashed_costs root u p h = ltb-true 0 (cost None root u p) (sym (cost_read_or_not root u p) ∙ h)
 
-pub free_costs : (root : StorageRoot) (u : Option ℕ) (p : Place) → is_hashed root p ≡ false → cost root u p ≡ 0
-free_costs root u p h = let l : cost root u p ≤ 0 = ltb-false 0 (cost root u p) (sym (cost_read_or_not root u p) ∙ h) in omega (arith, l)
+pub free_costs : (root : StorageRoot) (u : Option ℕ) (p : Place) → is_hashed None root p ≡ false → cost None root u p ≡ 0
+free_costs root u p h = let l : cost None root u p ≤ 0 = ltb-false 0 (cost None root u p) (sym (cost_read_or_not root u p) ∙ h) in omega (arith, l)
 
 -- ---- by how much what was spent passes the budget
 

@@ -192,26 +192,26 @@ module _ (root : StorageRoot) (part : Part) where
   -- and none of those that are due
   due_not_taken : (last : Option Place) (p : Place) → IsAmong (due_within root part last) p → is_taken (state_at last) p ≡ false
   due_not_taken None p i = refl
-  due_not_taken (Some q) p i = ap not (less_true (place_cmp q p) (beyond (among_from_within (due root (Some q)) i)))
+  due_not_taken (Some q) p i = ap not (less_true (place_cmp q p) (beyond (among_from_within (due None root (Some q)) i)))
     where
       among_from_within : (ps : List Place) → IsAmong (places_within part ps) p → IsAmong ps p
       among_from_within ps j = (among_from_filter (lies_in part) ps p (subst (λ zs. IsAmong zs p) (places_within_is part ps) j)).0
 
-      beyond : IsAmong (due root (Some q)) p → place_cmp q p ≡ Less
+      beyond : IsAmong (due None root (Some q)) p → place_cmp q p ≡ Less
       beyond j = among_beyond root (Some q) p j
 
   -- ---- the audit of a part above a place, by its places
 
-  after_by : (unread : Unread) (last : Option Place) → after (audit root unread) last ≡ map (item_of root unread) (due root last)
+  after_by : (unread : Unread) (last : Option Place) → after (audit None root unread) last ≡ map (item_of None root unread) (due None root last)
   unfolding due
-  after_by unread None = audit_by_places root unread
+  after_by unread None = audit_by_places None root unread
   after_by unread (Some p) =
-      ap (λ is. after is (Some p)) (audit_by_places root unread) ∙ map_filter (λ i. is_lt (place_cmp p i.place)) (item_of root unread) (item_places root)
+      ap (λ is. after is (Some p)) (audit_by_places None root unread) ∙ map_filter (λ i. is_lt (place_cmp p i.place)) (item_of None root unread) (item_places None root)
 
-  above_by : (unread : Unread) (last : Option Place) → after (within part (audit root unread)) last ≡ map (item_of root unread) (due_within root part last)
+  above_by : (unread : Unread) (last : Option Place) → after (within part (audit None root unread)) last ≡ map (item_of None root unread) (due_within root part last)
   above_by unread last =
-      part_goes_on part last (audit root unread) ∙ ap (within part) (after_by unread last) ∙ within_is part (map (item_of root unread) (due root last))
-      ∙ map_filter (λ i. lies_in part i.place) (item_of root unread) (due root last) ∙ ap (map (item_of root unread)) (sym (places_within_is part (due root last)))
+      part_goes_on part last (audit None root unread) ∙ ap (within part) (after_by unread last) ∙ within_is part (map (item_of None root unread) (due None root last))
+      ∙ map_filter (λ i. lies_in part i.place) (item_of None root unread) (due None root last) ∙ ap (map (item_of None root unread)) (sym (places_within_is part (due None root last)))
 
   -- ---- one run
 
@@ -220,21 +220,21 @@ module _ (root : StorageRoot) (part : Part) where
     done : List Place
     last : Option Place
     due_are : due_within root part (place_in c.state) ≡ done ++ due_within root part last
-    report : r.report ≡ text (map (item_of root (unread_of root r.opened)) done)
+    report : r.report ≡ text (map (item_of None root (unread_of None root r.opened)) done)
     taken : (p : Place) → IsAmong done p → is_taken r.ran.cursor.state p ≡ true
-    among : (p : Place) → is_taken r.ran.cursor.state p ≡ true → IsAmong (unread_places (unread_of root r.opened)) p → IsAmong done p
+    among : (p : Place) → is_taken r.ran.cursor.state p ≡ true → IsAmong (unread_places (unread_of None root r.opened)) p → IsAmong done p
     ends : (r.ran.cursor.state ≡ state_at last) ⊎ ((r.ran.cursor.state ≡ ended) × (due_within root part last ≡ []))
     goes_on : r.ran.end ≢ status.Ended → place_in r.ran.cursor.state ≡ last
-    spends : r.ran.end ≡ status.Spent → (r.limits.budget ≤ total_cost (map (item_of root (unread_of root r.opened)) done))
-        ⊎ (r.limits.files ≤ total_files (map (item_of root (unread_of root r.opened)) done))
+    spends : r.ran.end ≡ status.Spent → (r.limits.budget ≤ total_cost (map (item_of None root (unread_of None root r.opened)) done))
+        ⊎ (r.limits.files ≤ total_files (map (item_of None root (unread_of None root r.opened)) done))
 
-  items_are : (os : List Opening) (ps : List Place) → items_at root os ps ≡ map (item_of root (unread_of root os)) ps
+  items_are : (os : List Opening) (ps : List Place) → items_at None root os ps ≡ map (item_of None root (unread_of None root os)) ps
   unfolding items_at
   items_are os ps = refl
 
   -- of its openings of content, those at places that it audited
-  opened_there : (os : List Opening) (ps : List Place) (p : Place) → content_trail root os ≡ hashed_among root ps → IsAmong (unread_places (unread_of root os)) p → IsAmong ps p
-  opened_there os ps p e i = hashed_are_among root ps p (subst (λ qs. IsAmong qs p) e (failed_among (content_openings root os) p i))
+  opened_there : (os : List Opening) (ps : List Place) (p : Place) → content_trail None root os ≡ hashed_among None root ps → IsAmong (unread_places (unread_of None root os)) p → IsAmong ps p
+  opened_there os ps p e i = hashed_are_among root ps p (subst (λ qs. IsAmong qs p) e (failed_among (content_openings None root os) p i))
 
   module _ (c : Cursor) (r : PartRun) (w : Ran root part c r) where
     abbrev from : Option Place
@@ -264,8 +264,8 @@ module _ (root : StorageRoot) (part : Part) where
       up : IsAscending place_cmp done
       up = ascends_left place_cmp done (due_within root part last) (subst (IsAscending place_cmp) due_parts_are (due_within_ascends root part from))
 
-      out_is : out ≡ map (item_of root (unread_of root r.opened)) done
-      out_is = sym (front_is root part os from out rest split) ∙ items_are os done ∙ ap (λ t. map (item_of root (unread_of root t)) done) same
+      out_is : out ≡ map (item_of None root (unread_of None root r.opened)) done
+      out_is = sym (front_is root part os from out rest split) ∙ items_are os done ∙ ap (λ t. map (item_of None root (unread_of None root t)) done) same
 
       taken_before : (p : Place) → IsAmong done p → is_taken (state_at last) p ≡ true
       taken_before p i = subst (λ l. is_taken (state_at l) p ≡ true) (sym last_is) (taken_to_last from done p up i)
@@ -283,14 +283,14 @@ module _ (root : StorageRoot) (part : Part) where
         let split = cut_split h.trail in
         let state : r.ran.cursor.state ≡ ended = state_is status.Ended e in
         let none : due_within root part last ≡ [] = sym (places_of_items root h.trail (due_within root part last))
-        ∙ ap (λ l. places (items_at root h.trail (due_within root part l))) h.last_is ∙ ap places (rest_is root part h.trail from out rest split) ∙ ap places (no_first rest h.next_is) in
+        ∙ ap (λ l. places (items_at None root h.trail (due_within root part l))) h.last_is ∙ ap places (rest_is root part h.trail from out rest split) ∙ ap places (no_first rest h.next_is) in
         record {
           done = places out;
           last = last;
           due_are = due_parts_are h.trail out rest split h.last_is same;
           report = report ∙ ap text (out_is h.trail out rest split h.last_is same);
           taken = λ p i. ap (λ s. is_taken s p) state;
-          among = λ p t i. opened_there r.opened (places out) p (subst (λ os. content_trail root os ≡ hashed_among root (places out)) same h.looks.audits.opened) i;
+          among = λ p t i. opened_there r.opened (places out) p (subst (λ os. content_trail None root os ≡ hashed_among None root (places out)) same h.looks.audits.opened) i;
           ends = inr (state, none);
           goes_on = λ f. absurd (f e);
           spends = λ f. absurd (ended_spent (sym e ∙ f));
@@ -310,7 +310,7 @@ module _ (root : StorageRoot) (part : Part) where
           due_are = due_parts_are h.trail out rest split h.last_is same;
           report = report ∙ ap text (out_is h.trail out rest split h.last_is same);
           taken = λ p i. ap (λ s. is_taken s p) state ∙ taken_before h.trail out rest split h.last_is same p i;
-          among = λ p t i. opened_there r.opened (places out) p (subst (λ os. content_trail root os ≡ hashed_among root (places out)) same h.looks.audits.opened) i;
+          among = λ p t i. opened_there r.opened (places out) p (subst (λ os. content_trail None root os ≡ hashed_among None root (places out)) same h.looks.audits.opened) i;
           ends = inl state;
           goes_on = λ f. ap place_in state ∙ place_there last;
           spends = λ f. subst (λ is. (r.limits.budget ≤ total_cost is) ⊎ (r.limits.files ≤ total_files is)) (out_is h.trail out rest split h.last_is same)
@@ -353,7 +353,7 @@ module _ (root : StorageRoot) (part : Part) where
             taken = λ p i. ap (λ s. is_taken s p) state ∙ taken_before h.trail k.whole unwritten stop_split k.last_is same p i;
             among = λ p t i. not_begun (places k.whole) k.begun unbegun p due_next (sym (ap (λ s. is_taken s p) state) ∙ t)
                 (among_either (places k.whole) k.begun p (opened_there r.opened (places k.whole ++ k.begun) p
-                (subst (λ os. content_trail root os ≡ hashed_among root (places k.whole ++ k.begun)) same h.looks.fails.opened) i));
+                (subst (λ os. content_trail None root os ≡ hashed_among None root (places k.whole ++ k.begun)) same h.looks.fails.opened) i));
             ends = inl state;
             goes_on = λ f. ap place_in state ∙ place_there last;
             spends = λ f. absurd (spent_stopped why (sym f ∙ e));
@@ -376,11 +376,11 @@ module _ (root : StorageRoot) (part : Part) where
 
     -- each content file that it opened was due
     abbrev AreDue : Type 0
-    AreDue = (p : Place) → IsAmong (content_trail root r.opened) p → IsAmong (due_within root part from) p
+    AreDue = (p : Place) → IsAmong (content_trail None root r.opened) p → IsAmong (due_within root part from) p
 
-    due_there : (os : List Opening) (ps rest : List Place) → due_within root part from ≡ ps ++ rest → os ≡ r.opened → content_trail root os ≡ hashed_among root ps → AreDue
+    due_there : (os : List Opening) (ps rest : List Place) → due_within root part from ≡ ps ++ rest → os ≡ r.opened → content_trail None root os ≡ hashed_among None root ps → AreDue
     due_there os ps rest split same opened p i =
-        let there = subst (λ qs. IsAmong qs p) (ap (content_trail root) (sym same) ∙ opened) i in
+        let there = subst (λ qs. IsAmong qs p) (ap (content_trail None root) (sym same) ∙ opened) i in
         subst (λ qs. IsAmong qs p) (sym split) (among_left ps rest p (hashed_are_among root ps p there))
 
     pub opens_due : AreDue
@@ -407,7 +407,7 @@ module _ (root : StorageRoot) (part : Part) where
         by status.Worn run = absurd run
 
     -- so nothing that its cursor had taken is opened again
-    pub opens_beyond : (p : Place) → IsAmong (content_trail root r.opened) p → is_taken (begun c).state p ≡ false
+    pub opens_beyond : (p : Place) → IsAmong (content_trail None root r.opened) p → is_taken (begun c).state p ≡ false
     opens_beyond p i = by c.state refl (due_not_taken from p (opens_due p i))
       where
         by : (s : State) → c.state ≡ s → is_taken (state_at (place_in s)) p ≡ false → is_taken (begun_in c s).state p ≡ false
@@ -421,15 +421,15 @@ module _ (root : StorageRoot) (part : Part) where
     done : List Place
     last : Option Place
     due_are : due_within root part (place_in c.state) ≡ done ++ due_within root part last
-    reports : reports_of runs ≡ text (map (item_of root (unread_together root runs)) done)
+    reports : reports_of runs ≡ text (map (item_of None root (unread_together root runs)) done)
     among : (p : Place) → IsAmong (unread_places (unread_together root runs)) p → IsAmong done p
     ends : ((cursor_after c runs).state ≡ state_at last) ⊎ (((cursor_after c runs).state ≡ ended) × (due_within root part last ≡ []))
-    counts : (b n : ℕ) → 1 ≤ b → 1 ≤ n → All (IsAtLeast b n) (map (λ r. r.limits) runs) → Counted b n runs (map (item_of root (unread_together root runs)) done)
+    counts : (b n : ℕ) → 1 ≤ b → 1 ≤ n → All (IsAtLeast b n) (map (λ r. r.limits) runs) → Counted b n runs (map (item_of None root (unread_together root runs)) done)
 
   -- a run that did not end the cycle, and those that follow
   module _ (c : Cursor) (r : PartRun) (k : Takes c r) where
     abbrev unread : Unread
-    unread = unread_of root r.opened
+    unread = unread_of None root r.opened
 
     abbrev own : Unread
     own = unread_by root r
@@ -438,20 +438,20 @@ module _ (root : StorageRoot) (part : Part) where
     own_among p i = let m = kept_among (is_taken r.ran.cursor.state) p unread i in k.among p m.1 m.0
 
     -- what is after its cursor is not among its items
-    own_items : map (item_of root own) k.done ≡ map (item_of root unread) k.done
+    own_items : map (item_of None root own) k.done ≡ map (item_of None root unread) k.done
     own_items = items_agree root own unread k.done (agree_all own unread k.done (λ p i. given_kept (is_taken r.ran.cursor.state) p unread (k.taken p i)))
 
     module _ (later : Unread) (next : List Place) (up : IsAscending place_cmp (k.done ++ next)) (later_among : (p : Place) → IsAmong (unread_places later) p → IsAmong next p) where
-      first_items : map (item_of root (own ++ later)) k.done ≡ map (item_of root own) k.done
+      first_items : map (item_of None root (own ++ later)) k.done ≡ map (item_of None root own) k.done
       first_items = items_agree root (own ++ later) own k.done
           (agree_all (own ++ later) own k.done (λ p i. given_left p own later (given_none p later (λ j. not_after k.done next p up i (later_among p j)))))
 
-      next_items : map (item_of root (own ++ later)) next ≡ map (item_of root later) next
+      next_items : map (item_of None root (own ++ later)) next ≡ map (item_of None root later) next
       next_items = items_agree root (own ++ later) later next (agree_all (own ++ later) later next (λ p i. given_right p own later (λ j. not_after k.done next p up (own_among p j) i)))
 
-      both_items : map (item_of root (own ++ later)) (k.done ++ next) ≡ map (item_of root unread) k.done ++ map (item_of root later) next
-      both_items = map-append (item_of root (own ++ later)) k.done next ∙ ap (λ is. is ++ map (item_of root (own ++ later)) next) (first_items ∙ own_items)
-          ∙ ap (λ is. map (item_of root unread) k.done ++ is) next_items
+      both_items : map (item_of None root (own ++ later)) (k.done ++ next) ≡ map (item_of None root unread) k.done ++ map (item_of None root later) next
+      both_items = map-append (item_of None root (own ++ later)) k.done next ∙ ap (λ is. is ++ map (item_of None root (own ++ later)) next) (first_items ∙ own_items)
+          ∙ ap (λ is. map (item_of None root unread) k.done ++ is) next_items
 
       both_among : (p : Place) → IsAmong (unread_places (own ++ later)) p → IsAmong (k.done ++ next) p
       both_among p i = by (among_either (unread_places own) (unread_places later) p (subst (λ ps. IsAmong ps p) (map-append (λ (e : Place × ℕ). e.0) own later) i))
@@ -461,22 +461,22 @@ module _ (root : StorageRoot) (part : Part) where
           by (inr j) = among_right k.done next p (later_among p j)
 
   counted_run : (c : Cursor) (r : PartRun) (w : Ran root part c r) (k : Takes c r) (rest : List PartRun) (ys : List Item) (b n : ℕ) → IsAtLeast b n r.limits
-      → r.ran.end ≢ status.Ended → Counted b n rest ys → Counted b n (r ∷ rest) (map (item_of root (unread_of root r.opened)) k.done ++ ys)
+      → r.ran.end ≢ status.Ended → Counted b n rest ys → Counted b n (r ∷ rest) (map (item_of None root (unread_of None root r.opened)) k.done ++ ys)
   counted_run c r w k rest ys b n large going m = by r.ran.end refl w.runs.run
     where
       by : (end : RunStatus) → r.ran.end ≡ end
           → RunEndsWithin (known_call root w.before w.behind w.old (w.old ++ (r.report ++ w.cut))) part (place_in c.state) w.runs.last r.limits r.ran.spent r.ran.files r.ran.found end
-          → Counted b n (r ∷ rest) (map (item_of root (unread_of root r.opened)) k.done ++ ys)
+          → Counted b n (r ∷ rest) (map (item_of None root (unread_of None root r.opened)) k.done ++ ys)
       by status.Ended e run = absurd (going e)
-      by status.Spent e run = counted_spent b n r rest (map (item_of root (unread_of root r.opened)) k.done) ys large m e (k.spends e)
-      by (status.Stopped why) e run = counted_stopped b n r rest (map (item_of root (unread_of root r.opened)) k.done) ys large m why e
+      by status.Spent e run = counted_spent b n r rest (map (item_of None root (unread_of None root r.opened)) k.done) ys large m e (k.spends e)
+      by (status.Stopped why) e run = counted_stopped b n r rest (map (item_of None root (unread_of None root r.opened)) k.done) ys large m why e
       by status.Worn e run = absurd run
 
-  counted_last : (c : Cursor) (r : PartRun) (w : Ran root part c r) (k : Takes c r) (b n : ℕ) → IsAtLeast b n r.limits → Counted b n (r ∷ []) (map (item_of root (unread_of root r.opened)) k.done)
+  counted_last : (c : Cursor) (r : PartRun) (w : Ran root part c r) (k : Takes c r) (b n : ℕ) → IsAtLeast b n r.limits → Counted b n (r ∷ []) (map (item_of None root (unread_of None root r.opened)) k.done)
   counted_last c r w k b n large = by r.ran.end refl w.runs.run
     where
       items : List Item
-      items = map (item_of root (unread_of root r.opened)) k.done
+      items = map (item_of None root (unread_of None root r.opened)) k.done
 
       with_none : Counted b n (r ∷ []) (items ++ []) → Counted b n (r ∷ []) items
       with_none h = subst (Counted b n (r ∷ [])) (append-nil items) h
@@ -494,8 +494,8 @@ module _ (root : StorageRoot) (part : Part) where
   takes_all c (r ∷ []) h =
       let k : Takes c r = run_takes c r h in
       let own_is : unread_together root (r ∷ []) ≡ unread_by root r = append-nil (unread_by root r) in
-      let items_is : map (item_of root (unread_together root (r ∷ []))) k.done ≡ map (item_of root (unread_of root r.opened)) k.done =
-      ap (λ u. map (item_of root u) k.done) own_is ∙ own_items c r k in
+      let items_is : map (item_of None root (unread_together root (r ∷ []))) k.done ≡ map (item_of None root (unread_of None root r.opened)) k.done =
+      ap (λ u. map (item_of None root u) k.done) own_is ∙ own_items c r k in
       record {
         done = k.done;
         last = k.last;
@@ -514,9 +514,9 @@ module _ (root : StorageRoot) (part : Part) where
       k.due_are ∙ ap (λ ps. k.done ++ ps) due_then ∙ sym (append_assoc k.done m.done (due_within root part m.last)) in
       let up : IsAscending place_cmp (k.done ++ m.done) = ascends_left place_cmp (k.done ++ m.done) (due_within root part m.last)
       (subst (IsAscending place_cmp) due_are (due_within_ascends root part (place_in c.state))) in
-      let first : List Item = map (item_of root (unread_of root r.opened)) k.done in
-      let second : List Item = map (item_of root later) m.done in
-      let both : map (item_of root (unread_by root r ++ later)) (k.done ++ m.done) ≡ first ++ second = both_items c r k later m.done up m.among in
+      let first : List Item = map (item_of None root (unread_of None root r.opened)) k.done in
+      let second : List Item = map (item_of None root later) m.done in
+      let both : map (item_of None root (unread_by root r ++ later)) (k.done ++ m.done) ≡ first ++ second = both_items c r k later m.done up m.among in
       record {
         done = k.done ++ m.done;
         last = m.last;
@@ -539,32 +539,32 @@ module _ (root : StorageRoot) (part : Part) where
     unread_all = unread_together root runs
 
     abbrev items_all : List Item
-    items_all = within part (audit root unread_all)
+    items_all = within part (audit None root unread_all)
 
-    items_parts : items_all ≡ map (item_of root unread_all) all.done ++ map (item_of root unread_all) (due_within root part all.last)
+    items_parts : items_all ≡ map (item_of None root unread_all) all.done ++ map (item_of None root unread_all) (due_within root part all.last)
     items_parts =
-        above_by unread_all None ∙ ap (map (item_of root unread_all)) (ap (due_within root part) (sym fresh) ∙ all.due_are)
-        ∙ map-append (item_of root unread_all) all.done (due_within root part all.last)
+        above_by unread_all None ∙ ap (map (item_of None root unread_all)) (ap (due_within root part) (sym fresh) ∙ all.due_are)
+        ∙ map-append (item_of None root unread_all) all.done (due_within root part all.last)
 
-    left_at : (last : Option Place) → left_by (state_at last) items_all ≡ map (item_of root unread_all) (due_within root part last)
+    left_at : (last : Option Place) → left_by (state_at last) items_all ≡ map (item_of None root unread_all) (due_within root part last)
     left_at None = above_by unread_all None
     left_at (Some p) = above_by unread_all (Some p)
 
-    left_is : left_by (cursor_after c runs).state items_all ≡ map (item_of root unread_all) (due_within root part all.last)
+    left_is : left_by (cursor_after c runs).state items_all ≡ map (item_of None root unread_all) (due_within root part all.last)
     left_is = by all.ends
       where
         by : ((cursor_after c runs).state ≡ state_at all.last) ⊎ (((cursor_after c runs).state ≡ ended) × (due_within root part all.last ≡ []))
-            → left_by (cursor_after c runs).state items_all ≡ map (item_of root unread_all) (due_within root part all.last)
+            → left_by (cursor_after c runs).state items_all ≡ map (item_of None root unread_all) (due_within root part all.last)
         by (inl e) = ap (λ s. left_by s items_all) e ∙ left_at all.last
-        by (inr e) = ap (λ s. left_by s items_all) e.0 ∙ ap (map (item_of root unread_all)) (sym e.1)
+        by (inr e) = ap (λ s. left_by s items_all) e.0 ∙ ap (map (item_of None root unread_all)) (sym e.1)
 
-    pub reports_and_rest : reports_of runs ++ text (left_by (cursor_after c runs).state (within part (audit root (unread_together root runs))))
-        ≡ text (within part (audit root (unread_together root runs)))
+    pub reports_and_rest : reports_of runs ++ text (left_by (cursor_after c runs).state (within part (audit None root (unread_together root runs))))
+        ≡ text (within part (audit None root (unread_together root runs)))
     reports_and_rest =
-        ap (λ x. x ++ text (left_by (cursor_after c runs).state items_all)) all.reports ∙ ap (λ is. text (map (item_of root unread_all) all.done) ++ text is) left_is
-        ∙ sym (text_append (map (item_of root unread_all) all.done) (map (item_of root unread_all) (due_within root part all.last))) ∙ ap text (sym items_parts)
+        ap (λ x. x ++ text (left_by (cursor_after c runs).state items_all)) all.reports ∙ ap (λ is. text (map (item_of None root unread_all) all.done) ++ text is) left_is
+        ∙ sym (text_append (map (item_of None root unread_all) all.done) (map (item_of None root unread_all) (due_within root part all.last))) ∙ ap text (sym items_parts)
 
-    pub reports_whole : (cursor_after c runs).state ≡ ended → reports_of runs ≡ text (within part (audit root (unread_together root runs)))
+    pub reports_whole : (cursor_after c runs).state ≡ ended → reports_of runs ≡ text (within part (audit None root (unread_together root runs)))
     reports_whole e = sym (append-nil (reports_of runs)) ∙ ap (λ s. reports_of runs ++ text (left_by s items_all)) (sym e) ∙ reports_and_rest
 
     -- what could not be read is in the part
@@ -572,15 +572,15 @@ module _ (root : StorageRoot) (part : Part) where
     unread_inside = unread_is part unread_all ∙ kept_all (lies_in part) unread_all (λ p i. inside p (all.among p i))
       where
         inside : (p : Place) → IsAmong all.done p → lies_in part p ≡ true
-        inside p i = (among_from_filter (lies_in part) (due root (place_in c.state)) p (subst (λ ps. IsAmong ps p) (places_within_is part (due root (place_in c.state)))
+        inside p i = (among_from_filter (lies_in part) (due None root (place_in c.state)) p (subst (λ ps. IsAmong ps p) (places_within_is part (due None root (place_in c.state)))
             (subst (λ ps. IsAmong ps p) (sym all.due_are) (among_left all.done (due_within root part all.last) p i)))).1
 
     pub runs_few : (b n : ℕ) → 1 ≤ b → 1 ≤ n → All (IsAtLeast b n) (map (λ r. r.limits) runs)
-        → unstopped runs ≤ total_cost (within part (audit root (unread_together root runs))) / b + total_files (within part (audit root (unread_together root runs))) / n + 1
+        → unstopped runs ≤ total_cost (within part (audit None root (unread_together root runs))) / b + total_files (within part (audit None root (unread_together root runs))) / n + 1
     runs_few b n p q large =
         let m = all.counts b n p q large in
-        let xs : List Item = map (item_of root unread_all) all.done in
-        let ys : List Item = map (item_of root unread_all) (due_within root part all.last) in
+        let xs : List Item = map (item_of None root unread_all) all.done in
+        let ys : List Item = map (item_of None root unread_all) (due_within root part all.last) in
         let c_is : total_cost items_all ≡ total_cost xs + total_cost ys = ap total_cost items_parts ∙ cost_append xs ys in
         let f_is : total_files items_all ≡ total_files xs + total_files ys = ap total_files items_parts ∙ files_append xs ys in
         let x = m.costs in
@@ -597,10 +597,10 @@ module _ (root : StorageRoot) where
   abbrev apart : List PartCycle → List (Part × Unread)
   apart ds = map (λ d. (d.part, unread_together root d.runs)) ds
 
-  each_report : (ds : List PartCycle) → AllByRecursion (IsWholeCycle root) ds → flat_map (λ d. reports_of d.runs) ds ≡ flat_map (λ e. text (within e.0 (audit root e.1))) (apart ds)
+  each_report : (ds : List PartCycle) → AllByRecursion (IsWholeCycle root) ds → flat_map (λ d. reports_of d.runs) ds ≡ flat_map (λ e. text (within e.0 (audit None root e.1))) (apart ds)
   each_report [] h = refl
   each_report (d ∷ ds) h = ap (λ x. x ++ flat_map (λ e. reports_of e.runs) ds) (reports_whole root d.part d.first d.runs h.0.starts h.0.are h.0.ends)
-      ∙ ap (λ x. text (within d.part (audit root (unread_together root d.runs))) ++ x) (each_report ds h.1)
+      ∙ ap (λ x. text (within d.part (audit None root (unread_together root d.runs))) ++ x) (each_report ds h.1)
 
   parts_same : (ds : List PartCycle) → map (λ e. e.0) (apart ds) ≡ map (λ d. d.part) ds
   parts_same [] = refl
@@ -612,9 +612,9 @@ module _ (root : StorageRoot) where
       ∙ ap (λ u. unread_together root d.runs ++ u) (unread_same ds h.1)
 
   pub parts_reports : (separators : List Place) (ds : List PartCycle) → IsAscending place_cmp separators → map (λ d. d.part) ds ≡ parts_of separators → AllByRecursion (IsWholeCycle root) ds
-      → flat_map (λ d. reports_of d.runs) ds ≡ text (audit root (flat_map (λ d. unread_together root d.runs) ds))
+      → flat_map (λ d. reports_of d.runs) ds ≡ text (audit None root (flat_map (λ d. unread_together root d.runs) ds))
   parts_reports separators ds up are done =
-      each_report ds done ∙ apart_texts root (apart ds) separators up (parts_same ds ∙ are) ∙ ap (λ u. text (audit root u)) (unread_same ds done)
+      each_report ds done ∙ apart_texts None root (apart ds) separators up (parts_same ds ∙ are) ∙ ap (λ u. text (audit None root u)) (unread_same ds done)
 
 -- ---- each run has a report
 

@@ -4,9 +4,13 @@ use Rattle.std.specs.{Prelude.{cond, nat_lt}, List.{list_all}}
 use Rattle.ocfl_tree.specs.{Place.{Text, Place}, StorageRoot.{StorageRoot, Leaf, at}}
 use Rattle.ocfl_tree.proofs.Orders.{true_not_false}
 use Rattle.ocfl_inventory.specs.Table.{Named}
-use Rattle.ocfl_rules.specs.{Between.{is_looked_into}, Lines.{cost_of, is_hashed, named_at}}
-use Rattle.ocfl_rules.specs.{Walk.{is_reached}, Zone.{beginnings, is_entered, seen}}
-use Rattle.ocfl_rules.proofs.{AuditExists.{zone_is}, PathLaws.{hashed_path}}
+use Rattle.ocfl_rules.specs.Between.{is_looked_into}
+use Rattle.ocfl_rules.specs.Lines.{cost_of, named_at}
+use Rattle.ocfl_rules.specs.Inventories.{is_hashed}
+use Rattle.ocfl_rules.specs.Walk.{is_reached}
+use Rattle.ocfl_rules.specs.Zone.{beginnings, is_entered, seen}
+use Rattle.ocfl_rules.proofs.AuditExists.{zone_is}
+use Rattle.ocfl_rules.proofs.PathLaws.{named_has_path}
 use Rattle.ocfl_rules.proofs.StepLaws.{all_beginnings_step}
 use Rattle.ocfl_walk.proofs.ReachLaws.{reached_looked}
 
@@ -36,9 +40,9 @@ not_root p o q n e f = by o (sym e ∙ f)
     by [] g = cc
     by (m ∷ o) g = cc
 
-pub hashed_within : (root : StorageRoot) (p : Place) → is_hashed root p ≡ true → (d : Place) × ((n : Text) × (((is_reached root d ≡ true) × (is_looked_into root d ≡ true)) × (p ≡ d ++ n ∷ [])))
+pub hashed_within : (root : StorageRoot) (p : Place) → is_hashed None root p ≡ true → (d : Place) × ((n : Text) × (((is_reached root d ≡ true) × (is_looked_into root d ≡ true)) × (p ≡ d ++ n ∷ [])))
 hashed_within root p h =
-    let k = hashed_path root p h in
+    let k = named_has_path root p h in
     let whole = (zone_is root p k.object (k.version ∷ k.content ∷ k.name ∷ k.rest) k.lies).whole in
     let s = has_directory p (not_root p k.object (k.content ∷ k.name ∷ k.rest) k.version whole) in
     let above = all_entered root p (in_sight (named_at root p) (seen root p) h) in

@@ -29,7 +29,7 @@ module _ {root : StorageRoot} {part : Part} {s t : Store} {old new : Option (Lis
       let p = h.pays.passes in
       stood_at root part from last h.stood p.done p.last_is h.last_is (λ q i.
       let inside = among_from_filter (λ z. not (is_past (end_of part) z)) p.done q (subst (λ ps. IsAmong ps q) (sym p.inside) i) in
-      due_lies root part from q (subst (λ ps. IsAmong ps q) (sym p.due_are) (among_left p.done (due root h.stood) q i)) (not-true (is_past (end_of part) q) inside.1))
+      due_lies root part from q (subst (λ ps. IsAmong ps q) (sym p.due_are) (among_left p.done (due None root h.stood) q i)) (not-true (is_past (end_of part) q) inside.1))
 
 module _ {root : StorageRoot} {part : Part} {s t : Store} {old new : Option (List ℕ)} {from last : Option Place} {l : Limits} {spent files : ℕ} {finding : Bool} where
   -- a run above the last item may go on with it
@@ -71,7 +71,7 @@ goes_down root p = record {
   trail = [];
   listed = way_of p;
   heads = [];
-  audits = audits_meta root (nothing_asked root) (all_listed root (way_of p)) (way_of p) [] [] refl (did_list root (way_of p)) refl refl refl (near_none root (way_of p));
+  audits = audits_meta None root (nothing_asked root) (all_listed root (way_of p)) (way_of p) [] [] refl (did_list root (way_of p)) refl refl refl (near_none None root (way_of p));
   root_first = root_listed p;
   all_listed = λ d i reached. i;
   listed_front = front_all (way_of p);

@@ -70,7 +70,7 @@ module _ {root : StorageRoot} {s t : Store} {old mid : Option (List ℕ)} {m : M
 
   module _ (may : q.hashed ≡ true → IsWithinBoth l spent files) (v : Store) (new : Option (List ℕ)) where
     -- the item was not taken
-    pub way_missed : (why : ReportStop) → (t.tree ≡ root → IsPending root q → Misses (call_of root t v mid new) q.place why)
+    pub way_missed : (why : ReportStop) → (t.tree ≡ root → IsPending None root q → Misses (call_of root t v mid new) q.place why)
         → PassesOn (call_of root s v old new) part m from l (pass_of last spent files finding (status.Stopped why) None)
     way_missed why missed = record {
       looks = λ is.
@@ -85,7 +85,7 @@ module _ {root : StorageRoot} {s t : Store} {old mid : Option (List ℕ)} {m : M
 
     -- the item was taken
     module _ (place : Place) (cost charged started : ℕ) (more either : Bool) (at : place ≡ q.place) (charge : charged ≡ spent + cost) (start : started ≡ files + files_of cost) (finds : either ≡ (finding || more))
-        (took : t.tree ≡ root → IsPending root q → Takes (call_of root t v mid new) q.place cost more) where
+        (took : t.tree ≡ root → IsPending None root q → Takes (call_of root t v mid new) q.place cost more) where
       stood : (d a : Store) → a.rest ≡ s.rest → a.largest ≡ s.largest → IsAhead root part from m d a
           → (b : Store) × (IsAlike s v a b × HasStood root part d b old new walk from (Some place) l charged started either)
       stood d a rest largest ahead =
@@ -121,7 +121,7 @@ module _ {root : StorageRoot} {s t : Store} {old mid : Option (List ℕ)} {m : M
                     let there = looked_took k.looked v mid new cost more (took (looked_over k.looked) k.pending) in
                     let gives : GivesOut root v w (Some q.place) (end_of part) next (Some r) = subst (GivesOut root v w (Some q.place) (end_of part) next) is (gave (looked_over there) (Some q.place) k.stands) in
                     record {
-                      looked = looked_on there w r.place (due_beyond root (Some q.place) r.place (due root (Some r.place)) gives.3) in_front gives.0;
+                      looked = looked_on there w r.place (due_beyond root (Some q.place) r.place (due None root (Some r.place)) gives.3) in_front gives.0;
                       pending = gives.2;
                       stands = gives.1;
                     };

@@ -16,18 +16,18 @@ use Rattle.ocfl_scrub.specs.Taking.{stop_place}
 
 module _ (root : StorageRoot) (part : Part) (s t u : Store) (old new : Option (List ℕ)) (from : Option Place) (g : GoesDown root s t (entry part from)) where
   pub looks_over : (to : Option Place) (done : List Place) (os : List Opening)
-      → FilesLieIn root done (g.listed ++ looked_in root part from to) → Audits root t u done (looked_in root part from to) (read_in root part from to) os
+      → FilesLieIn root done (g.listed ++ looked_in root part from to) → Audits None root t u done (looked_in root part from to) (read_in root part from to) os
       → LooksOver (call_of root s u old new) part from to done (g.trail ++ os)
   looks_over to done os files k = record {
     down = g.listed;
     held = g.heads;
-    audits = audits_on root s t u [] done g.listed (looked_in root part from to) g.heads (read_in root part from to) g.trail os g.audits k;
+    audits = audits_on None root s t u [] done g.listed (looked_in root part from to) g.heads (read_in root part from to) g.trail os g.audits k;
     down_front = subst (IsFront g.listed) (way_is part from) g.listed_front;
     files_lie = files;
     held_front = subst (IsFront g.heads) (held_in part from root) g.heads_front;
   }
 
-  unfoldable pub stops_looking : (why : ReportStop) (begun listed heads : List Place) (os : List Opening) → Fails root t u begun listed heads os (stop_place why)
+  unfoldable pub stops_looking : (why : ReportStop) (begun listed heads : List Place) (os : List Opening) → Fails None root t u begun listed heads os (stop_place why)
       → IsFront listed (looked_in root part from None) → IsFront heads (read_in root part from None) → FilesLieIn root begun (g.listed ++ listed)
       → StopsLooking (call_of root s u old new) part from begun (g.trail ++ os) why
   stops_looking why begun listed heads os k listed_front heads_front files = record {
@@ -35,7 +35,7 @@ module _ (root : StorageRoot) (part : Part) (s t u : Store) (old new : Option (L
     listed = listed;
     held = g.heads;
     heads = heads;
-    fails = audits_fail root s t u [] begun g.listed listed g.heads heads g.trail os _ g.audits k;
+    fails = audits_fail None root s t u [] begun g.listed listed g.heads heads g.trail os _ g.audits k;
     down_front = subst (IsFront g.listed) (way_is part from) g.listed_front;
     listed_front = listed_front;
     held_front = subst (IsFront g.heads) (held_in part from root) g.heads_front;
@@ -54,7 +54,7 @@ stops_above root part s t old new from why g =
       listed = [];
       held = g.heads;
       heads = [];
-      fails = subst (λ ls. Fails root s t [] ls (g.heads ++ []) g.trail (failed_place why)) (sym (append-nil g.listed)) (subst (λ hs. Fails root s t [] g.listed hs g.trail (failed_place why)) (sym (append-nil g.heads)) g.fails);
+      fails = subst (λ ls. Fails None root s t [] ls (g.heads ++ []) g.trail (failed_place why)) (sym (append-nil g.listed)) (subst (λ hs. Fails None root s t [] g.listed hs g.trail (failed_place why)) (sym (append-nil g.heads)) g.fails);
       down_front = subst (IsFront g.listed) (way_is part from) g.listed_front;
       listed_front = no_directory;
       held_front = subst (IsFront g.heads) (held_in part from root) g.heads_front;

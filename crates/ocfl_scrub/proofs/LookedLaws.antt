@@ -33,11 +33,11 @@ stand_there root part q lies = by (first_place part) refl
     by (Some b) e = ap (λ o. stand_by root o (Some q)) e ∙ ap (λ v. cond v (place_before root b) (Some q)) (not_less_first part b q e lies)
 
 -- what is due there before the end is in the part
-pub due_lies : (root : StorageRoot) (part : Part) (from : Option Place) (q : Place) → IsAmong (due root (stand root part from)) q → is_past (end_of part) q ≡ false → lies_in part q ≡ true
+pub due_lies : (root : StorageRoot) (part : Part) (from : Option Place) (q : Place) → IsAmong (due None root (stand root part from)) q → is_past (end_of part) q ≡ false → lies_in part q ≡ true
 due_lies root part from q i before =
-    let there : IsAmong (due_in root (end_of part) (stand root part from)) q = among_filter (λ z. not (is_past (end_of part) z)) (due root (stand root part from)) q i (ap not before) in
+    let there : IsAmong (due_in root (end_of part) (stand root part from)) q = among_filter (λ z. not (is_past (end_of part) z)) (due None root (stand root part from)) q i (ap not before) in
     let inside : IsAmong (due_within root part from) q = subst (λ ps. IsAmong ps q) (due_starts root part from) there in
-    (among_from_filter (lies_in part) (due root from) q (subst (λ ps. IsAmong ps q) (places_within_is part (due root from)) inside)).1
+    (among_from_filter (lies_in part) (due None root from) q (subst (λ ps. IsAmong ps q) (places_within_is part (due None root from)) inside)).1
 
 pub met_lies : (root : StorageRoot) (part : Part) (from : Option Place) (m : Met) → IsMet root part from m → lies_in part m.item.place ≡ true
 met_lies root part from m h = due_lies root part from m.item.place (subst (λ ps. IsAmong ps m.item.place) (sym h.gives.3) (inl refl)) h.in_front
@@ -49,12 +49,12 @@ pub record Looked (root : StorageRoot) (part : Part) (s t : Store) (p q : Place)
   pub gone : HasGoneOn (end_of part) (Some p) (Some q)
   pub done : List Place
   pub trail : List Opening
-  pub audits : Audits root s t done (looked_between root (Some p) (Some q)) (read_between root (Some p) (Some q)) trail
+  pub audits : Audits None root s t done (looked_between root (Some p) (Some q)) (read_between root (Some p) (Some q)) trail
 
 -- and the walk met the other
 pub record HasLooked (root : StorageRoot) (part : Part) (s t : Store) (p : Place) (walk : Walk) (q : Pending) : Type 0 where
   pub looked : Looked root part s t p q.place
-  pub pending : IsPending root q
+  pub pending : IsPending None root q
   pub stands : Stands root walk (Some q.place)
 
 pub looked_first : (root : StorageRoot) (part : Part) (s : Store) (from : Option Place) (m : Met) → s.tree ≡ root → IsMet root part from m
@@ -64,7 +64,7 @@ looked_first root part s from m over h = record {
     gone = gone_self (end_of part) (Some m.item.place);
     done = [];
     trail = [];
-    audits = audits_as (sym (looked_self root (Some m.item.place))) (sym (read_self root (Some m.item.place))) (audits_nothing root s over);
+    audits = audits_as (sym (looked_self root (Some m.item.place))) (sym (read_self root (Some m.item.place))) (audits_nothing None root s over);
   };
   pending = h.gives.2;
   stands = h.gives.1;
@@ -80,7 +80,7 @@ module _ {root : StorageRoot} {part : Part} {s t : Store} {p q : Place} (h : Loo
     done = h.done ++ q ∷ [];
     trail = h.trail ++ k.trail;
     audits = audits_as (append-nil (looked_between root (Some p) (Some q))) (append-nil (read_between root (Some p) (Some q)))
-        (audits_on root s t v h.done (q ∷ []) _ [] _ [] h.trail k.trail h.audits k.audits);
+        (audits_on None root s t v h.done (q ∷ []) _ [] _ [] h.trail k.trail h.audits k.audits);
   }
 
   pub looked_on : (v : Store) (r : Place) → IsBeyond (Some q) r → is_past (end_of part) r ≡ false → Walks root t v (Some q) (Some r) → Looked root part s v p r
@@ -89,7 +89,7 @@ module _ {root : StorageRoot} {part : Part} {s t : Store} {p q : Place} (h : Loo
     done = h.done ++ [];
     trail = h.trail ++ w.trail;
     audits = audits_as (looked_next root (end_of part) (Some p) (Some q) h.gone r far) (read_next root (end_of part) (Some p) (Some q) h.gone r far)
-        (audits_on root s t v h.done [] _ _ _ _ h.trail w.trail h.audits w.audits);
+        (audits_on None root s t v h.done [] _ _ _ _ h.trail w.trail h.audits w.audits);
   }
 
   -- ---- what was looked at in all
@@ -126,7 +126,7 @@ module _ {root : StorageRoot} {part : Part} {s t : Store} {p q : Place} (h : Loo
       -- the item was not taken
       pub above_missed : (mid : Option (List ℕ)) (why : ReportStop) → Misses (call_of root t v mid new) q why → LooksAbove (call_of root s v old new) part p
       above_missed mid why k =
-          let both = audits_fail root s t v h.done k.begun _ [] _ [] h.trail k.trail _ h.audits k.fails in
+          let both = audits_fail None root s t v h.done k.begun _ [] _ [] h.trail k.trail _ h.audits k.fails in
           above _ _ (h.trail ++ k.trail) _ both.did both.heads_are
           (subst (λ ls. IsFront ls (looked_in root part (Some p) None)) (sym (append-nil (looked_between root (Some p) (Some q)))) looked_begins)
           (subst (λ hs. IsFront hs (read_in root part (Some p) None)) (sym (append-nil (read_between root (Some p) (Some q)))) read_begins)
@@ -134,7 +134,7 @@ module _ {root : StorageRoot} {part : Part} {s t : Store} {p q : Place} (h : Loo
       -- nothing is left before the end
       pub above_ended : WalksOut root t v (Some q) (end_of part) → LooksAbove (call_of root s v old new) part p
       above_ended w =
-          let both = audits_on root s t v h.done [] _ _ _ _ h.trail w.trail h.audits w.audits in
+          let both = audits_on None root s t v h.done [] _ _ _ _ h.trail w.trail h.audits w.audits in
           above _ _ (h.trail ++ w.trail) _ both.did both.heads_are
           (subst (λ ls. IsFront ls (looked_in root part (Some p) None)) (sym looked_left) (front_all (looked_in root part (Some p) None)))
           (subst (λ hs. IsFront hs (read_in root part (Some p) None)) (sym read_left) (front_all (read_in root part (Some p) None)))
@@ -142,7 +142,7 @@ module _ {root : StorageRoot} {part : Part} {s t : Store} {p q : Place} (h : Loo
       -- the walk did not get to its next item
       pub above_lost : (why : Fault) → FailsOut root t v (Some q) (end_of part) why → LooksAbove (call_of root s v old new) part p
       above_lost why w =
-          let both = audits_fail root s t v h.done [] _ _ _ _ h.trail w.trail _ h.audits w.fails in
+          let both = audits_fail None root s t v h.done [] _ _ _ _ h.trail w.trail _ h.audits w.fails in
           above _ _ (h.trail ++ w.trail) _ both.did both.heads_are
           (front_behind (looked_between root (Some p) (Some q)) w.listed _ (looked_in root part (Some p) None) looked_left (lost_listed root t v (Some q) (end_of part) why w))
           (front_behind (read_between root (Some p) (Some q)) w.heads _ (read_in root part (Some p) None) read_left (lost_heads root t v (Some q) (end_of part) why w))

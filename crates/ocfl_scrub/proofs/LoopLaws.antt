@@ -1,5 +1,5 @@
 -- Where the loop over a walk stands, and what its next item is.
-use Rattle.std.proofs.Common.{◌≡◌, sym, ◌∙◌, subst, false, Some, Option}
+use Rattle.std.proofs.Common.{◌≡◌, sym, ◌∙◌, subst, false, Some, Option, None}
 use Rattle.std.specs.Prelude.{IfSome}
 use Rattle.ocfl_tree.specs.{Place.{Place}, StorageRoot.{StorageRoot}, Store.{Store}}
 use Rattle.ocfl_rules.specs.{Between.{IsBeyond}, Due.{due}}
@@ -35,7 +35,7 @@ gives_item root e t u walk next stood o q gave over stands is before =
     let gives : Gives root t u stood next (Some q) = subst (GivesOut root t u stood e next) is (gave over stood stands) in
     record {
       gives = gives;
-      above = due_beyond root stood q.place (due root (Some q.place)) gives.3;
+      above = due_beyond root stood q.place (due None root (Some q.place)) gives.3;
       in_front = subst (λ x. IfSome x (λ p. is_past e p.place ≡ false)) is before;
     }
 

@@ -9,10 +9,14 @@ use Rattle.ocfl_inventory.specs.{Table.{Named}}
 use Rattle.ocfl_inventory.specs.Declaration.{Declared, undeclared, known, unknown, several}
 use Rattle.ocfl_rules.specs.Zone.{root_declared, zone, inside}
 use Rattle.ocfl_rules.specs.Head.{root_notes_by, head_notes_by}
-use Rattle.ocfl_rules.specs.Lines.{is_empty, notes, notes_in, cost_of, named_at, is_hashed}
-use Rattle.ocfl_rules.specs.{Objects.{HasInventory}, Due.{item_places, due}}
-use Rattle.ocfl_rules.specs.{Between.{IsBeyond, IsWithin, read_between}, Parts.{Part, lies_in}}
-use Rattle.ocfl_rules.proofs.{PartLaws.{places_within_is}, Trails.{filter_append}}
+use Rattle.ocfl_rules.specs.Lines.{is_empty, notes_in, cost_of, named_at}
+use Rattle.ocfl_rules.specs.Inventories.{notes, is_hashed}
+use Rattle.ocfl_rules.specs.Objects.{HasInventory}
+use Rattle.ocfl_rules.specs.Due.{item_places, due}
+use Rattle.ocfl_rules.specs.Between.{IsBeyond, IsWithin, read_between}
+use Rattle.ocfl_rules.specs.Parts.{Part, lies_in}
+use Rattle.ocfl_rules.proofs.PartLaws.{places_within_is}
+use Rattle.ocfl_rules.proofs.Trails.{filter_append}
 use Rattle.ocfl_rules.proofs.BetweenLaws.{read_on}
 use Rattle.ocfl_rules.proofs.ObjectLaws.{object_by_zone, read_part, object_seen}
 use Rattle.ocfl_item.proofs.ItemLaws.{clean_some}
@@ -33,37 +37,37 @@ some_among [] p i = absurd i
 some_among (q ∷ ps) p i = refl
 
 -- so an item is due at the start
-pub root_is_due : (root : StorageRoot) → is_empty (due root None) ≡ false
+pub root_is_due : (root : StorageRoot) → is_empty (due None root None) ≡ false
 unfolding due
-root_is_due root = some_among (item_places root) [] (item_among root [] (root_some root (root_declared root)))
+root_is_due root = some_among (item_places None root) [] (item_among root [] (root_some root (root_declared root)))
 
-object_lines : (root : StorageRoot) (o : Place) → HasInventory root o → notes root None o ≢ []
+object_lines : (root : StorageRoot) (o : Place) → HasInventory root o → notes None root None o ≢ []
 object_lines root [] h = absurd (h.object.below_root refl)
 object_lines root (n ∷ p) h =
     let whole : zone root (n ∷ p) ≡ inside (n ∷ p) [] = (object_by_zone root (n ∷ p)).0 h.object in
-    let head : notes root None (n ∷ p) ≡ head_notes_by root (n ∷ p) (known h.version.0) = ap (notes_in root (n ∷ p) None) whole ∙ ap (head_notes_by root (n ∷ p)) h.version.1 in
+    let head : notes None root None (n ∷ p) ≡ head_notes_by root (n ∷ p) (known h.version.0) = ap (notes_in root (n ∷ p) None) whole ∙ ap (head_notes_by root (n ∷ p)) h.version.1 in
     λ e. clean_some _ (sym head ∙ e)
 
 directory_free : (ns : List Named) → cost_of ns None (Some dir) ≡ 0
 directory_free [] = refl
 directory_free (n ∷ ns) = refl
 
-object_not_hashed : (root : StorageRoot) (o : Place) → HasInventory root o → is_hashed root o ≡ true → ⊥
+object_not_hashed : (root : StorageRoot) (o : Place) → HasInventory root o → is_hashed None root o ≡ true → ⊥
 object_not_hashed root o h e =
     true_not_false (sym e ∙ ap (λ leaf. nat_lt 0 (cost_of (named_at root o) None leaf)) (object_seen root o h) ∙ ap (nat_lt 0) (directory_free (named_at root o)))
 
 -- ---- from the last item of a part to the next
 
 module _ (root : StorageRoot) (part : Part) where
-  due_among : (last : Option Place) (p : Place) → IsAmong (item_places root) p → lies_in part p ≡ true → IsBeyond last p → IsAmong (due_within root part last) p
+  due_among : (last : Option Place) (p : Place) → IsAmong (item_places None root) p → lies_in part p ≡ true → IsBeyond last p → IsAmong (due_within root part last) p
   unfolding due
-  due_among None p i h b = subst (λ ps. IsAmong ps p) (sym (places_within_is part (item_places root))) (among_filter (lies_in part) (item_places root) p i h)
+  due_among None p i h b = subst (λ ps. IsAmong ps p) (sym (places_within_is part (item_places None root))) (among_filter (lies_in part) (item_places None root) p i h)
   due_among (Some a) p i h b =
-      subst (λ ps. IsAmong ps p) (sym (places_within_is part (due root (Some a))))
-      (among_filter (lies_in part) (due root (Some a)) p (among_filter (λ q. is_lt (place_cmp a q)) (item_places root) p i (ap is_lt b)) h)
+      subst (λ ps. IsAmong ps p) (sym (places_within_is part (due None root (Some a))))
+      (among_filter (lies_in part) (due None root (Some a)) p (among_filter (λ q. is_lt (place_cmp a q)) (item_places None root) p i (ap is_lt b)) h)
 
-  from_due : (last : Option Place) (p : Place) → IsAmong (due_within root part last) p → IsAmong (due root last) p × (lies_in part p ≡ true)
-  from_due last p i = among_from_filter (lies_in part) (due root last) p (subst (λ ps. IsAmong ps p) (places_within_is part (due root last)) i)
+  from_due : (last : Option Place) (p : Place) → IsAmong (due_within root part last) p → IsAmong (due None root last) p × (lies_in part p ≡ true)
+  from_due last p i = among_from_filter (lies_in part) (due None root last) p (subst (λ ps. IsAmong ps p) (places_within_is part (due None root last)) i)
 
   -- what is read of the part up to a place and from there on is what is read of it in all
   read_in_on : (from to : Option Place) (b : Place) → IsBeyond from b → IsWithin to b → read_in root part from (Some b) ++ read_in root part (Some b) to ≡ read_in root part from to
@@ -73,12 +77,12 @@ module _ (root : StorageRoot) (part : Part) where
       ∙ sym (filter_append (lies_in part) (read_between root from (Some b)) (read_between root (Some b) to))
       ∙ ap (filter (lies_in part)) (read_on root from to b l w) ∙ sym (places_within_is part (read_between root from to))
 
-  module _ (last : Option Place) (next : Place) (rest : List Place) (least : due_within root part last ≡ next ∷ rest) (hashed : is_hashed root next ≡ true) where
+  module _ (last : Option Place) (next : Place) (rest : List Place) (least : due_within root part last ≡ next ∷ rest) (hashed : is_hashed None root next ≡ true) where
     no_object : (o : Place) → lies_in part o ≡ true → IsBeyond last o → is_lt (place_cmp next o) ≡ false → HasInventory root o → ⊥
     no_object o i b w h = by (subst (λ ps. IsAmong ps o) least (due_among last o (item_among root o (object_lines root o h)) i b))
       where
         by : IsAmong (next ∷ rest) o → ⊥
-        by (inl e) = object_not_hashed root o h (ap (is_hashed root) e ∙ hashed)
+        by (inl e) = object_not_hashed root o h (ap (is_hashed None root) e ∙ hashed)
         by (inr j) =
             let up : IsAscending place_cmp (next ∷ rest) = subst (IsAscending place_cmp) least (due_within_ascends root part last) in
             true_not_false (sym (ap is_lt (before_each place_cmp next rest up.0 o j)) ∙ w)

@@ -7,29 +7,32 @@ use Rattle.ocfl_inventory.specs.Note.{Note}
 use Rattle.ocfl_rules.specs.Audit.{candidates}
 use Rattle.ocfl_rules.specs.Between.{looked_between, read_between}
 use Rattle.ocfl_rules.specs.Due.{item_places, hashed_among}
-use Rattle.ocfl_rules.specs.{Lines.{is_empty, is_hashed, notes}}
-use Rattle.ocfl_rules.proofs.{AuditExists.{notes_candidate}, BetweenLaws.{between_ascends, directories_ascend, objects_ascend}}
-use Rattle.ocfl_rules.proofs.{PartLaws.{items_ascend}, PathLaws.{hashed_lines}}
+use Rattle.ocfl_rules.specs.Lines.{is_empty}
+use Rattle.ocfl_rules.specs.Inventories.{is_hashed, notes}
+use Rattle.ocfl_rules.proofs.FurtherLaws.{notes_candidate}
+use Rattle.ocfl_rules.proofs.BetweenLaws.{between_ascends, directories_ascend, objects_ascend}
+use Rattle.ocfl_rules.proofs.PartLaws.{items_ascend}
+use Rattle.ocfl_rules.proofs.InventoryLaws.{hashed_lines}
 
-pub hashed_ascend : (root : StorageRoot) → IsAscending place_cmp (hashed_among root (item_places root))
+pub hashed_ascend : (root : StorageRoot) → IsAscending place_cmp (hashed_among None root (item_places None root))
 unfolding hashed_among
-hashed_ascend root = ascends_filter place_cmp (is_hashed root) (item_places root) (items_ascend root)
+hashed_ascend root = ascends_filter place_cmp (is_hashed None root) (item_places None root) (items_ascend None root)
 
 some_notes : (ns : List Note) → ns ≢ [] → not (is_empty ns) ≡ true
 some_notes [] h = absurd (h refl)
 some_notes (n ∷ ns) h = refl
 
-pub item_among : (root : StorageRoot) (p : Place) → notes root None p ≢ [] → IsAmong (item_places root) p
+pub item_among : (root : StorageRoot) (p : Place) → notes None root None p ≢ [] → IsAmong (item_places None root) p
 unfolding item_places
 item_among root p some =
-    among_filter (λ q. not (is_empty (notes root None q))) (ascending place_cmp (candidates root)) p
-    ((among_ascending place_cmp_exact (candidates root) p).0 (notes_candidate root None p some)) (some_notes (notes root None p) some)
+    among_filter (λ q. not (is_empty (notes None root None q))) (ascending place_cmp (candidates root)) p
+    ((among_ascending place_cmp_exact (candidates root) p).0 (notes_candidate None root None p some)) (some_notes (notes None root None p) some)
 
-pub hashed_all : (root : StorageRoot) (p : Place) → (is_hashed root p ≡ true) ↔ IsAmong (hashed_among root (item_places root)) p
+pub hashed_all : (root : StorageRoot) (p : Place) → (is_hashed None root p ≡ true) ↔ IsAmong (hashed_among None root (item_places None root)) p
 unfolding hashed_among
 hashed_all root p = (
-  λ h. among_filter (is_hashed root) (item_places root) p (item_among root p (hashed_lines root None p h)) h,
-  λ i. (among_from_filter (is_hashed root) (item_places root) p i).1,
+  λ h. among_filter (is_hashed None root) (item_places None root) p (item_among root p (hashed_lines None root None p h)) h,
+  λ i. (among_from_filter (is_hashed None root) (item_places None root) p i).1,
 )
 
 pub looked_ascend : (root : StorageRoot) (from to : Option Place) → IsAscending place_cmp (looked_between root from to)

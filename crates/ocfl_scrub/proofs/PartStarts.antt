@@ -12,12 +12,13 @@ use Rattle.ocfl_tree.proofs.Orders.{place_cmp_total, place_cmp_exact, true_not_f
 use Rattle.ocfl_tree.proofs.Places.{begins-itself}
 use Rattle.ocfl_rules.specs.Audit.{Unread, audit, item_of}
 use Rattle.ocfl_rules.specs.Between.{IsBeyond, up_to, looked_between, read_between}
-use Rattle.ocfl_rules.specs.Due.{due, items_at}
+use Rattle.ocfl_rules.specs.Due.{due, item_places, items_at}
 use Rattle.ocfl_rules.specs.Parts.{Part, is_from, is_below, lies_in, within, places_within}
 use Rattle.ocfl_rules.specs.Trail.{unread_of}
-use Rattle.ocfl_rules.proofs.AuditExists.{audit_is}
 use Rattle.ocfl_rules.proofs.BelowLaws.{less_from, begins_rest, cmp_behind}
-use Rattle.ocfl_rules.proofs.{BetweenLaws.{from_between}, BranchLaws.{nothing_above}, DueLaws.{after_is_due}}
+use Rattle.ocfl_rules.proofs.BetweenLaws.{from_between}
+use Rattle.ocfl_rules.proofs.BranchLaws.{nothing_above}
+use Rattle.ocfl_rules.proofs.DueLaws.{after_is_due, audit_by_places}
 use Rattle.ocfl_rules.proofs.Lists.{map_filter, filter_same}
 use Rattle.ocfl_rules.proofs.PartLaws.{filter_twice, within_is, places_within_is, part_goes_on}
 use Rattle.ocfl_walk.specs.Before.{directory_of, place_before, places_from}
@@ -193,9 +194,9 @@ filter_up_to test ps (Some b) =
     filter_twice (λ q. not (is_lt (place_cmp b q))) test ps ∙ filter_same _ _ (λ x. and_comm (test x) (not (is_lt (place_cmp b x)))) ps ∙ sym (filter_twice test (λ q. not (is_lt (place_cmp b q))) ps)
 
 module _ (root : StorageRoot) (part : Part) (above : Option Place) where
-  pub due_starts : before_end (end_of part) (due root (stand root part above)) ≡ due_within root part above
+  pub due_starts : before_end (end_of part) (due None root (stand root part above)) ≡ due_within root part above
   unfolding due
-  due_starts = leaves root part (due root) (due_from root) (λ p. refl) above
+  due_starts = leaves root part (due None root) (due_from root) (λ p. refl) above
 
   pub looked_starts : (to : Option Place) → before_end (end_of part) (looked_between root (stand root part above) to) ≡ looked_in root part above to
   unfolding looked_between
@@ -228,13 +229,13 @@ module _ (root : StorageRoot) (part : Part) (above : Option Place) where
     read_to = sym read_before ∙ read_starts (Some next)
 
   -- the items of the part above the place
-  pub above_in : (os : List Opening) → items_in root os part above ≡ items_at root os (due_within root part above)
+  pub above_in : (os : List Opening) → items_in root os part above ≡ items_at None root os (due_within root part above)
   unfolding items_at
   above_in os =
-      part_goes_on part above (audit root (unread_of root os)) ∙ ap (within part) (after_is_due root os above)
-      ∙ within_is part (map (item_of root (unread_of root os)) (due root above))
-      ∙ map_filter (λ i. lies_in part i.place) (item_of root (unread_of root os)) (due root above)
-      ∙ ap (map (item_of root (unread_of root os))) (sym (places_within_is part (due root above)))
+      part_goes_on part above (audit None root (unread_of None root os)) ∙ ap (within part) (after_is_due None root os above)
+      ∙ within_is part (map (item_of None root (unread_of None root os)) (due None root above))
+      ∙ map_filter (λ i. lies_in part i.place) (item_of None root (unread_of None root os)) (due None root above)
+      ∙ ap (map (item_of None root (unread_of None root os))) (sym (places_within_is part (due None root above)))
 
 -- ---- what is in the part there is above the place that is gone down to
 
@@ -284,10 +285,20 @@ pub read_in_ascends : (root : StorageRoot) (part : Part) (above to : Option Plac
 read_in_ascends root part above to = within_ascends part (read_between root above to) (read_ascend root above to)
 
 pub due_within_ascends : (root : StorageRoot) (part : Part) (above : Option Place) → IsAscending place_cmp (due_within root part above)
-due_within_ascends root part above = within_ascends part (due root above) (due_ascends root above)
+due_within_ascends root part above = within_ascends part (due None root above) (due_ascends root above)
+
+placed : (root : StorageRoot) (unread : Unread) (ps : List Place) → map (λ i. i.place) (map (item_of None root unread) ps) ≡ ps
+placed root unread [] = refl
+placed root unread (p ∷ ps) = ap (λ xs. p ∷ xs) (placed root unread ps)
+
+audit_ascends : (root : StorageRoot) (unread : Unread) → IsAscending place_cmp (map (λ i. i.place) (audit None root unread))
+unfolding due
+audit_ascends root unread =
+    subst (λ is. IsAscending place_cmp (map (λ i. i.place) is)) (sym (audit_by_places None root unread))
+    (subst (IsAscending place_cmp) (sym (placed root unread (item_places None root))) (due_ascends root None))
 
 -- and so do the items of a part
-pub items_ascend : (root : StorageRoot) (unread : Unread) (part : Part) → IsAscending place_cmp (map (λ i. i.place) (within part (audit root unread)))
+pub items_ascend : (root : StorageRoot) (unread : Unread) (part : Part) → IsAscending place_cmp (map (λ i. i.place) (within part (audit None root unread)))
 items_ascend root unread part =
-    subst (λ is. IsAscending place_cmp (map (λ i. i.place) is)) (sym (within_is part (audit root unread)))
-    (subst (IsAscending place_cmp) (map_filter (lies_in part) (λ i. i.place) (audit root unread)) (ascends_filter place_cmp (lies_in part) _ (audit_is root unread).ascends))
+    subst (λ is. IsAscending place_cmp (map (λ i. i.place) is)) (sym (within_is part (audit None root unread)))
+    (subst (IsAscending place_cmp) (map_filter (lies_in part) (λ i. i.place) (audit None root unread)) (ascends_filter place_cmp (lies_in part) _ (audit_ascends root unread)))

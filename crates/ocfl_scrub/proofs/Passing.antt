@@ -17,26 +17,26 @@ up_to_last between from (Some p) = between from (Some p)
 
 -- what is due before the end
 abbrev pub due_in : StorageRoot → End → Option Place → List Place
-due_in root e from = before_end e (due root from)
+due_in root e from = before_end e (due None root from)
 
 -- from s to t the items above from were taken up to last, each whole and none past the end
 pub record Passes (root : StorageRoot) (e : End) (s t : Store) (old new : Option (List ℕ)) (from last : Option Place) (finding : Bool) : Type 0 where
   pub done : List Place
   pub trail : List Opening
-  pub audits : Audits root s t done (up_to_last (looked_between root) from last) (up_to_last (read_between root) from last) trail
-  pub due_are : due root from ≡ done ++ due root last
+  pub audits : Audits None root s t done (up_to_last (looked_between root) from last) (up_to_last (read_between root) from last) trail
+  pub due_are : due None root from ≡ done ++ due None root last
   pub inside : before_end e done ≡ done
   pub last_is : last ≡ last_or from done
-  pub wrote : Appends old new (text (items_at root trail done))
-  pub found_is : finding ≡ found (items_at root trail done)
+  pub wrote : Appends old new (text (items_at None root trail done))
+  pub found_is : finding ≡ found (items_at None root trail done)
 
 -- from s to t all items above from and before the end were taken
 pub record Finishes (root : StorageRoot) (e : End) (s t : Store) (old new : Option (List ℕ)) (from last : Option Place) (finding : Bool) : Type 0 where
   pub trail : List Opening
-  pub audits : Audits root s t (due_in root e from) (before_end e (looked_between root from None)) (before_end e (read_between root from None)) trail
+  pub audits : Audits None root s t (due_in root e from) (before_end e (looked_between root from None)) (before_end e (read_between root from None)) trail
   pub last_is : last ≡ last_or from (due_in root e from)
-  pub wrote : Appends old new (text (items_at root trail (due_in root e from)))
-  pub found_is : finding ≡ found (items_at root trail (due_in root e from))
+  pub wrote : Appends old new (text (items_at None root trail (due_in root e from)))
+  pub found_is : finding ≡ found (items_at None root trail (due_in root e from))
 
 -- from s to t the items above from were taken up to last, and then there was a fault: of the next
 -- item before the end at most a proper beginning went out. Up to each of these items all
@@ -47,7 +47,7 @@ pub record Halts (root : StorageRoot) (e : End) (s t : Store) (old new : Option 
   pub trail : List Opening
   pub listed : List Place
   pub heads : List Place
-  pub fails : Fails root s t (done ++ begun) listed heads trail (stop_place why)
+  pub fails : Fails None root s t (done ++ begun) listed heads trail (stop_place why)
   pub listed_front : IsFront listed (before_end e (looked_between root from None))
   pub heads_front : IsFront heads (before_end e (read_between root from None))
   pub ahead : AreAhead listed (due_in root e last)
@@ -56,6 +56,6 @@ pub record Halts (root : StorageRoot) (e : End) (s t : Store) (old new : Option 
   pub one : IsFront begun (take 1 (due_in root e last))
   pub last_is : last ≡ last_or from done
   pub part : Text
-  pub wrote : Appends old new (text (items_at root trail done) ++ part)
-  pub part_of : PartOf why (text (items_at root trail (take 1 (due_in root e last)))) part
-  pub found_is : finding ≡ found (items_at root trail done)
+  pub wrote : Appends old new (text (items_at None root trail done) ++ part)
+  pub part_of : PartOf why (text (items_at None root trail (take 1 (due_in root e last)))) part
+  pub found_is : finding ≡ found (items_at None root trail done)

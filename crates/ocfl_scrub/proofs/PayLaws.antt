@@ -1,12 +1,16 @@
 -- A pass that is paid for, item by item, and its ends.
-use Rattle.std.proofs.Common.{◌≡◌, inl, inr, ℕ, ◌+◌, List, [], ◌∷◌, ◌++◌, refl, sym, ◌∙◌, ap, subst, true, false, Bool, Some, Option, append-nil, take, arith}
+use Rattle.std.proofs.Common.{◌≡◌, inl, inr, ℕ, ◌+◌, List, [], ◌∷◌, ◌++◌, refl, sym, ◌∙◌, ap, subst, true, false, Bool, Some, Option, append-nil, take, arith, None}
 use Rattle.std.specs.{Prelude.{◌||◌}, Io.KnownBytes.{Appends}}
 use Rattle.ocfl_tree.specs.{Place.{Place}, StorageRoot.{StorageRoot}, Store.{Store}}
 use Rattle.ocfl_tree.specs.declared.store.Opening.{Opening}
 use Rattle.ocfl_report.specs.{Line.{Item, found}, Text.{text}}
-use Rattle.ocfl_rules.specs.{Audit.{total_cost, given_by}, Lines.{cost, is_hashed}}
-use Rattle.ocfl_rules.specs.{Due.{due, items_at}, Between.{IsBeyond, looked_between, read_between}}
-use Rattle.ocfl_rules.specs.{Trail.{unread_of}, Runs.{Limits, files_of, total_files, may_take}}
+use Rattle.ocfl_rules.specs.Audit.{total_cost, given_by}
+use Rattle.ocfl_rules.specs.Inventories.{cost, is_hashed}
+use Rattle.ocfl_rules.specs.Due.{due, items_at}
+use Rattle.ocfl_rules.specs.Between.{IsBeyond, looked_between, read_between}
+use Rattle.ocfl_rules.specs.Trail.{unread_of}
+use Rattle.ocfl_rules.specs.Runs.{Limits, files_of, total_files, may_take}
+use Rattle.ocfl_rules.proofs.RunLaws.{cost_append, files_append}
 use Rattle.ocfl_item.specs.{Auditing.{Audits}}
 use Rattle.ocfl_item.specs.declared.fault.Fault.{Fault}
 use Rattle.ocfl_scrub.specs.Types.{ReportStop}
@@ -22,24 +26,23 @@ use Rattle.ocfl_scrub.proofs.CutLaws.{paid_append, test_paid, test_free, free_co
 use Rattle.ocfl_scrub.proofs.PassLaws.{no_items, halves, due_next, passes_none, passes_took, took_items, passes_missed, missed_items, next_is, passes_lost, walked_on, passes_finish, finished_items}
 use Rattle.ocfl_scrub.proofs.TakeLaws.{fault_other}
 use Rattle.ocfl_item.proofs.AuditingLaws.{audits_on}
-use Rattle.ocfl_rules.proofs.RunLaws.{cost_append, files_append}
 
 -- ---- what items cost
 
 -- a hashed item is paid for below both limits, and another is free
-pub payable : (root : StorageRoot) (p : Place) (l : Limits) (spent files : ℕ) (os : List Opening) → (is_hashed root p ≡ true → IsWithinBoth l spent files)
-    → Paid l spent files (items_at root os (p ∷ []))
+pub payable : (root : StorageRoot) (p : Place) (l : Limits) (spent files : ℕ) (os : List Opening) → (is_hashed None root p ≡ true → IsWithinBoth l spent files)
+    → Paid l spent files (items_at None root os (p ∷ []))
 unfolding items_at
-payable root p l spent files os h = (by (is_hashed root p) refl h, tt)
+payable root p l spent files os h = (by (is_hashed None root p) refl h, tt)
   where
-    by : (b : Bool) → is_hashed root p ≡ b → (b ≡ true → IsWithinBoth l spent files) → may_take l spent files (cost root (given_by (unread_of root os) p) p) ≡ true
+    by : (b : Bool) → is_hashed None root p ≡ b → (b ≡ true → IsWithinBoth l spent files) → may_take l spent files (cost None root (given_by (unread_of None root os) p) p) ≡ true
     by true e k = test_paid l spent files _ (k refl).0 (k refl).1
     by false e k = test_free l spent files _ (free_costs root _ p e)
 
-pub files_of_one : (root : StorageRoot) (p : Place) (os : List Opening) → total_files (items_at root os (p ∷ [])) ≡ files_of (total_cost (items_at root os (p ∷ [])))
+pub files_of_one : (root : StorageRoot) (p : Place) (os : List Opening) → total_files (items_at None root os (p ∷ [])) ≡ files_of (total_cost (items_at None root os (p ∷ [])))
 unfolding items_at
 files_of_one root p os =
-    let c : ℕ = cost root (given_by (unread_of root os) p) p in
+    let c : ℕ = cost None root (given_by (unread_of None root os) p) p in
     let e : files_of c + 0 ≡ files_of c = omega arith in
     let f : c ≡ c + 0 = omega arith in
     e ∙ ap files_of f
@@ -79,15 +82,15 @@ pays_none root end s old from l spent files over e f = record {
 
 module _ (root : StorageRoot) (end : End) (s t u : Store) (old mid : Option (List ℕ)) (from last : Option Place) (l : Limits) (spent files : ℕ)
     (finding : Bool) (low : HasGoneOn end from last) (h : Pays root end s t old mid from last l spent files finding) where
-  module _ (p : Place) (up : IsBeyond last p) (least : due root last ≡ p ∷ due root (Some p)) (in_front : is_past end p ≡ false) (w : Walks root t u last (Some p)) where
-    module _ (v : Store) (new : Option (List ℕ)) (may : is_hashed root p ≡ true → IsWithinBoth l spent files) where
+  module _ (p : Place) (up : IsBeyond last p) (least : due None root last ≡ p ∷ due None root (Some p)) (in_front : is_past end p ≡ false) (w : Walks root t u last (Some p)) where
+    module _ (v : Store) (new : Option (List ℕ)) (may : is_hashed None root p ≡ true → IsWithinBoth l spent files) where
       unfoldable pub pays_took : (cost charged started : ℕ) (more either : Bool) → Takes (call_of root u v mid new) p cost more → charged ≡ spent + cost
           → started ≡ files + files_of cost → either ≡ (finding || more)
           → Pays root end s v old new from (Some p) l charged started either
       unfolding passes_took
       pays_took cost charged started more either k e g f = record {
         passes = passes_took root end s t u old mid from last finding low h.passes p up least in_front w v new cost more either k f;
-        counts = counts_more l spent files cost charged started (items_at root h.passes.trail h.passes.done) (items_at root k.trail (p ∷ [])) _
+        counts = counts_more l spent files cost charged started (items_at None root h.passes.trail h.passes.done) (items_at None root k.trail (p ∷ [])) _
             (took_items root end s t u old mid from last finding low h.passes p up least in_front w v new cost more k) h.counts (payable root p l spent files k.trail may)
             k.cost_is (files_of_one root p k.trail ∙ ap files_of (sym k.cost_is)) e g;
       }
@@ -101,21 +104,21 @@ module _ (root : StorageRoot) (end : End) (s t u : Store) (old mid : Option (Lis
           record {
             halts = passes_missed root end s t u old mid from last finding low h.passes p up least in_front w v new why k;
             counts = counts_same l spent files _ _ (missed_items root end s t u old mid from last finding low h.passes p up least in_front w v new why k) h.counts;
-            next = inl (subst (λ ps. Paid l spent files (items_at root trail ps)) (sym one) (payable root p l spent files trail may));
+            next = inl (subst (λ ps. Paid l spent files (items_at None root trail ps)) (sym one) (payable root p l spent files trail may));
           }
 
     -- the item is not to be taken
-    unfoldable pub pays_up_to : is_hashed root p ≡ true → (IsWithinBoth l spent files → ⊥) → PaysUpTo root end s u old mid from last l spent files finding
+    unfoldable pub pays_up_to : is_hashed None root p ≡ true → (IsWithinBoth l spent files → ⊥) → PaysUpTo root end s u old mid from last l spent files finding
     pays_up_to hashed reached =
         let g = h.passes in
         let trail : List Opening = g.trail ++ w.trail in
-        let before : items_at root trail g.done ≡ items_at root g.trail g.done = walked_on root end s t u old mid from last finding low g w.trail w.audits.opened in
-        let joined = audits_on root s t u g.done [] _ _ _ _ g.trail w.trail g.audits w.audits in
+        let before : items_at None root trail g.done ≡ items_at None root g.trail g.done = walked_on root end s t u old mid from last finding low g w.trail w.audits.opened in
+        let joined = audits_on None root s t u g.done [] _ _ _ _ g.trail w.trail g.audits w.audits in
         record {
           next = p;
           done = g.done;
           trail = trail;
-          audits = subst (λ ps. Audits root s u ps (looked_between root from (Some p)) (read_between root from (Some p)) trail) (append-nil g.done)
+          audits = subst (λ ps. Audits None root s u ps (looked_between root from (Some p)) (read_between root from (Some p)) trail) (append-nil g.done)
               (audits_as (looked_next root end from last low p up) (read_next root end from last low p up) joined);
           due_are = halves root end s t u old mid from last finding low g ∙ ap (λ ps. g.done ++ ps) (due_next root end s t u old mid from last finding low g p up least in_front w u mid);
           in_front = in_front;

@@ -1,10 +1,12 @@
 -- A pass whose items are paid for, one after the other.
-use Rattle.std.specs.Prelude.{◌≡◌, ◌≢◌, ◌⊎◌, ◌<◌, ◌+◌, ℕ, List, [], ◌∷◌, ◌++◌, Bool, true, false, Option, Some, take, ⊤}
+use Rattle.std.specs.Prelude.{◌≡◌, ◌≢◌, ◌⊎◌, ◌<◌, ◌+◌, ℕ, List, [], ◌∷◌, ◌++◌, Bool, true, false, Option, Some, take, ⊤, None}
 use Rattle.std.specs.{Io.KnownBytes.{Appends}, List.{last_or}}
 use Rattle.ocfl_tree.specs.{Place.{Place}, StorageRoot.{StorageRoot}, Store.{Store}}
 use Rattle.ocfl_tree.specs.declared.store.Opening.{Opening}
 use Rattle.ocfl_report.specs.{Line.{Item, found}, Text.{text}}
-use Rattle.ocfl_rules.specs.{Audit.{total_cost}, Lines.{is_hashed}, Due.{items_at}}
+use Rattle.ocfl_rules.specs.Audit.{total_cost}
+use Rattle.ocfl_rules.specs.Inventories.{is_hashed}
+use Rattle.ocfl_rules.specs.Due.{items_at}
 use Rattle.ocfl_rules.specs.Between.{looked_between, read_between}
 use Rattle.ocfl_rules.specs.Runs.{Limits, files_of, total_files, may_take}
 use Rattle.ocfl_item.specs.{Auditing.{Audits}}
@@ -31,12 +33,12 @@ IsWithinBoth limits spent files = (spent < limits.budget) × (files < limits.fil
 -- from s to t the items above from were taken up to last, each whole and paid for
 pub record Pays (root : StorageRoot) (e : End) (s t : Store) (old new : Option (List ℕ)) (from last : Option Place) (limits : Limits) (spent files : ℕ) (finding : Bool) : Type 0 where
   pub passes : Passes root e s t old new from last finding
-  pub counts : Counts limits spent files (items_at root passes.trail passes.done)
+  pub counts : Counts limits spent files (items_at None root passes.trail passes.done)
 
 -- from s to t all of them before the end were
 pub record PaysAll (root : StorageRoot) (e : End) (s t : Store) (old new : Option (List ℕ)) (from last : Option Place) (limits : Limits) (spent files : ℕ) (finding : Bool) : Type 0 where
   pub finishes : Finishes root e s t old new from last finding
-  pub counts : Counts limits spent files (items_at root finishes.trail (due_in root e from))
+  pub counts : Counts limits spent files (items_at None root finishes.trail (due_in root e from))
 
 -- from s to t those before a hashed item were, at which a limit is reached; the walk has gone on to
 -- it
@@ -44,14 +46,14 @@ pub record PaysUpTo (root : StorageRoot) (e : End) (s t : Store) (old new : Opti
   pub next : Place
   pub done : List Place
   pub trail : List Opening
-  pub audits : Audits root s t done (looked_between root from (Some next)) (read_between root from (Some next)) trail
+  pub audits : Audits None root s t done (looked_between root from (Some next)) (read_between root from (Some next)) trail
   pub due_are : due_in root e from ≡ done ++ next ∷ due_in root e (Some next)
   pub in_front : is_past e next ≡ false
   pub last_is : last ≡ last_or from done
-  pub wrote : Appends old new (text (items_at root trail done))
-  pub found_is : finding ≡ found (items_at root trail done)
-  pub counts : Counts limits spent files (items_at root trail done)
-  pub hashed : is_hashed root next ≡ true
+  pub wrote : Appends old new (text (items_at None root trail done))
+  pub found_is : finding ≡ found (items_at None root trail done)
+  pub counts : Counts limits spent files (items_at None root trail done)
+  pub hashed : is_hashed None root next ≡ true
   pub reached : IsWithinBoth limits spent files → ⊥
 
 -- from s to t there was a fault after the last of them: the next one is paid for, or it was not
@@ -59,5 +61,5 @@ pub record PaysUpTo (root : StorageRoot) (e : End) (s t : Store) (old new : Opti
 pub record PaysHalting (root : StorageRoot) (e : End) (s t : Store) (old new : Option (List ℕ)) (from last : Option Place) (limits : Limits)
     (spent files : ℕ) (finding : Bool) (why : ReportStop) : Type 0 where
   pub halts : Halts root e s t old new from last finding why
-  pub counts : Counts limits spent files (items_at root halts.trail halts.done)
-  pub next : Paid limits spent files (items_at root halts.trail (take 1 (due_in root e last))) ⊎ ((why ≢ halt.Output) × (halts.begun ≡ []))
+  pub counts : Counts limits spent files (items_at None root halts.trail halts.done)
+  pub next : Paid limits spent files (items_at None root halts.trail (take 1 (due_in root e last))) ⊎ ((why ≢ halt.Output) × (halts.begun ≡ []))

@@ -146,7 +146,7 @@ module _ {Begins : Cursor → Type 0} {text_of : Cursor → Text} {limits : Limi
 -- a whole root that was audited, as it is said
 pub audit_performed : (call : Call) (known : Option (Option Text)) (d : Deed) (status status' : ℕ) (n n' : Note) (stored : Option (Vec ℕ Global))
     → d ≡ deed.Audit → status ≡ status' → n ≡ n' → AuditsWithNote (λ ran. IsAuditNote ran.found ran.end status' n') call whole
-    → (n' ≡ note.Nothing → IsUnfailing call → Writes call (text (audit call.root [])) × (status' ≡ status_of (found (audit call.root []))))
+    → (n' ≡ note.Nothing → IsUnfailing call → Writes call (text (audit None call.root [])) × (status' ≡ status_of (found (audit None call.root []))))
     → Performs call known d status n stored
 audit_performed call known d status status' n n' stored e s m audits clean = rw (e, s, m) (record { audits = audits; clean = clean })
 

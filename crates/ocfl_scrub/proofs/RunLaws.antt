@@ -7,8 +7,12 @@ use Rattle.ocfl_tree.specs.{StorageRoot.{StorageRoot}, Store.{Store}}
 use Rattle.ocfl_tree.specs.declared.store.Opening.{Opening}
 use Rattle.ocfl_tree.proofs.Orders.{among_right}
 use Rattle.ocfl_report.specs.{Line.{Item, found}, Text.{text}}
-use Rattle.ocfl_rules.specs.{Audit.{audit, after, total_cost, given_by}, Lines.{is_empty, is_hashed}}
-use Rattle.ocfl_rules.specs.{Due.{items_at}, Between.{IsWithin}, Parts.{Part, within}}
+use Rattle.ocfl_rules.specs.Audit.{audit, after, total_cost, given_by}
+use Rattle.ocfl_rules.specs.Lines.{is_empty}
+use Rattle.ocfl_rules.specs.Inventories.{is_hashed}
+use Rattle.ocfl_rules.specs.Due.{items_at}
+use Rattle.ocfl_rules.specs.Between.{IsWithin}
+use Rattle.ocfl_rules.specs.Parts.{Part, within}
 use Rattle.ocfl_rules.specs.Trail.{unread_of}
 use Rattle.ocfl_rules.specs.Runs.{Limits, files_of, total_files, cut_len, cut, left}
 use Rattle.ocfl_cursor.specs.{Cursor.{State, Cursor, IsShortPlace, IsCursor}, Moves.{after_run}}
@@ -36,21 +40,21 @@ use Rattle.ocfl_scrub.proofs.CutLaws.{IsStop, paid_begins, cut_of_paid, left_of_
 
 -- ---- where a cut ends
 
-nothing_stops : (root : StorageRoot) (os : List Opening) (l : Limits) (spent files : ℕ) → IsStop l spent files (items_at root os [])
+nothing_stops : (root : StorageRoot) (os : List Opening) (l : Limits) (spent files : ℕ) → IsStop l spent files (items_at None root os [])
 unfolding items_at
 nothing_stops root os l spent files = tt
 
 -- the limits do not pay what is next, whatever could be read
-unpaid_stops : (root : StorageRoot) (os : List Opening) (l : Limits) (spent files : ℕ) (p : Place) (ps : List Place) → is_hashed root p ≡ true
-    → (IsWithinBoth l spent files → ⊥) → IsStop l spent files (items_at root os (p ∷ ps))
+unpaid_stops : (root : StorageRoot) (os : List Opening) (l : Limits) (spent files : ℕ) (p : Place) (ps : List Place) → is_hashed None root p ≡ true
+    → (IsWithinBoth l spent files → ⊥) → IsStop l spent files (items_at None root os (p ∷ ps))
 unfolding items_at
-unpaid_stops root os l spent files p ps h k = test_unpaid l spent files _ (hashed_costs root (given_by (unread_of root os) p) p h) k
+unpaid_stops root os l spent files p ps h k = test_unpaid l spent files _ (hashed_costs root (given_by (unread_of None root os) p) p h) k
 
-none_first : (root : StorageRoot) (os : List Opening) → None ≡ slice_get (places (items_at root os [])) 0
+none_first : (root : StorageRoot) (os : List Opening) → None ≡ slice_get (places (items_at None root os [])) 0
 unfolding items_at
 none_first root os = refl
 
-some_first : (root : StorageRoot) (os : List Opening) (p : Place) (ps : List Place) → Some p ≡ slice_get (places (items_at root os (p ∷ ps))) 0
+some_first : (root : StorageRoot) (os : List Opening) (p : Place) (ps : List Place) → Some p ≡ slice_get (places (items_at None root os (p ∷ ps))) 0
 unfolding items_at
 some_first root os p ps = refl
 
@@ -66,8 +70,8 @@ no_part why other whole part h = h.is ∙ ap (λ n. take n whole) (h.none other)
 
 -- what was begun and written of the next item is a beginning of the first that the cut has left
 ends_at : (root : StorageRoot) (os : List Opening) (why : ReportStop) (begun : List Place) (part : Text) (nexts : List Place) (first : List Item)
-    → (first ≡ items_at root os nexts) ⊎ ((why ≢ Output) × (begun ≡ []))
-    → IsFront begun nexts → PartOf why (text (items_at root os nexts)) part → IsFront begun (places first) × PartOf why (text first) part
+    → (first ≡ items_at None root os nexts) ⊎ ((why ≢ Output) × (begun ≡ []))
+    → IsFront begun nexts → PartOf why (text (items_at None root os nexts)) part → IsFront begun (places first) × PartOf why (text first) part
 ends_at root os why begun part nexts first (inl e) one h =
     (subst (IsFront begun) (sym (places_of_items root os nexts) ∙ ap places (sym e)) one, subst (λ is. PartOf why (text is) part) (sym e) h)
 ends_at root os why begun part nexts first (inr (other, none)) one h =
@@ -82,25 +86,25 @@ next_of (inr c) f = inr c
 module _ (root : StorageRoot) (part : Part) (s t u : Store) (old new : Option (List ℕ)) (from stood last : Option Place) (l : Limits)
     (spent files : ℕ) (finding : Bool) (g : GoesDown root s t (entry part from)) where
   module _ (os : List Opening) (done later : List Place) (due_are : due_in root (end_of part) (stand root part from) ≡ done ++ later) where
-    are : items_in root (g.trail ++ os) part from ≡ items_at root os done ++ items_at root os later
+    are : items_in root (g.trail ++ os) part from ≡ items_at None root os done ++ items_at None root os later
     are = above_are root part s t from g os done later due_are
 
-    module _ (counts : Counts l spent files (items_at root os done)) where
-      module _ (next : Option Place) (stop : IsStop l spent files (items_at root os later)) where
-        stop_there : IsStop l (total_cost (items_at root os done)) (total_files (items_at root os done)) (items_at root os later)
+    module _ (counts : Counts l spent files (items_at None root os done)) where
+      module _ (next : Option Place) (stop : IsStop l spent files (items_at None root os later)) where
+        stop_there : IsStop l (total_cost (items_at None root os done)) (total_files (items_at None root os done)) (items_at None root os later)
         stop_there =
-            subst (λ n. IsStop l n (total_files (items_at root os done)) (items_at root os later)) counts.spent_is
-            (subst (λ n. IsStop l spent n (items_at root os later)) counts.files_is stop)
+            subst (λ n. IsStop l n (total_files (items_at None root os done)) (items_at None root os later)) counts.spent_is
+            (subst (λ n. IsStop l spent n (items_at None root os later)) counts.files_is stop)
 
-        taken_are : taken_in root (g.trail ++ os) part from l ≡ items_at root os done
+        taken_are : taken_in root (g.trail ++ os) part from l ≡ items_at None root os done
         taken_are = ap (λ is. cut is l) are ∙ cut_of_paid l _ _ counts.paid stop_there
 
-        rest_are : left (items_in root (g.trail ++ os) part from) l ≡ items_at root os later
+        rest_are : left (items_in root (g.trail ++ os) part from) l ≡ items_at None root os later
         rest_are = ap (λ is. left is l) are ∙ left_of_paid l _ _ counts.paid stop_there
 
-        runs_of : next ≡ slice_get (places (items_at root os later)) 0 → ((p d : Place) → IsBeforeAll place_cmp p later → is_lt (place_cmp p d) ≡ false → IsWithin next d)
-            → Audits root t u done (looked_in root part from next) (read_in root part from next) os
-            → Appends old new (text (items_at root os done)) → finding ≡ found (items_at root os done) → last ≡ last_or from done
+        runs_of : next ≡ slice_get (places (items_at None root os later)) 0 → ((p d : Place) → IsBeforeAll place_cmp p later → is_lt (place_cmp p d) ≡ false → IsWithin next d)
+            → Audits None root t u done (looked_in root part from next) (read_in root part from next) os
+            → Appends old new (text (items_at None root os done)) → finding ≡ found (items_at None root os done) → last ≡ last_or from done
             → RunsWithin (call_of root s u old new) part from last l spent files finding next
         runs_of next_is far k wrote found_is last_is =
             let at_places : places (taken_in root (g.trail ++ os) part from l) ≡ done = ap places taken_are ∙ places_of_items root os done in
@@ -139,14 +143,14 @@ module _ (root : StorageRoot) (part : Part) (s t u : Store) (old new : Option (L
       let k = h.halts in
       let trail : List Opening = g.trail ++ k.trail in
       let due_left : List Place = due_in root (end_of part) stood in
-      let whole : List Item = items_at root k.trail k.done in
-      let later : List Item = items_at root k.trail due_left in
+      let whole : List Item = items_at None root k.trail k.done in
+      let later : List Item = items_at None root k.trail due_left in
       let others : List Item = take (cut_len l (0 + total_cost whole) (0 + total_files whole) later) later in
       let whole_places : k.done ≡ places whole = sym (places_of_items root k.trail k.done) in
-      let next_item : take 1 later ≡ items_at root k.trail (take 1 due_left) = take_items root k.trail 1 due_left in
+      let next_item : take 1 later ≡ items_at None root k.trail (take 1 due_left) = take_items root k.trail 1 due_left in
       let c = h.counts.spent_is in
       let f = h.counts.files_is in
-      let first : Paid l spent files (items_at root k.trail (take 1 due_left)) → take 1 others ≡ items_at root k.trail (take 1 due_left) = λ p.
+      let first : Paid l spent files (items_at None root k.trail (take 1 due_left)) → take 1 others ≡ items_at None root k.trail (take 1 due_left) = λ p.
       first_taken l (0 + total_cost whole) (0 + total_files whole) later
       (subst (λ n. Paid l n (0 + total_files whole) (take 1 later)) (let z : spent ≡ 0 + total_cost whole = omega (arith, c) in z)
       (subst (λ n. Paid l spent n (take 1 later)) (let z : files ≡ 0 + total_files whole = omega (arith, f) in z) (subst (Paid l spent files) (sym next_item) p)))
@@ -216,22 +220,22 @@ a_first (i ∷ items) p e f = cc
 
 module _ (root : StorageRoot) (part : Part) (s t : Store) (old new : Option (List ℕ)) (c : Cursor) (last : Option Place) (l : Limits)
     (spent files : ℕ) (finding : Bool) (same : t.failures ≡ s.failures) where
-  all_read : (next : Option Place) (h : RunsWithin (call_of root s t old new) part (place_in c.state) last l spent files finding next) → unread_of root h.trail ≡ []
-  all_read next h = none_left (unread_of root h.trail) s.failures (sym same ∙ h.looks.audits.did.failures_are)
+  all_read : (next : Option Place) (h : RunsWithin (call_of root s t old new) part (place_in c.state) last l spent files finding next) → unread_of None root h.trail ≡ []
+  all_read next h = none_left (unread_of None root h.trail) s.failures (sym same ∙ h.looks.audits.did.failures_are)
 
   cleanly : (next : Option Place) → RunsWithin (call_of root s t old new) part (place_in c.state) last l spent files finding next
       → RunsCleanWithin (call_of root s t old new) part (place_in c.state) l spent files finding
   cleanly next h =
       let e = all_read next h in
       record {
-        wrote = subst (λ u. Appends old new (text (cut (after (within part (audit root u)) (place_in c.state)) l))) e h.wrote;
-        figures = subst (λ u. Figures (cut (after (within part (audit root u)) (place_in c.state)) l) spent files finding) e h.figures;
+        wrote = subst (λ u. Appends old new (text (cut (after (within part (audit None root u)) (place_in c.state)) l))) e h.wrote;
+        figures = subst (λ u. Figures (cut (after (within part (audit None root u)) (place_in c.state)) l) spent files finding) e h.figures;
       }
 
   pub runs_cleanly : (end : RunStatus) → RunEndsWithin (call_of root s t old new) part (place_in c.state) last l spent files finding end
       → RunsCleanlyWithin (call_of root s t old new) part c l spent files finding end
-  runs_cleanly Ended h = (cleanly None h, subst (λ u. left (after (within part (audit root u)) (place_in c.state)) l ≡ []) (all_read None h) (no_first _ h.next_is))
-  runs_cleanly Spent h = (cleanly (Some h.0) h.1, subst (λ u. left (after (within part (audit root u)) (place_in c.state)) l ≢ []) (all_read (Some h.0) h.1) (a_first _ h.0 h.1.next_is))
+  runs_cleanly Ended h = (cleanly None h, subst (λ u. left (after (within part (audit None root u)) (place_in c.state)) l ≡ []) (all_read None h) (no_first _ h.next_is))
+  runs_cleanly Spent h = (cleanly (Some h.0) h.1, subst (λ u. left (after (within part (audit None root u)) (place_in c.state)) l ≢ []) (all_read (Some h.0) h.1) (a_first _ h.0 h.1.next_is))
   runs_cleanly (Stopped why) h = tt
   runs_cleanly Worn h = tt
 

@@ -2,7 +2,10 @@
 use Rattle.std.proofs.Common.{◌≡◌, ℕ, ◌+◌, List, refl, sym, ◌∙◌, ap, subst, true, false, Bool, Some, None, Option}
 use Rattle.std.specs.{Prelude.{◌||◌}, List.{last_or}}
 use Rattle.ocfl_tree.specs.{Place.{Place}, StorageRoot.{StorageRoot}, Store.{Store}}
-use Rattle.ocfl_rules.specs.{Due.{due}, Lines.{is_hashed}, Parts.{Part}, Runs.{Limits, files_of}}
+use Rattle.ocfl_rules.specs.Due.{due}
+use Rattle.ocfl_rules.specs.Inventories.{is_hashed}
+use Rattle.ocfl_rules.specs.Parts.{Part}
+use Rattle.ocfl_rules.specs.Runs.{Limits, files_of}
 use Rattle.ocfl_cursor.specs.Meter.{Meter, MayStart}
 use Rattle.ocfl_cursor.specs.declared.limits.Limits.{Limits as MadeLimits}
 use Rattle.ocfl_walk.specs.{Ends.{is_past}, WalkCalls.{GoesDown, FailsOut}}
@@ -85,7 +88,7 @@ unfolding nothing_paid passes_none pays_none
 met_first root part s t old m from l spent files e f h = record {
   there = h.begun;
   paid = nothing_paid root part s h.begun old from l spent files e f h.down;
-  item = record { gives = h.gives; above = due_beyond root (stand root part from) m.item.place (due root (Some m.item.place)) h.gives.3; in_front = h.in_front };
+  item = record { gives = h.gives; above = due_beyond root (stand root part from) m.item.place (due None root (Some m.item.place)) h.gives.3; in_front = h.in_front };
 }
 
 module _ {root : StorageRoot} {s t : Store} {old mid : Option (List ℕ)} {walk : Walk} {from last : Option Place} {l : Limits} {spent files : ℕ} {finding : Bool} (part : Part)
@@ -111,12 +114,12 @@ module _ {root : StorageRoot} {s t : Store} {old mid : Option (List ℕ)} {walk 
   run_meets next q gives before = record {
     there = t;
     paid = h.paid;
-    item = record { gives = gives; above = due_beyond root h.paid.stood q.place (due root (Some q.place)) gives.3; in_front = before };
+    item = record { gives = gives; above = due_beyond root h.paid.stood q.place (due None root (Some q.place)) gives.3; in_front = before };
   }
 
 module _ {root : StorageRoot} {s u : Store} {old mid : Option (List ℕ)} {walk : Walk} {q : Pending} {from last : Option Place} {l : Limits} {spent files : ℕ} {finding : Bool} (part : Part)
     (h : HasMet root part s u old mid walk q from last l spent files finding) where
-  hashed_too : {P : Type 0} → (q.hashed ≡ true → P) → is_hashed root q.place ≡ true → P
+  hashed_too : {P : Type 0} → (q.hashed ≡ true → P) → is_hashed None root q.place ≡ true → P
   hashed_too f e = f (h.item.gives.2.hashed ∙ e)
 
   pub run_spent : q.hashed ≡ true → (IsWithinBoth l spent files → ⊥) → (p : Place) × RunsWithin (call_of root s u old mid) part from last l spent files finding (Some p)

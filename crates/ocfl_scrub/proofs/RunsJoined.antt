@@ -7,11 +7,15 @@ use Rattle.ocfl_tree.specs.{Place.{Text, Place, place_cmp}, Ascending.{IsAscendi
 use Rattle.ocfl_tree.specs.{StorageRoot.{StorageRoot}, Store.{Store}}
 use Rattle.ocfl_tree.specs.declared.store.Opening.{Opening}
 use Rattle.ocfl_report.specs.{Line.{Item, found}, Text.{text}}
-use Rattle.ocfl_rules.specs.{Audit.{total_cost}, Lines.{is_empty, is_hashed}}
+use Rattle.ocfl_rules.specs.Audit.{total_cost}
+use Rattle.ocfl_rules.specs.Lines.{is_empty}
+use Rattle.ocfl_rules.specs.Inventories.{is_hashed}
 use Rattle.ocfl_rules.specs.Trail.{content_trail, reads_inventory}
 use Rattle.ocfl_rules.specs.Zone.{Zone, skipped, hierarchy, inside, zone}
-use Rattle.ocfl_rules.specs.{Due.{items_at, hashed_among}, Parts.{Part}}
+use Rattle.ocfl_rules.specs.Due.{items_at, hashed_among}
+use Rattle.ocfl_rules.specs.Parts.{Part}
 use Rattle.ocfl_rules.specs.Runs.{Limits, total_files, cut, left, runs, runs_after, joined}
+use Rattle.ocfl_rules.proofs.RunLaws.{cost_append, files_append}
 use Rattle.ocfl_item.specs.{Looking.{IsFront}, Auditing.{Fails}}
 use Rattle.ocfl_scrub.specs.Types.{ReportStop}
 use Rattle.ocfl_item.specs.declared.fault.Fault.TheVariants.{Memory}
@@ -32,7 +36,6 @@ use Rattle.ocfl_scrub.proofs.WayOrder.{held_in}
 use Rattle.ocfl_scrub.proofs.RunPlaces.{Took, Turn, front_is, rest_is, due_parts, front_length}
 use Rattle.ocfl_item.proofs.AuditingLaws.{audits_fail, audits_nothing, audits_on}
 use Rattle.ocfl_item.proofs.AuditingLaws.{fails_nothing}
-use Rattle.ocfl_rules.proofs.RunLaws.{cost_append, files_append}
 
 -- ---- some runs
 
@@ -46,8 +49,8 @@ pub record ReadFew (root : StorageRoot) (part : Part) (from : Option Place) (hea
 pub record Parts (root : StorageRoot) (part : Part) (s t : Store) (old new : Option (List ℕ)) (from last : Option Place) (limits : List Limits)
     (spent files : ℕ) (finding : Bool) (count : ℕ) (ended : Bool) : Type 0 where
   pub took : Took root part s t old new from last spent files finding
-  pub runs_are : joined (runs (items_at root took.trail (due_within root part from)) limits) ≡ items_at root took.trail took.done
-  pub count_is : count ≡ length (runs (items_at root took.trail (due_within root part from)) limits)
+  pub runs_are : joined (runs (items_at None root took.trail (due_within root part from)) limits) ≡ items_at None root took.trail took.done
+  pub count_is : count ≡ length (runs (items_at None root took.trail (due_within root part from)) limits)
   pub read : ReadFew root part from took.heads count
   pub ended_is : ended ≡ is_empty (due_within root part last)
   pub made : ended ≡ true → 1 ≤ count
@@ -61,17 +64,17 @@ pub record PartsStop (root : StorageRoot) (part : Part) (s t : Store) (old new :
   pub others : List Item
   pub listed : List Place
   pub heads : List Place
-  pub fails : Fails root s t (done ++ begun) listed heads trail (stop_place why)
+  pub fails : Fails None root s t (done ++ begun) listed heads trail (stop_place why)
   pub first_due : IsFront (done ++ begun) (due_within root part from)
   pub last_is : last ≡ last_or from done
-  pub runs_begin : joined (take count (runs (items_at root trail (due_within root part from)) limits)) ≡ items_at root trail done ++ others
-  pub runs_before : IsFront (joined (take (count - 1) (runs (items_at root trail (due_within root part from)) limits))) (items_at root trail done)
+  pub runs_begin : joined (take count (runs (items_at None root trail (due_within root part from)) limits)) ≡ items_at None root trail done ++ others
+  pub runs_before : IsFront (joined (take (count - 1) (runs (items_at None root trail (due_within root part from)) limits))) (items_at None root trail done)
   pub one : IsFront begun (places (take 1 others))
   pub gone : Text
-  pub wrote : Appends old new (text (items_at root trail done) ++ gone)
+  pub wrote : Appends old new (text (items_at None root trail done) ++ gone)
   pub part_of : PartOf why (text (take 1 others)) gone
-  pub count_fits : count ≤ length (runs (items_at root trail (due_within root part from)) limits)
-  pub figures : Figures (items_at root trail done) spent files finding
+  pub count_fits : count ≤ length (runs (items_at None root trail (due_within root part from)) limits)
+  pub figures : Figures (items_at None root trail done) spent files finding
   pub read : ReadFew root part from heads count
 
 abbrev pub PartsEnd : StorageRoot → Part → Store → Store → Option (List ℕ) → Option (List ℕ) → Option Place → Option Place → List Limits → ℕ → ℕ → Bool → ℕ → CycleStatus → Type 0
@@ -89,7 +92,7 @@ none_empty : (ps : List Place) → ps ≡ [] → is_empty ps ≡ true
 none_empty [] h = refl
 none_empty (p ∷ ps) h = absurd cc
 
-some_items : (root : StorageRoot) (os : List Opening) (p : Place) (ps : List Place) → is_empty (items_at root os (p ∷ ps)) ≡ false
+some_items : (root : StorageRoot) (os : List Opening) (p : Place) (ps : List Place) → is_empty (items_at None root os (p ∷ ps)) ≡ false
 unfolding items_at
 some_items root os p ps = refl
 
@@ -145,7 +148,7 @@ parts_none root part s old last over some = record {
     trail = [];
     listed = [];
     heads = [];
-    audits = audits_nothing root s over;
+    audits = audits_nothing None root s over;
     due_are = refl;
     last_is = refl;
     wrote = Appends-nil old;
@@ -163,7 +166,7 @@ pub parts_unbegun : (root : StorageRoot) (part : Part) (s : Store) (old : Option
     → PartsStop root part s s old old last last limits 0 0 false 0 (halt.Fault Memory)
 unfolding items_at
 parts_unbegun root part s old last limits over =
-    let all : List (List Item) = runs (items_at root [] (due_within root part last)) limits in
+    let all : List (List Item) = runs (items_at None root [] (due_within root part last)) limits in
     record {
       done = [];
       begun = [];
@@ -171,7 +174,7 @@ parts_unbegun root part s old last limits over =
       others = [];
       listed = [];
       heads = [];
-      fails = fails_nothing root s over;
+      fails = fails_nothing None root s over;
       first_due = (due_within root part last, refl);
       last_is = refl;
       runs_begin = joined_none all;
@@ -196,14 +199,14 @@ module _ (root : StorageRoot) (part : Part) (s t : Store) (old mid : Option (Lis
   pub parts_ended : Turn root part s t old mid from mid_last l spent files finding None → Parts root part s t old mid from mid_last (l ∷ ls) spent files finding 1 true
   parts_ended h =
       let none : due_within root part mid_last ≡ [] = first_none (due_within root part mid_last) h.next_is in
-      let split : items_at root h.took.trail (due_within root part from) ≡ items_at root h.took.trail h.took.done ++ items_at root h.took.trail
-      (due_within root part mid_last) = ap (items_at root h.took.trail) h.took.due_are ∙ items_append root h.took.trail h.took.done (due_within root part mid_last) in
-      let is_cut : cut (items_at root h.took.trail (due_within root part from)) l ≡ items_at root h.took.trail h.took.done = ap (λ is. cut is l) split ∙ cut_of_paid l _ _ h.paid h.stops in
-      let is_left : left (items_at root h.took.trail (due_within root part from)) l ≡ [] =
-      ap (λ is. left is l) split ∙ left_of_paid l _ _ h.paid h.stops ∙ ap (items_at root h.took.trail) none ∙ no_items root h.took.trail in
-      let are : runs (items_at root h.took.trail (due_within root part from)) (l ∷ ls) ≡ cut (items_at root h.took.trail (due_within root part from)) l ∷ [] =
-      ap (λ xs. cut (items_at root h.took.trail (due_within root part from)) l ∷ runs_after ls xs) is_left ∙ ap
-      (λ xs. cut (items_at root h.took.trail (due_within root part from)) l ∷ xs) (runs_end ls) in
+      let split : items_at None root h.took.trail (due_within root part from) ≡ items_at None root h.took.trail h.took.done ++ items_at None root h.took.trail
+      (due_within root part mid_last) = ap (items_at None root h.took.trail) h.took.due_are ∙ items_append root h.took.trail h.took.done (due_within root part mid_last) in
+      let is_cut : cut (items_at None root h.took.trail (due_within root part from)) l ≡ items_at None root h.took.trail h.took.done = ap (λ is. cut is l) split ∙ cut_of_paid l _ _ h.paid h.stops in
+      let is_left : left (items_at None root h.took.trail (due_within root part from)) l ≡ [] =
+      ap (λ is. left is l) split ∙ left_of_paid l _ _ h.paid h.stops ∙ ap (items_at None root h.took.trail) none ∙ no_items root h.took.trail in
+      let are : runs (items_at None root h.took.trail (due_within root part from)) (l ∷ ls) ≡ cut (items_at None root h.took.trail (due_within root part from)) l ∷ [] =
+      ap (λ xs. cut (items_at None root h.took.trail (due_within root part from)) l ∷ runs_after ls xs) is_left ∙ ap
+      (λ xs. cut (items_at None root h.took.trail (due_within root part from)) l ∷ xs) (runs_end ls) in
       record {
         took = h.took;
         runs_are = ap joined are ∙ append-nil _ ∙ is_cut;
@@ -220,11 +223,11 @@ module _ (root : StorageRoot) (part : Part) (s t : Store) (old mid : Option (Lis
       let w = h.stops in
       let above : List Item = items_in root h.trail part from in
       let left_items : List Item = left (items_in root h.trail part from) l in
-      let later : List (List Item) = runs_after ls (left (items_at root h.trail (due_within root part from)) l) in
+      let later : List (List Item) = runs_after ls (left (items_at None root h.trail (due_within root part from)) l) in
       let split : above ≡ w.whole ++ (w.others ++ left_items) =
       sym (cut_and_left above l) ∙ ap (λ is. is ++ left_items) w.items_are ∙ append_assoc w.whole w.others left_items in
       let done : List Place = places w.whole in
-      let done_is : w.whole ≡ items_at root h.trail done = sym (front_is root part h.trail from w.whole (w.others ++ left_items) split) in
+      let done_is : w.whole ≡ items_at None root h.trail done = sym (front_is root part h.trail from w.whole (w.others ++ left_items) split) in
       let next_is : due_within root part (last_or from done) ≡ places (w.others ++ left_items) =
       sym (places_of_items root h.trail (due_within root part (last_or from done))) ∙ ap places (rest_is root part h.trail from w.whole (w.others ++ left_items) split) in
       let first : places w.others ≡ w.begun ++ (w.one.0 ++ places (drop 1 w.others)) =
@@ -244,7 +247,7 @@ module _ (root : StorageRoot) (part : Part) (s t : Store) (old mid : Option (Lis
         first_due = (behind, due_parts root part h.trail from w.whole (w.others ++ left_items) split ∙ ap (λ ps. done ++ ps) next_begun ∙ sym (append_assoc done w.begun behind));
         last_is = w.last_is;
         runs_begin = joined_one _ later ∙ ap (λ is. cut is l) (sym (above_in root part from h.trail)) ∙ w.items_are ∙ ap (λ is. is ++ w.others) done_is;
-        runs_before = front_none (cut (items_at root h.trail (due_within root part from)) l ∷ later) (items_at root h.trail done);
+        runs_before = front_none (cut (items_at None root h.trail (due_within root part from)) l ∷ later) (items_at None root h.trail done);
         one = w.one;
         gone = w.part;
         wrote = subst (λ is. Appends old mid (text is ++ w.part)) done_is w.wrote;
@@ -290,18 +293,18 @@ module _ (root : StorageRoot) (part : Part) (s t : Store) (old mid : Option (Lis
   pub record IsNext : Type 0 where
     pub behind : List Place
     pub due_is : due_within root part mid_last ≡ next ∷ behind
-    pub hashed : is_hashed root next ≡ true
+    pub hashed : is_hashed None root next ≡ true
 
   pub next_there : IsNext
   next_there =
-      let spent_here : ℕ = total_cost (items_at root h.took.trail h.took.done) in
-      let opened_here : ℕ = total_files (items_at root h.took.trail h.took.done) in
+      let spent_here : ℕ = total_cost (items_at None root h.took.trail h.took.done) in
+      let opened_here : ℕ = total_files (items_at None root h.took.trail h.took.done) in
       let first = first_some next (due_within root part mid_last) h.next_is in
       record {
         behind = first.0;
         due_is = first.1;
         hashed =
-            stop_hashed root h.took.trail l spent_here opened_here next first.0 (subst (λ qs. IsStop l spent_here opened_here (items_at root h.took.trail qs)) first.1 h.stops);
+            stop_hashed root h.took.trail l spent_here opened_here next first.0 (subst (λ qs. IsStop l spent_here opened_here (items_at None root h.took.trail qs)) first.1 h.stops);
       }
 
   pub next_some : is_empty (due_within root part mid_last) ≡ false
@@ -329,24 +332,24 @@ module _ (root : StorageRoot) (part : Part) (s t : Store) (old mid : Option (Lis
   module _ (u : Store) (new : Option (List ℕ)) (last : Option Place) (spent' files' : ℕ) (finding' : Bool) (count : ℕ) where
     -- at a trail that goes on over places that follow, the runs are the first cut and those of the
     -- rest
-    runs_then : (os : List Opening) (ps rest : List Place) → content_trail root os ≡ hashed_among root ps → due_within root part mid_last ≡ ps ++ rest
-        → runs (items_at root (h.took.trail ++ os) (due_within root part from)) (l ∷ ls) ≡ items_at root h.took.trail h.took.done ∷ runs (items_at root os (due_within root part mid_last)) ls
+    runs_then : (os : List Opening) (ps rest : List Place) → content_trail None root os ≡ hashed_among None root ps → due_within root part mid_last ≡ ps ++ rest
+        → runs (items_at None root (h.took.trail ++ os) (due_within root part from)) (l ∷ ls) ≡ items_at None root h.took.trail h.took.done ∷ runs (items_at None root os (due_within root part mid_last)) ls
     runs_then os ps rest opened is =
         let up : IsAscending place_cmp (h.took.done ++ due_within root part mid_last) = subst (IsAscending place_cmp) h.took.due_are (due_within_ascends root part from) in
         let up_front : IsAscending place_cmp (h.took.done ++ ps) =
         ascends_left place_cmp (h.took.done ++ ps) rest (subst (IsAscending place_cmp) (ap (λ qs. h.took.done ++ qs) is ∙ sym (append_assoc h.took.done ps rest)) up) in
-        let first : items_at root (h.took.trail ++ os) h.took.done ≡ items_at root h.took.trail h.took.done = items_before root h.took.trail os h.took.done ps up_front opened in
-        let then : items_at root (h.took.trail ++ os) (due_within root part mid_last) ≡ items_at root os (due_within root part mid_last) =
+        let first : items_at None root (h.took.trail ++ os) h.took.done ≡ items_at None root h.took.trail h.took.done = items_before root h.took.trail os h.took.done ps up_front opened in
+        let then : items_at None root (h.took.trail ++ os) (due_within root part mid_last) ≡ items_at None root os (due_within root part mid_last) =
         items_behind root h.took.trail os h.took.done (due_within root part mid_last) up h.took.audits.opened in
-        let split : items_at root (h.took.trail ++ os) (due_within root part from) ≡ items_at root h.took.trail h.took.done ++ items_at root os (due_within root part mid_last) =
-        ap (items_at root (h.took.trail ++ os)) h.took.due_are ∙ items_append root (h.took.trail ++ os) h.took.done (due_within root part mid_last)
-        ∙ ap (λ is. is ++ items_at root (h.took.trail ++ os) (due_within root part mid_last)) first ∙ ap (λ is. items_at root h.took.trail h.took.done ++ is) then in
+        let split : items_at None root (h.took.trail ++ os) (due_within root part from) ≡ items_at None root h.took.trail h.took.done ++ items_at None root os (due_within root part mid_last) =
+        ap (items_at None root (h.took.trail ++ os)) h.took.due_are ∙ items_append root (h.took.trail ++ os) h.took.done (due_within root part mid_last)
+        ∙ ap (λ is. is ++ items_at None root (h.took.trail ++ os) (due_within root part mid_last)) first ∙ ap (λ is. items_at None root h.took.trail h.took.done ++ is) then in
         let stop = stop_alike root h.took.trail os l _ _ (due_within root part mid_last) h.stops in
-        let some : is_empty (items_at root os (due_within root part mid_last)) ≡ false = ap (λ qs. is_empty (items_at root os qs)) next_there.due_is ∙ some_items root os next next_there.behind in
+        let some : is_empty (items_at None root os (due_within root part mid_last)) ≡ false = ap (λ qs. is_empty (items_at None root os qs)) next_there.due_is ∙ some_items root os next next_there.behind in
         ap (λ is. runs is (l ∷ ls)) split
-        ∙ ap (λ xs. xs ∷ runs_after ls (left (items_at root h.took.trail h.took.done ++ items_at root os (due_within root part mid_last)) l)) (cut_of_paid l _ _ h.paid stop)
-        ∙ ap (λ xs. items_at root h.took.trail h.took.done ∷ runs_after ls xs) (left_of_paid l _ _ h.paid stop)
-        ∙ ap (λ xs. items_at root h.took.trail h.took.done ∷ xs) (runs_go_on (items_at root os (due_within root part mid_last)) ls some)
+        ∙ ap (λ xs. xs ∷ runs_after ls (left (items_at None root h.took.trail h.took.done ++ items_at None root os (due_within root part mid_last)) l)) (cut_of_paid l _ _ h.paid stop)
+        ∙ ap (λ xs. items_at None root h.took.trail h.took.done ∷ runs_after ls xs) (left_of_paid l _ _ h.paid stop)
+        ∙ ap (λ xs. items_at None root h.took.trail h.took.done ∷ xs) (runs_go_on (items_at None root os (due_within root part mid_last)) ls some)
 
     parts_then : (ended : Bool) → Parts root part t u mid new mid_last last ls spent' files' finding' count ended
         → Parts root part s u old new from last (l ∷ ls) (spent + spent') (files + files') (finding || finding') (1 + count) ended
@@ -357,9 +360,9 @@ module _ (root : StorageRoot) (part : Part) (s t : Store) (old mid : Option (Lis
         a.due_are ∙ ap (λ qs. a.done ++ qs) b.due_are ∙ sym (append_assoc a.done b.done (due_within root part last)) in
         let up : IsAscending place_cmp (a.done ++ b.done) = ascends_left place_cmp (a.done ++ b.done) (due_within root part last)
         (subst (IsAscending place_cmp) due_are (due_within_ascends root part from)) in
-        let first : List Item = items_at root a.trail a.done in
-        let second : List Item = items_at root b.trail b.done in
-        let same : items_at root (a.trail ++ b.trail) (a.done ++ b.done) ≡ first ++ second = items_then root a.trail b.trail a.done b.done up a.audits.opened b.audits.opened in
+        let first : List Item = items_at None root a.trail a.done in
+        let second : List Item = items_at None root b.trail b.done in
+        let same : items_at None root (a.trail ++ b.trail) (a.done ++ b.done) ≡ first ++ second = items_then root a.trail b.trail a.done b.done up a.audits.opened b.audits.opened in
         let are = runs_then b.trail b.done (due_within root part last) b.audits.opened b.due_are in
         record {
           took = record {
@@ -367,15 +370,15 @@ module _ (root : StorageRoot) (part : Part) (s t : Store) (old mid : Option (Lis
             trail = a.trail ++ b.trail;
             listed = a.listed ++ b.listed;
             heads = a.heads ++ b.heads;
-            audits = audits_on root s t u a.done b.done a.listed b.listed a.heads b.heads a.trail b.trail a.audits b.audits;
+            audits = audits_on None root s t u a.done b.done a.listed b.listed a.heads b.heads a.trail b.trail a.audits b.audits;
             due_are = due_are;
             last_is = b.last_is ∙ ap (λ x. last_or x b.done) a.last_is ∙ last_then from a.done b.done;
             wrote = subst (Appends old new) (sym (text_append first second) ∙ ap text (sym same)) (Appends-trans old mid new _ _ a.wrote b.wrote);
             figures = figures_then same a.figures b.figures;
           };
           runs_are = ap joined are ∙ ap (λ is. first ++ is) k.runs_are ∙ sym same;
-          count_is = let n : length (runs (items_at root (a.trail ++ b.trail) (due_within root part from)) (l ∷ ls)) ≡ suc
-              (length (runs (items_at root b.trail (due_within root part mid_last)) ls)) = ap length are in let c = k.count_is in omega (arith, n, c);
+          count_is = let n : length (runs (items_at None root (a.trail ++ b.trail) (due_within root part from)) (l ∷ ls)) ≡ suc
+              (length (runs (items_at None root b.trail (due_within root part mid_last)) ls)) = ap length are in let c = k.count_is in omega (arith, n, c);
           read = reads_then b.heads count k.read;
           ended_is = k.ended_is;
           made = λ e. omega arith;
@@ -391,15 +394,15 @@ module _ (root : StorageRoot) (part : Part) (s t : Store) (old mid : Option (Lis
         let all_up : IsAscending place_cmp (h.took.done ++ (k.done ++ k.begun)) =
         ascends_left place_cmp (h.took.done ++ (k.done ++ k.begun)) rest (subst (IsAscending place_cmp) due_are (due_within_ascends root part from)) in
         let up : IsAscending place_cmp (h.took.done ++ k.done) = ascends_left place_cmp (h.took.done ++ k.done) k.begun (subst (IsAscending place_cmp) (sym both) all_up) in
-        let first : List Item = items_at root h.took.trail h.took.done in
-        let second : List Item = items_at root k.trail k.done in
-        let before : items_at root (h.took.trail ++ k.trail) h.took.done ≡ first = items_before root h.took.trail k.trail h.took.done (k.done ++ k.begun) all_up k.fails.opened in
-        let behind : items_at root (h.took.trail ++ k.trail) k.done ≡ second = items_behind root h.took.trail k.trail h.took.done k.done up h.took.audits.opened in
-        let same : items_at root (h.took.trail ++ k.trail) (h.took.done ++ k.done) ≡ first ++ second =
-        items_append root (h.took.trail ++ k.trail) h.took.done k.done ∙ ap (λ is. is ++ items_at root (h.took.trail ++ k.trail) k.done) before ∙ ap (λ is. first ++ is) behind in
-        let later : List (List Item) = runs (items_at root k.trail (due_within root part mid_last)) ls in
+        let first : List Item = items_at None root h.took.trail h.took.done in
+        let second : List Item = items_at None root k.trail k.done in
+        let before : items_at None root (h.took.trail ++ k.trail) h.took.done ≡ first = items_before root h.took.trail k.trail h.took.done (k.done ++ k.begun) all_up k.fails.opened in
+        let behind : items_at None root (h.took.trail ++ k.trail) k.done ≡ second = items_behind root h.took.trail k.trail h.took.done k.done up h.took.audits.opened in
+        let same : items_at None root (h.took.trail ++ k.trail) (h.took.done ++ k.done) ≡ first ++ second =
+        items_append root (h.took.trail ++ k.trail) h.took.done k.done ∙ ap (λ is. is ++ items_at None root (h.took.trail ++ k.trail) k.done) before ∙ ap (λ is. first ++ is) behind in
+        let later : List (List Item) = runs (items_at None root k.trail (due_within root part mid_last)) ls in
         let are = runs_then k.trail (k.done ++ k.begun) rest k.fails.opened k.first_due.1 in
-        let texts : text first ++ (text second ++ k.gone) ≡ text (items_at root (h.took.trail ++ k.trail) (h.took.done ++ k.done)) ++ k.gone =
+        let texts : text first ++ (text second ++ k.gone) ≡ text (items_at None root (h.took.trail ++ k.trail) (h.took.done ++ k.done)) ++ k.gone =
         sym (append_assoc (text first) (text second) k.gone) ∙ ap (λ xs. xs ++ k.gone) (sym (text_append first second) ∙ ap text (sym same)) in
         record {
           done = h.took.done ++ k.done;
@@ -408,20 +411,20 @@ module _ (root : StorageRoot) (part : Part) (s t : Store) (old mid : Option (Lis
           others = k.others;
           listed = h.took.listed ++ k.listed;
           heads = h.took.heads ++ k.heads;
-          fails = subst (λ ps. Fails root s u ps (h.took.listed ++ k.listed) (h.took.heads ++ k.heads) (h.took.trail ++ k.trail) (stop_place why)) (sym both)
-              (audits_fail root s t u h.took.done (k.done ++ k.begun) h.took.listed k.listed h.took.heads k.heads h.took.trail k.trail _ h.took.audits k.fails);
+          fails = subst (λ ps. Fails None root s u ps (h.took.listed ++ k.listed) (h.took.heads ++ k.heads) (h.took.trail ++ k.trail) (stop_place why)) (sym both)
+              (audits_fail None root s t u h.took.done (k.done ++ k.begun) h.took.listed k.listed h.took.heads k.heads h.took.trail k.trail _ h.took.audits k.fails);
           first_due = (rest, due_are ∙ ap (λ qs. qs ++ rest) (sym both));
           last_is = k.last_is ∙ ap (λ x. last_or x k.done) h.took.last_is ∙ last_then from h.took.done k.done;
           runs_begin = ap (λ xs. joined (take (1 + count) xs)) are ∙ joined_more count first later ∙ ap (λ is. first ++ is) k.runs_begin
               ∙ sym (append_assoc first second k.others) ∙ ap (λ is. is ++ k.others) (sym same);
-          runs_before = subst (IsFront (joined (take (1 + count - 1) (runs (items_at root (h.took.trail ++ k.trail) (due_within root part from)) (l ∷ ls))))) (sym same)
+          runs_before = subst (IsFront (joined (take (1 + count - 1) (runs (items_at None root (h.took.trail ++ k.trail) (due_within root part from)) (l ∷ ls))))) (sym same)
               (subst (λ xs. IsFront (joined (take (1 + count - 1) xs)) (first ++ second)) (sym are) (front_more count first later second k.runs_before));
           one = k.one;
           gone = k.gone;
           wrote = subst (Appends old new) texts (Appends-trans old mid new _ _ h.took.wrote k.wrote);
           part_of = k.part_of;
-          count_fits = let n : length (runs (items_at root (h.took.trail ++ k.trail) (due_within root part from)) (l ∷ ls)) ≡ suc
-              (length (runs (items_at root k.trail (due_within root part mid_last)) ls)) = ap length are in let c = k.count_fits in omega (arith, n, c);
+          count_fits = let n : length (runs (items_at None root (h.took.trail ++ k.trail) (due_within root part from)) (l ∷ ls)) ≡ suc
+              (length (runs (items_at None root k.trail (due_within root part mid_last)) ls)) = ap length are in let c = k.count_fits in omega (arith, n, c);
           figures = figures_then same h.took.figures k.figures;
           read = reads_then k.heads count k.read;
         }

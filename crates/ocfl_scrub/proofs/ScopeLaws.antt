@@ -1,5 +1,5 @@
 -- What is said and handed back after a command within a scope.
-use Rattle.std.proofs.Common.{◌≡◌, ◌≢◌, refl, sym, ◌∙◌, ap, subst, inl, inr, ℕ, List, [], Option, Bool, Vec}
+use Rattle.std.proofs.Common.{◌≡◌, ◌≢◌, refl, sym, ◌∙◌, ap, subst, inl, inr, ℕ, List, [], Option, Bool, Vec, None}
 use Rattle.std.specs.{Io.KnownBytes.{Appends}, declared.alloc.Global.{Global}}
 use Rattle.ocfl_tree.specs.{Place.{Text}, StorageRoot.{StorageRoot}, Store.{Store}}
 use Rattle.ocfl_report.specs.{Line.{found}, Text.{text}}
@@ -18,14 +18,14 @@ use Rattle.ocfl_scope.specs.declared.scope.Scope.TheVariants as scope
 
 -- what is known of an audit of a part without failures, by what is said after it
 abbrev IsClean : StorageRoot → Option (List ℕ) → Option (List ℕ) → Part → Bool → Type 0
-IsClean root old new part finding = Appends old new (text (within part (audit root []))) × (finding ≡ found (within part (audit root [])))
+IsClean root old new part finding = Appends old new (text (within part (audit None root []))) × (finding ≡ found (within part (audit None root [])))
 
 module _ (root : StorageRoot) (s t : Store) (old new : Option (List ℕ)) (made : Part) (ran : AuditEnd) (status : ℕ) (n : Note)
     (audits : AuditEndsWithin (call_of root s t old new) made ran.last ran.found ran.end)
     (clean : ran.end ≡ end.Ended → t.failures ≡ s.failures → IsClean root old new made ran.found)
     (nothing : n ≡ note.Nothing → (ran.end ≡ end.Ended) × (status ≡ status_of ran.found)) where
   clean_said : (part : Part) → made ≡ part → n ≡ note.Nothing → t.failures ≡ s.failures
-      → Appends old new (text (within part (audit root []))) × (status ≡ status_of (found (within part (audit root []))))
+      → Appends old new (text (within part (audit None root []))) × (status ≡ status_of (found (within part (audit None root []))))
   clean_said part same e f =
       let ended = nothing e in
       let well = subst (λ p. IsClean root old new p ran.found) same (clean ended.0 f) in

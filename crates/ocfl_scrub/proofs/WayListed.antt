@@ -12,9 +12,13 @@ use Rattle.ocfl_tree.proofs.Bools.{and_second}
 use Rattle.ocfl_tree.proofs.Orders.{among_filter, among_from_filter, among_left, among_right, below_from_greater, not_below_itself, place_cmp_exact, place_cmp_total, true_not_false}
 use Rattle.ocfl_tree.proofs.{Stores.{among_either}, Places.{text_cmp_exact}}
 use Rattle.ocfl_rules.specs.Between.{IsBeyond, IsWithin, is_looked_into, looked_between}
-use Rattle.ocfl_rules.specs.{Due.{due}, Lines.{is_hashed}, Parts.{Part, lies_in}, Walk.{is_reached}}
+use Rattle.ocfl_rules.specs.Due.{due}
+use Rattle.ocfl_rules.specs.Inventories.{is_hashed}
+use Rattle.ocfl_rules.specs.Parts.{Part, lies_in}
+use Rattle.ocfl_rules.specs.Walk.{is_reached}
 use Rattle.ocfl_rules.proofs.BelowLaws.{above_self, less_from}
-use Rattle.ocfl_rules.proofs.{BetweenLaws.{among_between, is_directory}, BranchLaws.{nothing_above}}
+use Rattle.ocfl_rules.proofs.BetweenLaws.{among_between, is_directory}
+use Rattle.ocfl_rules.proofs.BranchLaws.{nothing_above}
 use Rattle.ocfl_rules.proofs.PartLaws.{places_within_is}
 use Rattle.ocfl_item.specs.{Auditing.{LiesIn}, Looking.{way_to}}
 use Rattle.ocfl_scrub.specs.Types.{ReportStop}
@@ -164,8 +168,8 @@ module _ (root : StorageRoot) where
     from_looked : (to : Option Place) (d : Place) → IsAmong (looked_in root part from to) d → IsAmong (looked_between root from to) d × (lies_in part d ≡ true)
     from_looked to d i = among_from_filter (lies_in part) (looked_between root from to) d (subst (λ ds. IsAmong ds d) (places_within_is part (looked_between root from to)) i)
 
-    from_due : (p : Place) → IsAmong (due_within root part from) p → IsAmong (due root from) p × (lies_in part p ≡ true)
-    from_due p i = among_from_filter (lies_in part) (due root from) p (subst (λ ps. IsAmong ps p) (places_within_is part (due root from)) i)
+    from_due : (p : Place) → IsAmong (due_within root part from) p → IsAmong (due None root from) p × (lies_in part p ≡ true)
+    from_due p i = among_from_filter (lies_in part) (due None root from) p (subst (λ ps. IsAmong ps p) (places_within_is part (due None root from)) i)
 
     module _ (down : List Place) (all : AreAllListed root (way_of (entry part from)) down) where
       module _ (listed : List Place) where
@@ -178,7 +182,7 @@ module _ (root : StorageRoot) where
             by (inr k) = among_right down listed d (covers d (to_looked (Some p) d (looked_there from (Some p) d looked k.1 (not_below d p (above_it d p n is))) k.0))
 
         -- a file of what is due there, up to which all was listed
-        lies_there : (p : Place) → is_hashed root p ≡ true → IsAmong (due_within root part from) p
+        lies_there : (p : Place) → is_hashed None root p ≡ true → IsAmong (due_within root part from) p
             → ((e : Place) → IsAmong (looked_in root part from (Some p)) e → IsAmong listed e) → LiesIn (down ++ listed) p
         lies_there p h i covers =
             let k = hashed_within root p h in

@@ -1,5 +1,5 @@
 -- What checking one place does.
-use Rattle.std.specs.Prelude.{◌≡◌, ◌≢◌, List, [], ◌∷◌, Bool, not, Some, AllPairs}
+use Rattle.std.specs.Prelude.{◌≡◌, ◌≢◌, List, [], ◌∷◌, Bool, not, Some, AllPairs, None}
 use Rattle.ocfl_tree.specs.{Place.{Text, Place}, StorageRoot.{StorageRoot}}
 use Rattle.ocfl_tree.specs.declared.store.Opening.{Opening}
 use Rattle.ocfl_report.specs.{Line.{Item, found}, Text.{text}}
@@ -12,7 +12,7 @@ use Rattle.ocfl_scrub.specs.declared.checking.AuditStatus.TheVariants as end
 
 -- the item at a place, if a trail shows what could not be read
 abbrev pub checked_item : StorageRoot → List Opening → Place → List Item
-checked_item root trail p = item_at root (unread_of root trail) p
+checked_item root trail p = item_at None root (unread_of None root trail) p
 
 -- each file was opened at most once
 abbrev pub AreOnce : List Opening → Type 0
@@ -32,7 +32,7 @@ pub record Checks (call : Call) (p : Place) (item finding : Bool) : Type 0 where
   pub trail : List Opening
   pub listed : List Place
   pub heads : List Place
-  pub audits : Audits call.root call.before call.after (p ∷ []) listed heads trail
+  pub audits : Audits None call.root call.before call.after (p ∷ []) listed heads trail
   pub files_lie : FilesLieIn call.root (p ∷ []) listed
   pub just : IsJustFor call.root p listed heads trail
   pub wrote : Writes call (text (checked_item call.root trail p))
@@ -47,7 +47,7 @@ pub record CheckStops (call : Call) (p : Place) (why : ReportStop) : Type 0 wher
   pub one : IsFront begun (p ∷ [])
   pub listed : List Place
   pub heads : List Place
-  pub fails : Fails call.root call.before call.after begun listed heads trail (stop_place why)
+  pub fails : Fails None call.root call.before call.after begun listed heads trail (stop_place why)
   pub files_lie : FilesLieIn call.root begun listed
   pub just : IsJustFor call.root p listed heads trail
   pub part : Text

@@ -1,5 +1,5 @@
 -- What a cycle does on any store, and the headline.
-use Rattle.std.specs.Prelude.{◌≡◌, ◌≢◌, ◌≤◌, ◌+◌, ◌/◌, ◌↔◌, ℕ, List, [], ◌∷◌, ◌++◌, Bool, true, false, Option, All, map, length, ⊤}
+use Rattle.std.specs.Prelude.{◌≡◌, ◌≢◌, ◌≤◌, ◌+◌, ◌/◌, ◌↔◌, ℕ, List, [], ◌∷◌, ◌++◌, Bool, true, false, Option, All, map, length, ⊤, None}
 use Rattle.ocfl_tree.specs.{Store.{Store}, declared.store.Opening.{Opening}}
 use Rattle.ocfl_report.specs.{Line.{Item}, Text.{text}}
 use Rattle.ocfl_rules.specs.{Audit.{audit, total_cost}, Due.{hashed_among}, Parts.{Part, within}}
@@ -44,7 +44,7 @@ pub record StartsBelow (limits : Limits) (run : Call) (items : List Item) : Type
   pub wrote : Writes run (text items)
   pub trail : List Opening
   pub opened : run.after.openings ≡ run.before.openings ++ trail
-  pub files : content_trail run.root trail ≡ hashed_among run.root (places items)
+  pub files : content_trail None run.root trail ≡ hashed_among None run.root (places items)
   pub below : StaysWithin items limits (length items)
 
 -- each of some runs did that with its own limits and its own items
@@ -68,7 +68,7 @@ pub record Headline (call : Call) (items : List Item) (limits : List Limits) (co
   pub made_of : IsMadeOf call calls
   pub starts_below : EachStartsBelow limits calls (runs items limits)
   pub all_items : whole ≡ true → Writes call (text items)
-  pub opened_once : whole ≡ true → content_trail call.root trail ≡ hashed_among call.root (places items)
+  pub opened_once : whole ≡ true → content_trail None call.root trail ≡ hashed_among None call.root (places items)
   pub ends_within : (b n : ℕ) → 1 ≤ b → 1 ≤ n → All (IsAtLeast b n) limits → enough items b n ≤ length limits → (whole ≡ true) × (count ≤ enough items b n)
 
 abbrev pub HeadlineBy : Call → List Item → List Limits → ℕ → CycleStatus → Type 0
@@ -78,8 +78,8 @@ HeadlineBy call items limits count (status.Stopped why) = ⊤
 
 -- the headline: the items are the whole audit
 abbrev pub HeadlineOf : Call → List Limits → ℕ → CycleStatus → Type 0
-HeadlineOf call limits count end = HeadlineBy call (audit call.root []) limits count end
+HeadlineOf call limits count end = HeadlineBy call (audit None call.root []) limits count end
 
 -- the headline of a part: they are what the audit has there
 abbrev pub HeadlineOfPart : Call → Part → List Limits → ℕ → CycleStatus → Type 0
-HeadlineOfPart call part limits count end = HeadlineBy call (within part (audit call.root [])) limits count end
+HeadlineOfPart call part limits count end = HeadlineBy call (within part (audit None call.root [])) limits count end

@@ -81,7 +81,7 @@ left_by ended items = []
 -- the files that a run could not read, and those of all runs. A file after the cursor is not among
 -- them, since a later run opens it again
 abbrev pub unread_by : StorageRoot → PartRun → Unread
-unread_by root r = filter (λ e. is_taken r.ran.cursor.state e.0) (unread_of root r.opened)
+unread_by root r = filter (λ e. is_taken r.ran.cursor.state e.0) (unread_of None root r.opened)
 
 abbrev pub unread_together : StorageRoot → List PartRun → Unread
 unread_together root runs = flat_map (unread_by root) runs

@@ -195,7 +195,7 @@ pub record AnswersOnAnyStore {S O : Type 0} (contents : O → Option (List ℕ))
 pub record PartAudited (Says : AuditEnd → Type 0) (call : Call) (part : Part) (status : ℕ) (n : Note) : Type 0 where
   pub audits : AuditsWithNote Says call part
   pub clean : n ≡ note.Nothing → IsUnfailing call →
-      Writes call (text (within part (audit call.root []))) × (status ≡ status_of (found (within part (audit call.root []))))
+      Writes call (text (within part (audit None call.root []))) × (status ≡ status_of (found (within part (audit None call.root []))))
 
 abbrev pub AuditPerformed : Call → ℕ → Note → Type 0
 AuditPerformed call status n = PartAudited (λ ran. IsAuditNote ran.found ran.end status n) call whole status n

@@ -119,13 +119,13 @@ pub record RunsFromWithin (call : Call) (part : Part) (c : Cursor) (limits : Lim
 
 -- the text and the figures of a run are those of the cut of the audit of files that can all be read
 pub record RunsCleanWithin (call : Call) (part : Part) (from : Option Place) (limits : Limits) (spent files : ℕ) (finding : Bool) : Type 0 where
-  pub wrote : Writes call (text (cut (after (within part (audit call.root [])) from) limits))
-  pub figures : Figures (cut (after (within part (audit call.root [])) from) limits) spent files finding
+  pub wrote : Writes call (text (cut (after (within part (audit None call.root [])) from) limits))
+  pub figures : Figures (cut (after (within part (audit None call.root [])) from) limits) spent files finding
 
 -- and it ended with the cycle exactly if it left nothing
 abbrev pub RunsCleanlyWithin : Call → Part → Cursor → Limits → ℕ → ℕ → Bool → RunStatus → Type 0
-RunsCleanlyWithin call part c limits spent files finding status.Ended = RunsCleanWithin call part (place_in c.state) limits spent files finding × (left (after (within part (audit call.root [])) (place_in c.state)) limits ≡ [])
-RunsCleanlyWithin call part c limits spent files finding status.Spent = RunsCleanWithin call part (place_in c.state) limits spent files finding × (left (after (within part (audit call.root [])) (place_in c.state)) limits ≢ [])
+RunsCleanlyWithin call part c limits spent files finding status.Ended = RunsCleanWithin call part (place_in c.state) limits spent files finding × (left (after (within part (audit None call.root [])) (place_in c.state)) limits ≡ [])
+RunsCleanlyWithin call part c limits spent files finding status.Spent = RunsCleanWithin call part (place_in c.state) limits spent files finding × (left (after (within part (audit None call.root [])) (place_in c.state)) limits ≢ [])
 RunsCleanlyWithin call part c limits spent files finding (status.Stopped why) = ⊤
 RunsCleanlyWithin call part c limits spent files finding status.Worn = ⊤
 

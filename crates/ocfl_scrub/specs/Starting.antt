@@ -5,9 +5,13 @@ use Rattle.std.specs.{Ordering.{is_lt}, Option.{option_map_or}}
 use Rattle.ocfl_tree.specs.{Place.{Place, place_cmp}, Ascending.{IsAmong}}
 use Rattle.ocfl_tree.specs.{StorageRoot.{StorageRoot}, declared.store.Opening.{Opening}}
 use Rattle.ocfl_report.specs.Line.{Item}
-use Rattle.ocfl_rules.specs.{Audit.{audit, after}, Due.{due}, Lines.{is_hashed}}
-use Rattle.ocfl_rules.specs.{Between.{looked_between, read_between}, Zone.{beginnings}}
-use Rattle.ocfl_rules.specs.{Parts.{Part, within, places_within}, Trail.{reads_inventory, unread_of}}
+use Rattle.ocfl_rules.specs.Audit.{audit, after}
+use Rattle.ocfl_rules.specs.Due.{due}
+use Rattle.ocfl_rules.specs.Inventories.{is_hashed}
+use Rattle.ocfl_rules.specs.Between.{looked_between, read_between}
+use Rattle.ocfl_rules.specs.Zone.{beginnings}
+use Rattle.ocfl_rules.specs.Parts.{Part, within, places_within}
+use Rattle.ocfl_rules.specs.Trail.{reads_inventory, unread_of}
 use Rattle.ocfl_item.specs.{Looking.{IsFront, way_to}, Auditing.{Audits, Fails, LiesIn}}
 use Rattle.ocfl_walk.specs.Before.{directory_of, place_before}
 use Rattle.ocfl_walk.specs.declared.end.End.{End}
@@ -66,12 +70,12 @@ stand root part above = stand_by root (first_place part) above
 
 -- the places of a part's items above a place, and all of them for the start
 abbrev pub due_within : StorageRoot → Part → Option Place → List Place
-due_within root part from = places_within part (due root from)
+due_within root part from = places_within part (due None root from)
 
 -- the items of a part above a place, where a trail shows what could not be read; all of them for
 -- the start
 abbrev pub items_in : StorageRoot → List Opening → Part → Option Place → List Item
-items_in root trail part from = after (within part (audit root (unread_of root trail))) from
+items_in root trail part from = after (within part (audit None root (unread_of None root trail))) from
 
 -- none of some places is before one of these directories
 abbrev pub AreAhead : List Place → List Place → Type 0
@@ -89,7 +93,7 @@ read_in root part from to = places_within part (read_between root from to)
 
 -- of these places each hashed file is right in one of these directories
 abbrev pub FilesLieIn : StorageRoot → List Place → List Place → Type 0
-FilesLieIn root places dirs = (p : Place) → IsAmong places p → is_hashed root p ≡ true → LiesIn dirs p
+FilesLieIn root places dirs = (p : Place) → IsAmong places p → is_hashed None root p ≡ true → LiesIn dirs p
 
 -- it audited these places, the first of the part's above one, and came to another. Listed were the
 -- first directories on the way down to where it began, and those of the part between the two places,
@@ -99,7 +103,7 @@ FilesLieIn root places dirs = (p : Place) → IsAmong places p → is_hashed roo
 pub record LooksOver (call : Call) (part : Part) (from to : Option Place) (audited : List Place) (trail : List Opening) : Type 0 where
   pub down : List Place
   pub held : List Place
-  pub audits : Audits call.root call.before call.after audited (down ++ looked_in call.root part from to) (held ++ read_in call.root part from to) trail
+  pub audits : Audits None call.root call.before call.after audited (down ++ looked_in call.root part from to) (held ++ read_in call.root part from to) trail
   pub down_front : IsFront down (way_in part from)
   pub files_lie : FilesLieIn call.root audited (down ++ looked_in call.root part from to)
   pub held_front : IsFront held (filter (reads_inventory call.root) (way_in part from))
@@ -110,7 +114,7 @@ pub record StopsLooking (call : Call) (part : Part) (from : Option Place) (begun
   pub listed : List Place
   pub held : List Place
   pub heads : List Place
-  pub fails : Fails call.root call.before call.after begun (down ++ listed) (held ++ heads) trail (stop_place why)
+  pub fails : Fails None call.root call.before call.after begun (down ++ listed) (held ++ heads) trail (stop_place why)
   pub down_front : IsFront down (way_in part from)
   pub listed_front : IsFront listed (looked_in call.root part from None)
   pub held_front : IsFront held (filter (reads_inventory call.root) (way_in part from))

@@ -48,7 +48,7 @@ pub record CyclesWithin (call : Call) (part : Part) (last : Option Place) (limit
   pub trail : List Opening
   pub listed : List Place
   pub heads : List Place
-  pub audits : Audits call.root call.before call.after (places (all_in call.root trail part limits)) listed heads trail
+  pub audits : Audits None call.root call.before call.after (places (all_in call.root trail part limits)) listed heads trail
   pub inventories_read : 1 ≤ count → length heads < inventories_in call.root part + count
   pub wrote : Writes call (text (all_in call.root trail part limits))
   pub figures : Figures (all_in call.root trail part limits) spent files finding
@@ -75,7 +75,7 @@ pub record CycleStopsWithin (call : Call) (part : Part) (last : Option Place) (l
   pub figures : Figures stops.whole spent files finding
   pub listed : List Place
   pub heads : List Place
-  pub fails : Fails call.root call.before call.after (places stops.whole ++ stops.begun) listed heads trail (stop_place why)
+  pub fails : Fails None call.root call.before call.after (places stops.whole ++ stops.begun) listed heads trail (stop_place why)
   pub inventories_read : length heads < inventories_in call.root part + count
 
 abbrev pub CycleEndsWithin : Call → Part → Option Place → List Limits → ℕ → ℕ → Bool → ℕ → CycleStatus → Type 0

@@ -42,8 +42,8 @@ pub fn audit<T: Tree, W: Write>(
         AuditEnds call result.last result.found result.end) }
     ensures unfailing { WhereTold T.told T.state W.contents store.old store.new out.old out.new
         (λ call. result.end ≡ AuditStatus.Ended → IsUnfailing call
-        → Writes call (text (whole_audit call.root []))
-        × (result.found ≡ found_in (whole_audit call.root []))) }
+        → Writes call (text (whole_audit None call.root []))
+        × (result.found ≡ found_in (whole_audit None call.root []))) }
 {
     let whole = Part::whole(alloc);
     audit_part(alloc, store, &whole, block, out)
@@ -64,7 +64,7 @@ pub fn audit_part<T: Tree, W: Write>(
         AuditEndsWithin call (part_of part.now) result.last result.found result.end) }
     ensures unfailing { WhereTold T.told T.state W.contents store.old store.new out.old out.new
         (λ call. result.end ≡ AuditStatus.Ended → IsUnfailing call
-        → let items = within (part_of part.now) (whole_audit call.root []) in
+        → let items = within (part_of part.now) (whole_audit None call.root []) in
         Writes call (text items) × (result.found ≡ found_in items)) }
 {
     let mut walk = match set_out(alloc, store, part, None) {

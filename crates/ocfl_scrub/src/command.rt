@@ -1,5 +1,5 @@
 //! The commands `check` and `audit`: status and note.
-ghost use Rattle.std.specs.Prelude.{◌≡◌, ◌≢◌, ◌⊎◌, [], false, true};
+ghost use Rattle.std.specs.Prelude.{◌≡◌, ◌≢◌, ◌⊎◌, [], None, false, true};
 ghost use Rattle.ocfl_tree.specs.{Place.{Place as ModelPlace}, Name.{IsPlace}};
 ghost use Rattle.ocfl_report.specs.{Line.{found as found_in}, Text.{place_text, text}};
 ghost use Rattle.ocfl_rules.specs.{Audit.{audit as whole_audit}, Parts.{whole}};
@@ -68,8 +68,8 @@ pub fn audited<T: Tree, W: Write>(
         AuditsWithNote (λ ran. IsAuditNote ran.found ran.end result.0 result.1) call whole) }
     ensures unfailing { WhereTold T.told T.state W.contents store.old store.new out.old out.new
         (λ call. result.1 ≡ Note.Nothing → IsUnfailing call
-        → Writes call (text (whole_audit call.root []))
-        × (result.0 ≡ status_of (found_in (whole_audit call.root [])))) }
+        → Writes call (text (whole_audit None call.root []))
+        × (result.0 ≡ status_of (found_in (whole_audit None call.root [])))) }
 {
     describe_audit(audit(alloc, store, block, out))
 }

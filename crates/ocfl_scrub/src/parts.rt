@@ -20,15 +20,15 @@ pub fn runs_that_stop_join()
     ensures reports { (root : StorageRoot) (part : Part) (c : Cursor) (runs : List PartRun)
         → place_in c.state ≡ None → AreOneCycle root part c runs
         → reports_of runs ++ text (left_by (cursor_after c runs).state
-        (within part (audit root (unread_together root runs))))
-        ≡ text (within part (audit root (unread_together root runs))) }
+        (within part (audit None root (unread_together root runs))))
+        ≡ text (within part (audit None root (unread_together root runs))) }
     ensures ended { (root : StorageRoot) (part : Part) (c : Cursor) (runs : List PartRun)
         → place_in c.state ≡ None → AreOneCycle root part c runs
         → (cursor_after c runs).state ≡ ended
-        → reports_of runs ≡ text (within part (audit root (unread_together root runs))) }
+        → reports_of runs ≡ text (within part (audit None root (unread_together root runs))) }
     ensures few { (root : StorageRoot) (part : Part) (c : Cursor) (runs : List PartRun)
         → place_in c.state ≡ None → AreOneCycle root part c runs → (b n : ℕ) → 1 ≤ b → 1 ≤ n
         → All (IsAtLeast b n) (map (λ r. r.limits) runs) → unstopped runs
-        ≤ total_cost (within part (audit root (unread_together root runs))) / b
-        + total_files (within part (audit root (unread_together root runs))) / n + 1 }
+        ≤ total_cost (within part (audit None root (unread_together root runs))) / b
+        + total_files (within part (audit None root (unread_together root runs))) / n + 1 }
 {}

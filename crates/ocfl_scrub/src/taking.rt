@@ -1,5 +1,5 @@
 //! One item: it is judged, and its lines go out as one piece.
-ghost use Rattle.std.specs.Prelude.{◌≡◌, ◌≢◌, ◌⊎◌, ◌||◌, IfErr, IfOk, MatchResult};
+ghost use Rattle.std.specs.Prelude.{◌≡◌, ◌≢◌, ◌⊎◌, ◌||◌, IfErr, IfOk, MatchResult, None};
 ghost use Rattle.ocfl_item.specs.{Judging.{CostFits}, Pending.{IsPending}};
 ghost use Rattle.ocfl_scrub.specs.{Call.{WhereTold}, Taking.{Misses, Takes, WritesLines}};
 
@@ -44,11 +44,11 @@ pub(crate) fn take_item<T: Tree, W: Write>(
 
     // Of a store that tells its tree.
     ensures told { WhereTold T.told T.state W.contents store.old store.new out.old out.new (λ call.
-        IsPending call.root pending → MatchResult result
+        IsPending None call.root pending → MatchResult result
         (λ taken. Takes call pending.place taken.cost taken.found)
         (λ why. Misses call pending.place why)) }
 {
-    let Ok((lines, cost)) = judge(alloc, store, pending, block) else {
+    let Ok((lines, cost)) = judge(store, pending, block) else {
         return Err(ReportStop::Fault(Fault::Memory));
     };
     let Ok(Piece { place, text, found }) = lines.into_piece(alloc) else {

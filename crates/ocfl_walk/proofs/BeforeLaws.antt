@@ -8,9 +8,13 @@ use Rattle.ocfl_tree.specs.Place.{Place, Text, place_cmp}
 use Rattle.ocfl_tree.specs.Ascending.{ascending, IsAscending, IsAmong}
 use Rattle.ocfl_tree.specs.StorageRoot.{StorageRoot, dir}
 use Rattle.ocfl_tree.proofs.Orders.{place_cmp_total, place_cmp_exact, true_not_false, below_from_greater, not_below_itself, not_both_below, before_each, among_ascending, among_filter, among_from_filter, ascends_filter, ascends_ascending}
-use Rattle.ocfl_rules.specs.{Audit.{candidates}, Between.{looked_between, read_between, up_to}}
-use Rattle.ocfl_rules.specs.{Due.{due, item_places, places_after}, Lines.{is_empty, notes}}
-use Rattle.ocfl_rules.proofs.{AuditExists.{seen_candidate}, BelowLaws.{less_from}}
+use Rattle.ocfl_rules.specs.Audit.{candidates}
+use Rattle.ocfl_rules.specs.Between.{looked_between, read_between, up_to}
+use Rattle.ocfl_rules.specs.Due.{due, item_places, places_after}
+use Rattle.ocfl_rules.specs.Lines.{is_empty}
+use Rattle.ocfl_rules.specs.Inventories.{notes}
+use Rattle.ocfl_rules.proofs.AuditExists.{seen_candidate}
+use Rattle.ocfl_rules.proofs.BelowLaws.{less_from}
 use Rattle.ocfl_rules.proofs.BetweenLaws.{directories, from_directory, from_object, looked_seen, objects, read_seen}
 use Rattle.ocfl_walk.proofs.FilterLaws.{left_whole}
 use Rattle.ocfl_walk.specs.Before.{directory_of, last_place, place_before, places_from}
@@ -155,13 +159,13 @@ module _ (root : StorageRoot) (p : Place) where
   from_up_to ps None = refl
   from_up_to ps (Some b) = filter_swap (λ q. not (is_lt (place_cmp b q))) (λ q. not (is_lt (place_cmp q p))) ps
 
-  pub item_candidate : (x : Place) → IsAmong (item_places root) x → IsAmong (candidates root) x
+  pub item_candidate : (x : Place) → IsAmong (item_places None root) x → IsAmong (candidates root) x
   unfolding item_places
-  item_candidate x i = (among_ascending place_cmp_exact (candidates root) x).1 (among_from_filter (λ y. not (is_empty (notes root None y))) (ascending place_cmp (candidates root)) x i).0
+  item_candidate x i = (among_ascending place_cmp_exact (candidates root) x).1 (among_from_filter (λ y. not (is_empty (notes None root None y))) (ascending place_cmp (candidates root)) x i).0
 
-  pub due_from : due root (place_before root p) ≡ places_from p (item_places root)
+  pub due_from : due None root (place_before root p) ≡ places_from p (item_places None root)
   unfolding due
-  due_from = from_after (item_places root) item_candidate
+  due_from = from_after (item_places None root) item_candidate
 
   pub looked_from : (to : Option Place) → looked_between root (place_before root p) to ≡ places_from p (looked_between root None to)
   unfolding looked_between

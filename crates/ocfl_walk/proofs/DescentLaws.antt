@@ -78,14 +78,14 @@ module _ (root : StorageRoot) where
     trail = h.trail ++ g.trail;
     listings = h.listings ++ g.listings;
     did = did_then s t u h.trail g.trail h.listings g.listings f h.did g.did;
-    read = λ e. read_behind root h.trail g.trail (h.read refl) (g.read e);
-    meta = content_behind root h.trail g.trail h.meta ∙ g.meta;
+    read = λ e. read_behind None root h.trail g.trail (h.read refl) (g.read e);
+    meta = content_behind None root h.trail g.trail h.meta ∙ g.meta;
     reached = both_reached h.trail g.trail h.reached g.reached;
   }
 
   pub failed_then : (s t u : Store) (why : Fault) (h : Calls root s t 0) (g : Calls root t u (failures_by why)) → NamesFailed root t u why g
       → NamesFailed root s u why (calls_then s t u (failures_by why) h g)
-  failed_then s t u why h g k = λ q e. let f = k q e in (f.0, failed_behind root s t u h.listings g.listings h.trail g.trail q (h.read refl) (listed_well s t h.trail h.listings 0 (omega arith) h.did) f.1)
+  failed_then s t u why h g k = λ q e. let f = k q e in (f.0, failed_behind None root s t u h.listings g.listings h.trail g.trail q (h.read refl) (listed_well s t h.trail h.listings 0 (omega arith) h.did) f.1)
 
   -- directories were listed, and nothing was opened
   abbrev pub lists_calls : (s t : Store) (listings : List Place) (f : ℕ) → s.tree ≡ root → Did s t [] listings f → Calls root s t f
@@ -104,7 +104,7 @@ module _ (root : StorageRoot) where
         only = both_inventories a.trail b.trail h.only g.only;
         listed = front_on a.listings more way b.listings more' h.listed g.listed;
         heads = subst (λ x. IsFront (x ++ left') may) (sym (heads_append root a.trail b.trail)) (front_on (heads_of root a.trail) left may (heads_of root b.trail) left' h.heads g.heads);
-        near = near_on root a.listings b.listings a.trail b.trail h.near g.near;
+        near = near_on None root a.listings b.listings a.trail b.trail h.near g.near;
       }
 
   pub descent_fails_on : (s t u : Store) (way more may left : List Place) (why : Fault) → Descends root s t way more may left 0
@@ -116,9 +116,9 @@ module _ (root : StorageRoot) where
 
   -- nothing was done
   pub descends_not : (s t : Store) (way may : List Place) → s.tree ≡ root → Did s t [] [] 0 → Descends root s t way [] may [] 0
-  descends_not s t way may over did = record { calls = no_calls s t over did; only = refl; listed = (way, refl); heads = (may, refl); near = near_none root [] }
+  descends_not s t way may over did = record { calls = no_calls s t over did; only = refl; listed = (way, refl); heads = (may, refl); near = near_none None root [] }
 
-  pub stops_memory : (s : Store) (way : List Place) → s.tree ≡ root → Stops root s s way [] fault.Memory
+  pub stops_memory : (s : Store) (way : List Place) → s.tree ≡ root → Stops None root s s way [] fault.Memory
   stops_memory s way over = record {
     goes = record { over = over; listings = []; did = did_nothing s; read = λ e. refl; listed = (way, refl) };
     store = λ q e. absurd (memory_no_store q e);
@@ -134,7 +134,7 @@ module _ (root : StorageRoot) where
     only = refl;
     listed = ([], sym (append-nil (d ∷ way)));
     heads = ([], sym (append-nil may));
-    near = near_none root (d ∷ []);
+    near = near_none None root (d ∷ []);
   }
 
   -- what was done, on another way
@@ -152,7 +152,7 @@ module _ (root : StorageRoot) where
       (left ++ h.heads.0, h.heads.1 ∙ append_assoc os left h.heads.0 ∙ ap (λ x. x ++ (left ++ h.heads.0)) (sym (append-nil os)))
 
   -- a listing that failed
-  pub listing_fails : (s t : Store) (d : Place) (way may : List Place) (why : Fault) → Stops root s t (d ∷ []) [] why → DescendFails root s t (d ∷ way) may why
+  pub listing_fails : (s t : Store) (d : Place) (way may : List Place) (why : Fault) → Stops None root s t (d ∷ []) [] why → DescendFails root s t (d ∷ way) may why
   listing_fails s t d way may why h =
       let listed : IsFront (h.goes.listings ++ []) (d ∷ way) =
       (h.goes.listed.0 ++ way, ap (λ x. x ++ way) h.goes.listed.1 ∙ append_assoc h.goes.listings h.goes.listed.0 way ∙ ap (λ x. x ++ (h.goes.listed.0 ++ way)) (sym (append-nil h.goes.listings))) in
@@ -162,7 +162,7 @@ module _ (root : StorageRoot) where
           only = refl;
           listed = listed;
           heads = (may, refl);
-          near = near_none root h.goes.listings;
+          near = near_none None root h.goes.listings;
         };
         store = h.store;
       }
@@ -184,8 +184,8 @@ module _ (root : StorageRoot) where
           let same : c ≡ o = own_inventory o (reads_inventory root o) c k in
           (c, (n, (inl same, (zone_is root x.place c (n ∷ []) e).whole)))
 
-  inventory_near : (o : Place) (trail : List Opening) → AreInventories root trail → IsFront (heads_of root trail) (on (reads_inventory root o) o) → LieIn root (o ∷ []) trail
-  inventory_near o [] only h = near_none root (o ∷ [])
+  inventory_near : (o : Place) (trail : List Opening) → AreInventories root trail → IsFront (heads_of root trail) (on (reads_inventory root o) o) → LieIn None root (o ∷ []) trail
+  inventory_near o [] only h = near_none None root (o ∷ [])
   inventory_near o (x ∷ []) only h = λ y i meta. by y i
     where
       by : (y : Opening) → IsAmong (x ∷ []) y → LiesIn (o ∷ []) y.place
@@ -196,7 +196,7 @@ module _ (root : StorageRoot) where
   opens_front : (o : Place) (trail : List Opening) → IsFront (heads_of root trail) (on (reads_inventory root o) o) → IsFront (heads_of root trail ++ []) (o ∷ [])
   opens_front o trail h = subst (λ x. IsFront x (o ∷ [])) (sym (append-nil (heads_of root trail))) (front_within o (reads_inventory root o) (heads_of root trail) h)
 
-  opens_read : (s t : Store) (o : Place) (m : Opens root s t o) → AreInventories root m.reads.trail → OpensIn root s t o 0
+  opens_read : (s t : Store) (o : Place) (m : Opens None root s t o) → AreInventories root m.reads.trail → OpensIn root s t o 0
   opens_read s t o m only = record {
     calls = record {
       over = m.reads.over;
@@ -214,7 +214,7 @@ module _ (root : StorageRoot) where
     near = inventory_near o m.reads.trail only m.heads;
   }
 
-  pub opened_stops : (s t : Store) (o : Place) (why : Fault) → ReadsTable root s t o (Err why) → Opened root s t o (Err why)
+  pub opened_stops : (s t : Store) (o : Place) (why : Fault) → ReadsTable None root s t o (Err why) → Opened root s t o (Err why)
   opened_stops s t o why r =
       let k = r.gives.0.stops in
       record {
@@ -238,13 +238,13 @@ module _ (root : StorageRoot) where
         };
       }
 
-  pub opened_none : (s t : Store) (o : Place) → ReadsTable root s t o (Ok None) → Opened root s t o (Ok None)
+  pub opened_none : (s t : Store) (o : Place) → ReadsTable None root s t o (Ok None) → Opened root s t o (Ok None)
   opened_none s t o r = record { gives = (opens_read s t o r.gives.0 r.gives.2, sym r.gives.1) }
 
-  pub opened_memory : (s t : Store) (o : Place) (table : Table) → ReadsTable root s t o (Ok (Some table)) → Opened root s t o (Err fault.Memory)
+  pub opened_memory : (s t : Store) (o : Place) (table : Table) → ReadsTable None root s t o (Ok (Some table)) → Opened root s t o (Err fault.Memory)
   opened_memory s t o table r = record { gives = record { goes = opens_read s t o r.gives.0 r.gives.2; store = λ q e. absurd (memory_no_store q e) } }
 
-  pub opened_table : (s t : Store) (o p : Place) (table : Table) → ReadsTable root s t o (Ok (Some table)) → p ≡ o → Opened root s t o (Ok (Some (record { place = p; table = table })))
+  pub opened_table : (s t : Store) (o p : Place) (table : Table) → ReadsTable None root s t o (Ok (Some table)) → p ≡ o → Opened root s t o (Ok (Some (record { place = p; table = table })))
   opened_table s t o p table r e = record { gives = (opens_read s t o r.gives.0 r.gives.2, (e, sym r.gives.1)) }
 
   -- ---- what is shut

@@ -107,7 +107,7 @@ module _ (root : StorageRoot) where
       gives = (record { goes = descends_one root s t (d ++ n ∷ []) (way_below (d ++ n ∷ []) r) (may_open a (zone root (d ++ n ∷ r))) over did; all = λ e i k. i }, h);
     }
 
-  pub leads_stop : (s t : Store) (d : Place) (n : Text) (r : Place) (a b : Option Around) (why : Fault) → Stops root s t ((d ++ n ∷ []) ∷ []) [] why → Leads root s t d n r a b (Err why)
+  pub leads_stop : (s t : Store) (d : Place) (n : Text) (r : Place) (a b : Option Around) (why : Fault) → Stops None root s t ((d ++ n ∷ []) ∷ []) [] why → Leads root s t d n r a b (Err why)
   leads_stop s t d n r a b why h = record { gives = listing_fails root s t (d ++ n ∷ []) (way_below (d ++ n ∷ []) r) (may_open a (zone root (d ++ n ∷ r))) why h }
 
   -- into an object
@@ -125,7 +125,7 @@ module _ (root : StorageRoot) where
       only = refl;
       listed = ([], sym (append-nil ((d ++ n ∷ []) ∷ rest)));
       heads = subst (IsFront ((d ++ n ∷ []) ∷ [])) (sym may_is) ([], refl);
-      near = near_none root ((d ++ n ∷ []) ∷ []);
+      near = near_none None root ((d ++ n ∷ []) ∷ []);
     }
 
     abbrev then : (f : ℕ) → OpensIn root t u (d ++ n ∷ []) f → Descends root s u (way_below d (n ∷ r)) rest (may_open None (zone root (d ++ n ∷ r))) [] f
@@ -134,7 +134,7 @@ module _ (root : StorageRoot) where
       only = both_inventories root [] h.calls.trail refl h.only;
       listed = subst (λ ls. IsFront (((d ++ n ∷ []) ∷ ls) ++ rest) ((d ++ n ∷ []) ∷ rest)) (sym h.unlisted) ([], sym (append-nil ((d ++ n ∷ []) ∷ rest)));
       heads = subst (IsFront (heads_of root h.calls.trail ++ [])) (sym may_is) h.heads;
-      near = near_within root ((d ++ n ∷ []) ∷ []) h.calls.listings [] h.calls.trail (near_none root ((d ++ n ∷ []) ∷ [])) h.near;
+      near = near_within None root ((d ++ n ∷ []) ∷ []) h.calls.listings [] h.calls.trail (near_none None root ((d ++ n ∷ []) ∷ [])) h.near;
     }
 
     pub leads_object_none : Opens root t u (d ++ n ∷ []) (Ok None) → Leads root s u d n r None None (Ok None)

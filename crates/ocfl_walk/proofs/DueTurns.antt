@@ -6,59 +6,65 @@ use Rattle.ocfl_tree.specs.StorageRoot.{StorageRoot, Leaf}
 use Rattle.ocfl_tree.proofs.Orders.{place_cmp_total, not_below_itself, among_filter, among_from_filter}
 use Rattle.ocfl_report.specs.Line.{Item}
 use Rattle.ocfl_inventory.specs.Note.{Note, lines_at}
-use Rattle.ocfl_rules.specs.{Audit.{Unread, item_of, audit, after}, Due.{due, items_at}, Head.{on}}
-use Rattle.ocfl_rules.specs.{Lines.{notes, is_empty}, Walk.{item_at}}
+use Rattle.ocfl_rules.specs.Audit.{Unread, item_of, audit, after}
+use Rattle.ocfl_rules.specs.Due.{due, items_at}
+use Rattle.ocfl_rules.specs.Head.{on}
+use Rattle.ocfl_rules.specs.Inventories.{notes}
+use Rattle.ocfl_rules.specs.Lines.{is_empty}
+use Rattle.ocfl_rules.specs.Walk.{item_at}
 use Rattle.ocfl_rules.specs.Stack.{Frame, IsListed, IsStack, NoPathBetween, NoneSeenBetween, seen_places}
 use Rattle.ocfl_rules.specs.Zone.{seen}
+use Rattle.ocfl_rules.proofs.BelowLaws.{above, less_from}
+use Rattle.ocfl_rules.proofs.DueLaws.{after_is_due}
+use Rattle.ocfl_rules.proofs.MachineLaws.{IsNext, NextIs, from_root}
+use Rattle.ocfl_rules.proofs.NextLaws.{walk_takes, walk_ends, seen_to}
+use Rattle.ocfl_rules.proofs.BetweenLaws.{looked_step, read_step}
+use Rattle.ocfl_rules.proofs.WayLaws.{is_closed}
 use Rattle.ocfl_walk.specs.Standing.{Pile, IsStanding, frames_of}
 use Rattle.ocfl_walk.specs.Internal.Standing.{IsFitIf, IsTurn, TurnIs, next_of, path_from, place_by, trimmed, turn_of}
 use Rattle.ocfl_walk.specs.declared.stand.Turn.{Turn}
 use Rattle.ocfl_item.specs.declared.meeting.Around.{Around}
 use Rattle.ocfl_walk.specs.declared.stand.Turn.TheVariants as turn
-use Rattle.ocfl_rules.proofs.{BelowLaws.{above, less_from}, DueLaws.{after_is_due}}
-use Rattle.ocfl_rules.proofs.MachineLaws.{IsNext, NextIs, from_root}
-use Rattle.ocfl_rules.proofs.NextLaws.{walk_takes, walk_ends, seen_to}
-use Rattle.ocfl_rules.proofs.{BetweenLaws.{looked_step, read_step}, WayLaws.{is_closed}}
 use Rattle.ocfl_walk.proofs.{WalkCallLaws.{IsNear}, TurnLaws.{standing_trimmed, turn_is_next}}
 
-places_at : (root : StorageRoot) (u : Unread) (ps : List Place) → map (λ i. i.place) (map (item_of root u) ps) ≡ ps
+places_at : (root : StorageRoot) (u : Unread) (ps : List Place) → map (λ i. i.place) (map (item_of None root u) ps) ≡ ps
 places_at root u [] = refl
 places_at root u (p ∷ ps) = ap (λ qs. p ∷ qs) (places_at root u ps)
 
 -- what is due, by the audit's items
-due_places : (root : StorageRoot) (last : Option Place) → due root last ≡ map (λ i. i.place) (after (audit root []) last)
+due_places : (root : StorageRoot) (last : Option Place) → due None root last ≡ map (λ i. i.place) (after (audit None root []) last)
 unfolding items_at
-due_places root last = sym (ap (map (λ i. i.place)) (after_is_due root [] last) ∙ places_at root [] (due root last))
+due_places root last = sym (ap (map (λ i. i.place)) (after_is_due None root [] last) ∙ places_at root [] (due None root last))
 
 places_append : (xs ys : List Item) → map (λ i. i.place) (xs ++ ys) ≡ map (λ i. i.place) xs ++ map (λ i. i.place) ys
 places_append [] ys = refl
 places_append (x ∷ xs) ys = ap (λ zs. x.place ∷ zs) (places_append xs ys)
 
-item_some : (root : StorageRoot) (x : Place) (ns : List Note) → notes root None x ≡ ns → ns ≢ [] → map (λ i. i.place) (item_at root [] x) ≡ x ∷ []
+item_some : (root : StorageRoot) (x : Place) (ns : List Note) → notes None root None x ≡ ns → ns ≢ [] → map (λ i. i.place) (item_at None root [] x) ≡ x ∷ []
 item_some root x [] e n = absurd (n refl)
-item_some root x (m ∷ ns) e n = ap (λ ks. map (λ i. i.place) (on (not (is_empty (lines_at x ks))) (item_of root [] x))) e
+item_some root x (m ∷ ns) e n = ap (λ ks. map (λ i. i.place) (on (not (is_empty (lines_at x ks))) (item_of None root [] x))) e
 
-item_none : (root : StorageRoot) (x : Place) → notes root None x ≡ [] → map (λ i. i.place) (item_at root [] x) ≡ []
-item_none root x e = ap (λ ks. map (λ i. i.place) (on (not (is_empty (lines_at x ks))) (item_of root [] x))) e
+item_none : (root : StorageRoot) (x : Place) → notes None root None x ≡ [] → map (λ i. i.place) (item_at None root [] x) ≡ []
+item_none root x e = ap (λ ks. map (λ i. i.place) (on (not (is_empty (lines_at x ks))) (item_of None root [] x))) e
 
 module _ (root : StorageRoot) where
-  due_steps : (last x : Place) → after (audit root []) (Some last) ≡ item_at root [] x ++ after (audit root []) (Some x)
-      → due root (Some last) ≡ map (λ i. i.place) (item_at root [] x) ++ due root (Some x)
+  due_steps : (last x : Place) → after (audit None root []) (Some last) ≡ item_at None root [] x ++ after (audit None root []) (Some x)
+      → due None root (Some last) ≡ map (λ i. i.place) (item_at None root [] x) ++ due None root (Some x)
   due_steps last x h =
-      due_places root (Some last) ∙ ap (map (λ i. i.place)) h ∙ places_append (item_at root [] x) (after (audit root []) (Some x))
-      ∙ ap (λ ps. map (λ i. i.place) (item_at root [] x) ++ ps) (sym (due_places root (Some x)))
+      due_places root (Some last) ∙ ap (map (λ i. i.place)) h ∙ places_append (item_at None root [] x) (after (audit None root []) (Some x))
+      ∙ ap (λ ps. map (λ i. i.place) (item_at None root [] x) ++ ps) (sym (due_places root (Some x)))
 
   -- a place with nothing before it, and what the stack leads to after it
   pub turn_by : (last x : Place) (fs : List Frame) → place_cmp last x ≡ Less → NoneSeenBetween root last x → NoPathBetween root last x → IsStack root x fs → IsListed root fs → IsTurn root last x fs
   turn_by last x fs over sight path stack listed =
-      let steps = due_steps last x (walk_takes root (is_closed root) [] last x over sight path) in
+      let steps = due_steps last x (walk_takes None root (is_closed root) [] last x over sight path) in
       record {
         above = over;
         none_seen = sight;
         stack = stack;
         listed = listed;
-        some = λ s. steps ∙ ap (λ ps. ps ++ due root (Some x)) (item_some root x _ refl s);
-        none = λ s. steps ∙ ap (λ ps. ps ++ due root (Some x)) (item_none root x s);
+        some = λ s. steps ∙ ap (λ ps. ps ++ due None root (Some x)) (item_some root x _ refl s);
+        none = λ s. steps ∙ ap (λ ps. ps ++ due None root (Some x)) (item_none root x s);
       }
 
   turn_from : (last : Place) (k : Place × List Frame) → IsNext root (is_closed root) last k → IsTurn root last k.0 k.1
@@ -84,11 +90,11 @@ module _ (root : StorageRoot) where
       by turn.Base n k = n refl
       by (turn.Entry e) n k = turn_from last _ k
       by (turn.Path b) n k = (turn_from last _ k, unseen_if_stays last b (frames_of (trimmed ps)) k.above_last (standing_trimmed root last ps a h).stack k.stack (seen root b) refl)
-      by turn.End n k = (k.0, due_places root (Some last) ∙ ap (map (λ i. i.place)) (walk_ends root (is_closed root) [] last k.0 k.1))
+      by turn.End n k = (k.0, due_places root (Some last) ∙ ap (map (λ i. i.place)) (walk_ends None root (is_closed root) [] last k.0 k.1))
 
   -- the storage root comes first, and has lines
-  pub due_first : notes root None [] ≢ [] → due root None ≡ [] ∷ due root (Some [])
+  pub due_first : notes None root None [] ≢ [] → due None root None ≡ [] ∷ due None root (Some [])
   due_first s =
-      due_places root None ∙ ap (map (λ i. i.place)) (from_root root (is_closed root) []) ∙ places_append (item_at root [] []) (after (audit root []) (Some []))
-      ∙ ap (λ ps. ps ++ map (λ i. i.place) (after (audit root []) (Some []))) (item_some root [] _ refl s)
+      due_places root None ∙ ap (map (λ i. i.place)) (from_root None root (is_closed root) []) ∙ places_append (item_at None root [] []) (after (audit None root []) (Some []))
+      ∙ ap (λ ps. ps ++ map (λ i. i.place) (after (audit None root []) (Some []))) (item_some root [] _ refl s)
       ∙ ap (λ ps. [] ∷ ps) (sym (due_places root (Some [])))

@@ -45,8 +45,8 @@ coming_root d es fs e none ordinary =
 module _ (root : StorageRoot) where
   -- ---- the storage root
 
-  pub root_stops : (s t : Store) (d : Place) (why : Fault) → d ≡ [] → Stops root s t (d ∷ []) [] why → ListsRoot root s t (Err why)
-  root_stops s t d why e h = record { gives = subst (λ x. Stops root s t (x ∷ []) [] why) e h }
+  pub root_stops : (s t : Store) (d : Place) (why : Fault) → d ≡ [] → Stops None root s t (d ∷ []) [] why → ListsRoot root s t (Err why)
+  root_stops s t d why e h = record { gives = subst (λ x. Stops None root s t (x ∷ []) [] why) e h }
 
   module _ (s t : Store) (base : Folder) (m : Head) (ordinary : IsOrdinary base.entries.items)
       (says : IsHead (declared level.Root (file_names base.entries.items)) m) (k : Enters root s t [] base.place base.entries.items) where
@@ -67,7 +67,7 @@ module _ (root : StorageRoot) where
   pub start_memory : (s : Store) (p : Place) → s.tree ≡ root → StartFails root s s p fault.Memory
   start_memory s p over = descent_memory root s (way_to p) (holder_of (zone root p)) over
 
-  pub start_unlisted : (s t : Store) (p : Place) (why : Fault) → Stops root s t ([] ∷ []) [] why → StartFails root s t p why
+  pub start_unlisted : (s t : Store) (p : Place) (why : Fault) → Stops None root s t ([] ∷ []) [] why → StartFails root s t p why
   start_unlisted s t p why h = subst (λ w. DescendFails root s t w (holder_of (zone root p)) why) (sym (way_is p)) (listing_fails root s t [] (way_below [] p) (holder_of (zone root p)) why h)
 
   module _ (s t : Store) (p : Place) (over : s.tree ≡ root) (did : Did s t [] ([] ∷ []) 0) where
@@ -77,7 +77,7 @@ module _ (root : StorageRoot) where
       only = refl;
       listed = ([], way_is p ∙ sym (append-nil ([] ∷ way_below [] p)));
       heads = ([], sym (append-nil (holder_of (zone root p))));
-      near = near_none root ([] ∷ []);
+      near = near_none None root ([] ∷ []);
     }
 
     abbrev pub comes_first : Comes root s t (way_to p) (way_below [] p) (holder_of (zone root p)) (holder_of (zone root p))

@@ -7,16 +7,18 @@ use Rattle.ocfl_tree.specs.{StorageRoot.{StorageRoot, names_in}, Store.{Store}}
 use Rattle.ocfl_tree.specs.declared.store.Entry.{Entry}
 use Rattle.ocfl_tree.proofs.Orders.{place_cmp_total, not_below_itself, true_not_false}
 use Rattle.ocfl_inventory.specs.Table.{Table}
-use Rattle.ocfl_rules.specs.{Due.{due}, Lines.{notes}, Walk.{is_reached, seen_names}}
+use Rattle.ocfl_rules.specs.Due.{due}
+use Rattle.ocfl_rules.specs.Inventories.{notes}
+use Rattle.ocfl_rules.specs.Walk.{is_reached, seen_names}
 use Rattle.ocfl_rules.specs.Stack.{IsListed}
 use Rattle.ocfl_rules.specs.Zone.{Zone, skipped, hierarchy, inside, zone, table_at, is_listed_zone, is_listed_in_object}
+use Rattle.ocfl_rules.proofs.AuditExists.{zone_is}
+use Rattle.ocfl_rules.proofs.BelowLaws.{above_self, begins_front, begins_rest, text_from_test}
 use Rattle.ocfl_walk.specs.Standing.{HaveEntries, Pile, StandsAt, frames_of}
 use Rattle.ocfl_walk.specs.Internal.Standing.{IsAroundIf, IsHeld, IsOrderly, IsTaken, next_of, still}
 use Rattle.ocfl_walk.specs.{Internal.Walking.{Steps, step_from}, declared.stand.Stand.{Stand}}
 use Rattle.ocfl_item.specs.{Around.{IsMet, IsPart, IsTableAround}, Meeting.{IsItemAt, Meets}}
 use Rattle.ocfl_item.specs.{declared.pending.Pending.{Pending}, declared.meeting.Around.{Around}}
-use Rattle.ocfl_rules.proofs.AuditExists.{zone_is}
-use Rattle.ocfl_rules.proofs.BelowLaws.{above_self, begins_front, begins_rest, text_from_test}
 use Rattle.ocfl_item.proofs.LooksZones.{inside_on}
 use Rattle.ocfl_walk.proofs.{OrderlyLaws.{entry_after, old_chain}, ReachLaws.{reached_listed}}
 use Rattle.ocfl_walk.proofs.{WalkCallLaws.{IsNear, meets_walks}, StandLaws.{object_zone}}
@@ -120,15 +122,15 @@ module _ (root : StorageRoot) where
       }
 
   -- the step to a place that was met
-  pub step_to : (s t : Store) (last x : Place) (new : Stand) (item : Option Pending) → Meets root s t x → IsItemAt root x item → IsNear root (Some last) x → StandsAt root new (Some x)
-      → (notes root None x ≢ [] → due root (Some last) ≡ x ∷ due root (Some x)) → (notes root None x ≡ [] → due root (Some last) ≡ due root (Some x)) → Steps root s t (Some last) new (step_from item)
+  pub step_to : (s t : Store) (last x : Place) (new : Stand) (item : Option Pending) → Meets None root s t x → IsItemAt None root x item → IsNear root (Some last) x → StandsAt root new (Some x)
+      → (notes None root None x ≢ [] → due None root (Some last) ≡ x ∷ due None root (Some x)) → (notes None root None x ≡ [] → due None root (Some last) ≡ due None root (Some x)) → Steps root s t (Some last) new (step_from item)
   step_to s t last x new None m i near st some none = (x, meets_walks root s t (Some last) x near m, st, near.beyond, none i)
   step_to s t last x new (Some p) m i near st some none =
       let e : x ≡ p.place = sym i.1 in (
-        meets_walks root s t (Some last) p.place (subst (IsNear root (Some last)) e near) (subst (Meets root s t) e m),
+        meets_walks root s t (Some last) p.place (subst (IsNear root (Some last)) e near) (subst (Meets None root s t) e m),
         subst (λ y. StandsAt root new (Some y)) e st,
         subst (λ y. place_cmp last y ≡ Less) e near.beyond,
-        record { pending = i.0; due_are = subst (λ y. due root (Some last) ≡ y ∷ due root (Some y)) e (some (subst (λ y. notes root None y ≢ []) i.1 i.0.some)) },
+        record { pending = i.0; due_are = subst (λ y. due None root (Some last) ≡ y ∷ due None root (Some y)) e (some (subst (λ y. notes None root None y ≢ []) i.1 i.0.some)) },
       )
 
 pub still_around : (last x : Place) (a : Option Around) → IsAroundIf last a → IsAroundIf x (still a x)

@@ -110,7 +110,7 @@ module _ (root : StorageRoot) where
               (λ i. before i ++ after i);
           listed = front_next h.calls.listings more way g.calls.listings h.listed g.listed;
           heads = subst (λ x. IsFront x may) (sym (heads_append root trail behind)) (front_next (heads_of root trail) left may (heads_of root behind) h.heads g.heads);
-          near = near_on root h.calls.listings g.calls.listings trail behind h.near g.near;
+          near = near_on None root h.calls.listings g.calls.listings trail behind h.near g.near;
         }
 
     abbrev pub all_on : (g : FindsAll root t u more left) → AreAllListed root way (h.calls.listings ++ more) → FindsAll root s u way may
@@ -130,7 +130,7 @@ module _ (root : StorageRoot) where
     }
 
   pub finds_nothing : (s : Store) (way may : List Place) → s.tree ≡ root → Finds root s s way may 0
-  finds_nothing s way may over = record { calls = no_calls root s s over (did_nothing s); once = none_once; closed = λ e. refl; listed = (way, refl); heads = (may, refl); near = near_none root [] }
+  finds_nothing s way may over = record { calls = no_calls root s s over (did_nothing s); once = none_once; closed = λ e. refl; listed = (way, refl); heads = (may, refl); near = near_none None root [] }
 
   -- if the one place on the way is not entered
   pub finds_none : (s : Store) (p : Place) (may : List Place) → s.tree ≡ root → is_reached root p ≡ false → FindsAll root s s (p ∷ []) may
@@ -174,8 +174,8 @@ module _ (root : StorageRoot) where
       own_closed true h k = absurd (let both = sym (own_inventory a part h) ∙ k in cc)
       own_closed false h k = elsewhere h not_base
 
-      abbrev finds_met : (f : ℕ) (listings : List Place) → s.tree ≡ root → Did s t trail listings f → (f ≡ 0 → IsMetadataRead root trail)
-          → content_trail root trail ≡ [] → AllPairs (λ x y. x.place ≢ y.place) trail → IsFront listings (e ∷ []) → LieIn root listings trail
+      abbrev finds_met : (f : ℕ) (listings : List Place) → s.tree ≡ root → Did s t trail listings f → (f ≡ 0 → IsMetadataRead None root trail)
+          → content_trail None root trail ≡ [] → AllPairs (λ x y. x.place ≢ y.place) trail → IsFront listings (e ∷ []) → LieIn None root listings trail
           → Finds root s t (e ∷ []) (may_open a (zone root e)) f
       finds_met f listings over did read meta once listed near = record {
         calls = record { over = over; trail = trail; listings = listings; did = did; read = read; meta = meta; reached = own_inventory_reached root e trail heads };
@@ -187,7 +187,7 @@ module _ (root : StorageRoot) where
       }
 
     module _ (s t : Store) where
-      pub item_met : (v : Visit) → Visits root s t e (Ok v) → FindsItem root s t (e ∷ []) (may_open a (zone root e)) e (Ok v.item)
+      pub item_met : (v : Visit) → Visits None root s t e (Ok v) → FindsItem root s t (e ∷ []) (may_open a (zone root e)) e (Ok v.item)
       item_met v h =
           let m = h.gives.0 in
           record {
@@ -201,7 +201,7 @@ module _ (root : StorageRoot) where
             );
           }
 
-      pub item_unmet : (why : Fault) → Visits root s t e (Err why) → FindsItem root s t (e ∷ []) (may_open a (zone root e)) e (Err why)
+      pub item_unmet : (why : Fault) → Visits None root s t e (Err why) → FindsItem root s t (e ∷ []) (may_open a (zone root e)) e (Err why)
       item_unmet why h =
           let m = h.gives in
           record {
@@ -258,10 +258,10 @@ module _ (root : StorageRoot) where
 
   pub visits_listed : (d e x : Place) (n : Text) (es given : List Entry) (a : Option Around) (entry : Entry) (s t : Store) (r : Result Visit Fault)
       → IsAt root d es → IsPart root d a → e ≡ d ++ n ∷ [] → x ≡ e → given ≡ es → entry.name ≡ n → kind_in given n ≡ Some entry.kind
-      → ((c : Place) → IsMet root c a entry x → Visits root s t x r) → Visits root s t e r
+      → ((c : Place) → IsMet root c a entry x → Visits None root s t x r) → Visits None root s t e r
   visits_listed d e x n es given a entry s t r at part is place same name there told =
       let met = listed_met d e n es a entry at part is name (subst (λ ys. kind_in ys n ≡ Some entry.kind) same there) in
-      subst (λ y. Visits root s t y r) place (told d (subst (IsMet root d a entry) (sym place) met))
+      subst (λ y. Visits None root s t y r) place (told d (subst (IsMet root d a entry) (sym place) met))
 
   module _ (d e : Place) (n : Text) (es : List Entry) (at : IsAt root d es) (is : e ≡ d ++ n ∷ []) (none : kind_in es n ≡ None) where
     pub missing_unseen : seen root e ≡ None

@@ -87,12 +87,12 @@ module _ (old : Stand) (x : Place) (orderly : IsOrderlyStand old) (some : old.la
     missing_there = subst (GoesTo at_missing x) (sym is) (goes_here at_missing x item refl)
 
     pub missing_told : (root : StorageRoot) (s : Store) (l : Place) → s.tree ≡ root → IsHeld root x (piles_in old.last old.listings.items) old.around
-        → IsTurn root l x (frames_of (piles_in old.last old.listings.items)) → seen root x ≡ None → IsItemAt root x item
+        → IsTurn root l x (frames_of (piles_in old.last old.listings.items)) → seen root x ≡ None → IsItemAt None root x item
         → Steps root s s (Some l) at_missing r
     missing_told root s l tree held go unseen i =
         let here : IsStanding root x (piles_in old.last old.listings.items) old.around = record { stack = go.stack; listed = held.listed; entries = held.entries; table = held.table } in
         subst (Steps root s s (Some l) at_missing) (sym is)
-        (step_to root s s l x at_missing item (meets_shut root s x tree (shut_unseen root x unseen)) i (near_turn root l x _ go)
+        (step_to root s s l x at_missing item (meets_shut None root s x tree (shut_unseen root x unseen)) i (near_turn root l x _ go)
         (refl, subst (λ ps. IsStanding root x ps old.around) (sym missing_piles) here) go.some go.none)
 
 -- ---- what is left once all before the name is let go
@@ -240,9 +240,9 @@ module _ (root : StorageRoot) (p q : Place) (first : place_before root p ≡ Som
   unfolding read_between
   read_none = over e (objects root) (Some q) (λ y i l. all_past_from y (seen_candidate root y dir (read_seen root y (from_object root y i)).0) l)
 
-  due_none : before_end e (due root (Some q)) ≡ []
+  due_none : before_end e (due None root (Some q)) ≡ []
   unfolding due
-  due_none = over e (item_places root) (Some q) (λ y i l. all_past_from y (item_candidate root p y i) l)
+  due_none = over e (item_places None root) (Some q) (λ y i l. all_past_from y (item_candidate root p y i) l)
 
   pub ends_at : (s : Store) (old : Stand) → s.tree ≡ root → StepsAtTo root s s q e old old (Ok step.End)
   ends_at s old tree = (walks_out_nothing root s (Some q) e tree looked_none read_none, due_none, refl)

@@ -4,9 +4,13 @@ use Rattle.std.specs.Prelude.{AllPairs, cond, ◌||◌, not, Result, Ok, Err, Ma
 use Rattle.ocfl_tree.specs.{Place.{Text, Place, text_eq}, StorageRoot.{StorageRoot}}
 use Rattle.ocfl_tree.specs.{Store.{Store, Did}, declared.store.Opening.{Opening}}
 use Rattle.ocfl_rules.specs.Zone.{Zone, skipped, hierarchy, inside, inventory_name, is_in_extensions, object_zone, root_declared, zone, is_known}
-use Rattle.ocfl_rules.specs.{Due.{hashed_among}, Lines.{is_hashed, notes, notes_in}}
+use Rattle.ocfl_rules.specs.Due.{hashed_among}
+use Rattle.ocfl_rules.specs.Inventories.{is_hashed, notes}
+use Rattle.ocfl_rules.specs.Lines.{notes_in}
 use Rattle.ocfl_rules.specs.Between.{is_looked_into}
 use Rattle.ocfl_rules.specs.Trail.{content_trail, heads_of, inventory_of, reads_inventory}
+use Rattle.ocfl_rules.proofs.AuditExists.{zone_is}
+use Rattle.ocfl_rules.proofs.PathLaws.{notes_at}
 use Rattle.ocfl_item.specs.Auditing.{FailedAt, IsMetadataRead, LieIn}
 use Rattle.ocfl_item.specs.{Looking.{IsFront, failures_by, way_to}, Meeting.{IsItemAt, Visits}}
 use Rattle.ocfl_item.specs.{Ways.{Stops, way_below}, declared.fault.Fault.{Fault}}
@@ -15,7 +19,6 @@ use Rattle.ocfl_walk.specs.WalkCalls.{AreAllListed, GoDownFails, GoesDown, IsRoo
 use Rattle.ocfl_walk.specs.Internal.Entering.{Starts, StartFails}
 use Rattle.ocfl_walk.specs.Internal.Finding.{Finds, FindsAll, FindFails, FindsItem}
 use Rattle.ocfl_item.specs.declared.fault.Fault.TheVariants as fault
-use Rattle.ocfl_rules.proofs.{AuditExists.{zone_is}, PathLaws.{notes_at}}
 use Rattle.ocfl_item.proofs.AuditingLaws.{audits_meta, audits_nothing, fails_meta, front_all, front_kept, none_once}
 use Rattle.ocfl_walk.proofs.{DescentLaws.{front_within}, ReachLaws.{own_listed}}
 use Rattle.ocfl_walk.proofs.EnterLaws.{comes_first, start_listed, start_unlisted}
@@ -29,20 +32,20 @@ place_is d q p n r base same is = sym same ∙ is ∙ ap (λ x. x ++ n ∷ r) (s
 pub no_base : (q p : Place) (n : Text) (r : Place) → q ≡ p → q ≡ n ∷ r → p ≢ []
 no_base q p n r same is e = let two : n ∷ r ≡ [] = sym is ∙ same ∙ e in cc
 
-pub none_hashed : (root : StorageRoot) → hashed_among root [] ≡ []
+pub none_hashed : (root : StorageRoot) → hashed_among None root [] ≡ []
 unfolding hashed_among
 none_hashed root = refl
 
 module _ (root : StorageRoot) where
   module _ (s t : Store) (p : Place) where
-    module _ (trail : List Opening) (listed : List Place) (over : s.tree ≡ root) (meta : content_trail root trail ≡ [])
-        (once : AllPairs (λ a b. a.place ≢ b.place) trail) (way : IsFront listed (way_to p)) (heads : IsFront (heads_of root trail) (holder root (Some p))) (near : LieIn root listed trail) where
-      went : Did s t trail listed 0 → IsMetadataRead root trail → IsRootFirst listed → AreAllListed root (way_to p) listed → GoesDown root s t (Some p)
+    module _ (trail : List Opening) (listed : List Place) (over : s.tree ≡ root) (meta : content_trail None root trail ≡ [])
+        (once : AllPairs (λ a b. a.place ≢ b.place) trail) (way : IsFront listed (way_to p)) (heads : IsFront (heads_of root trail) (holder root (Some p))) (near : LieIn None root listed trail) where
+      went : Did s t trail listed 0 → IsMetadataRead None root trail → IsRootFirst listed → AreAllListed root (way_to p) listed → GoesDown root s t (Some p)
       went did read first all = record {
         trail = trail;
         listed = listed;
         heads = heads_of root trail;
-        audits = audits_meta root s t listed (heads_of root trail) trail over did read meta refl near;
+        audits = audits_meta None root s t listed (heads_of root trail) trail over did read meta refl near;
         root_first = first;
         all_listed = all;
         listed_front = way;
@@ -50,13 +53,13 @@ module _ (root : StorageRoot) where
         once = once;
       }
 
-      went_wrong : (why : Fault) → ((q : Place) → why ≡ fault.Store q → (is_hashed root q ≡ false) × FailedAt root s t listed trail q)
+      went_wrong : (why : Fault) → ((q : Place) → why ≡ fault.Store q → (is_hashed None root q ≡ false) × FailedAt None root s t listed trail q)
           → Did s t trail listed (failures_by why) → GoDownFails root s t (Some p) why
       went_wrong why store did = record {
         trail = trail;
         listed = listed;
         heads = heads_of root trail;
-        fails = fails_meta root s t listed (heads_of root trail) trail why over did meta refl near store;
+        fails = fails_meta None root s t listed (heads_of root trail) trail why over did meta refl near store;
         listed_front = way;
         heads_front = heads;
         once = once;
@@ -82,11 +85,11 @@ module _ (root : StorageRoot) where
     start_fails_down why h = go_down_fails why (finds_stopped root s t (way_to p) (holder_of (zone root p)) why (may_few None (zone root p)) h)
 
   abbrev pub IsAnswer : Store → Store → Place → Result (Option Pending) Fault → Type 0
-  IsAnswer s t p r = MatchResult r (λ o. GoesDown root s t (Some p) × IsItemAt root p o) (λ why. GoDownFails root s t (Some p) why)
+  IsAnswer s t p r = MatchResult r (λ o. GoesDown root s t (Some p) × IsItemAt None root p o) (λ why. GoDownFails root s t (Some p) why)
 
   -- ---- below the storage root
 
-  pub answered_unlisted : (s t : Store) (p : Place) (why : Fault) → Stops root s t ([] ∷ []) [] why → GoDownFails root s t (Some p) why
+  pub answered_unlisted : (s t : Store) (p : Place) (why : Fault) → Stops None root s t ([] ∷ []) [] why → GoDownFails root s t (Some p) why
   answered_unlisted s t p why h = start_fails_down s t p why (start_unlisted root s t p why h)
 
   module _ (s t : Store) (p : Place) (over : s.tree ≡ root) (did : Did s t [] ([] ∷ []) 0) where
@@ -105,11 +108,11 @@ module _ (root : StorageRoot) where
             let first = comes_first root s t p over did in
             go_down_fails s u p why (item_on root s t u (way_to p) (way_below [] p) may may (may_few None (zone root p)) first.goes first.all p (Err why) k).gives
 
-    skipped_notes : (q : Place) → q ≢ [] → is_known (root_declared root) ≡ false → notes root None q ≡ []
+    skipped_notes : (q : Place) → q ≢ [] → is_known (root_declared root) ≡ false → notes None root None q ≡ []
     skipped_notes q some h = notes_at root None q some ∙ ap (λ b. notes_in root q None (cond (not b || is_in_extensions root q) skipped (object_zone root [] q))) h
 
     -- if the root's version is not known nothing else has lines
-    pub answered_unknown : p ≢ [] → is_known (root_declared root) ≡ false → GoesDown root s t (Some p) × IsItemAt root p None
+    pub answered_unknown : p ≢ [] → is_known (root_declared root) ≡ false → GoesDown root s t (Some p) × IsItemAt None root p None
     answered_unknown some none = (start_goes_down s t p (start_listed root s t p over did none), skipped_notes p some none)
 
   -- ---- the storage root
@@ -136,16 +139,16 @@ module _ (root : StorageRoot) where
       by [] e k = e
       by (x ∷ xs) e k = let top : x ≡ [] = cc in absurd (no_object_there trail xs (e ∙ ap (λ y. y ∷ xs) top))
 
-  pub answered_base : (s t : Store) (p : Place) (v : Visit) → p ≡ [] → Visits root s t [] (Ok v) → GoesDown root s t (Some p) × IsItemAt root p v.item
+  pub answered_base : (s t : Store) (p : Place) (v : Visit) → p ≡ [] → Visits None root s t [] (Ok v) → GoesDown root s t (Some p) × IsItemAt None root p v.item
   answered_base s t p v top h =
       let m = h.gives.0 in
-      subst (λ x. GoesDown root s t (Some x) × IsItemAt root x v.item) (sym top) (
+      subst (λ x. GoesDown root s t (Some x) × IsItemAt None root x v.item) (sym top) (
         went s t [] m.trail m.listings m.over m.meta m.once (front_own [] (is_looked_into root []) m.listings m.listed)
             (no_objects m.trail (front_own [] (reads_inventory root []) (heads_of root m.trail) m.heads)) m.near m.did m.read ([], m.listed) (own_listed root [] m.listings m.listed),
         h.gives.1.item,
       )
 
-  pub answered_no_base : (s t : Store) (p : Place) (why : Fault) → p ≡ [] → Visits root s t [] (Err why) → GoDownFails root s t (Some p) why
+  pub answered_no_base : (s t : Store) (p : Place) (why : Fault) → p ≡ [] → Visits None root s t [] (Err why) → GoDownFails root s t (Some p) why
   answered_no_base s t p why top h =
       let m = h.gives in
       subst (λ x. GoDownFails root s t (Some x) why) (sym top)
@@ -161,7 +164,7 @@ start_at_none root s over = record {
   trail = [];
   listed = [];
   heads = [];
-  audits = audits_nothing root s over;
+  audits = audits_nothing None root s over;
   root_first = tt;
   all_listed = λ d i k. absurd i;
   listed_front = front_all [];

@@ -123,7 +123,7 @@ module _ (root : StorageRoot) (s t u : Store) (last : Option Place) (e : End) (m
       where
         by : SoFar root s t last e mid → SoFar root s u last e new
         by (inl h) = inr (subst (λ x. (y : Place) × Walks root x u last (Some y) × StandsAt root new (Some y) × IsBeyond last y × (is_past e y ≡ false)
-            × (due root last ≡ due root (Some y))) h.0 (next_step step.Nothing is last h.1))
+            × (due None root last ≡ due None root (Some y))) h.0 (next_step step.Nothing is last h.1))
         by (inr h) =
             let g = next_step step.Nothing is (Some h.0) h.2 in
             inr (g.0, walks_on root s t u last h.0 h.3 (Some g.0) (not_below h.0 g.0 g.3) h.1 g.1, g.2, after_on last h.0 g.0 h.3 g.3, g.4, h.5 ∙ g.5)

@@ -69,7 +69,7 @@ module _ (old : Stand) (orderly : IsOrderlyStand old) (first : old.last ≡ None
       pub base_there : GoesTo base [] r
       base_there = subst (GoesTo base []) (sym is) (goes_here base [] item (ap (λ y. Some y) top))
 
-      pub base_told : (root : StorageRoot) (s t : Store) → Meets root s t [] → IsItemAt root [] item → IsPileAt root [] f → Steps root s t None base r
+      pub base_told : (root : StorageRoot) (s t : Store) → Meets None root s t [] → IsItemAt None root [] item → IsPileAt root [] f → Steps root s t None base r
       base_told root s t m i pile =
           let st = first_stands root x f (piles_at [] old.listings.items) old.around top nothing.0 nothing.1 pile in
           subst (Steps root s t None base) (sym is) (step_first root s t x base item top m i (refl, subst (λ ps. IsStanding root x ps old.around) (sym base_piles) st))
@@ -133,7 +133,7 @@ module _ (old : Stand) (entry : Entry) (x : Place) (mid : Listings) (orderly : I
         entry_there = subst (GoesTo at_entry x) (sym is) (goes_here at_entry x m.item refl)
 
         pub entry_told : (root : StorageRoot) (s u : Store) (l k : Place) → IsHeld root k (piles_in old.last old.listings.items) old.around
-            → IsTurn root l x ((x, seen_names root x) ∷ popped (piles_in old.last old.listings.items)) → Meets root s u x → IsMeeting root x m
+            → IsTurn root l x ((x, seen_names root x) ∷ popped (piles_in old.last old.listings.items)) → Meets None root s u x → IsMeeting root x m
             → Steps root s u (Some l) at_entry r
         entry_told root s u l k st go meets met =
             let here = entry_stands root l x (piles_in old.last old.listings.items) (piles_in old.last mid.items) entry m.folder old.around m.around
@@ -195,7 +195,7 @@ ends_here root old trim t base next orderly e ended s over last st = by t refl (
         let top = ap (is_turn_past e) (sym same) ∙ f in
         at_first root old X last st (chosen_base old.last (next_of (piles_in old.last old.listings.items)) old.around t base next same) (
           walks_out_nothing root s None e over (all_past e root top (looked_between root None None)) (all_past e root top (read_between root None None)),
-          all_past e root top (due root None),
+          all_past e root top (due None root None),
           chosen_base old.last (next_of (piles_in old.last old.listings.items)) old.around t base next same,
         )
     by (turn.Entry x) same (inr f) = turned (turn.Entry x) same (λ g. cc) (λ p l h go. past p x _ l h (ap (is_turn_past e) (sym same) ∙ f) go)

@@ -85,13 +85,13 @@ module _ (root : StorageRoot) where
   pub near_first : IsNear root None []
   near_first = record { beyond = tt; looked = looked_first root; read = read_first root ∙ sym (ap (λ b. on b []) (root_unread root)) }
 
-  pub step_first : (s t : Store) (x : Place) (new : Stand) (item : Option Pending) → x ≡ [] → Meets root s t [] → IsItemAt root [] item
+  pub step_first : (s t : Store) (x : Place) (new : Stand) (item : Option Pending) → x ≡ [] → Meets None root s t [] → IsItemAt None root [] item
       → StandsAt root new (Some x) → Steps root s t None new (step_from item)
-  step_first s t x new None e m i st = absurd (root_some root i)
+  step_first s t x new None e m i st = absurd (root_some None root i)
   step_first s t x new (Some p) e m i st =
       let there : [] ≡ p.place = sym i.1 in (
-        meets_walks root s t None p.place (subst (IsNear root None) there near_first) (subst (Meets root s t) there m),
+        meets_walks root s t None p.place (subst (IsNear root None) there near_first) (subst (Meets None root s t) there m),
         subst (λ y. StandsAt root new (Some y)) (e ∙ there) st,
         tt,
-        record { pending = i.0; due_are = subst (λ y. due root None ≡ y ∷ due root (Some y)) there (due_first root (root_some root)) },
+        record { pending = i.0; due_are = subst (λ y. due None root None ≡ y ∷ due None root (Some y)) there (due_first root (root_some None root)) },
       )

@@ -16,8 +16,8 @@ use Rattle.ocfl_walk.proofs.{EndLaws.{all_kept, looked_out, looked_to, read_out,
 use Rattle.ocfl_item.specs.declared.fault.Fault.TheVariants as fault
 
 -- the same with the lists of what was looked into and which inventories were read written otherwise
-pub audits_as : {root : StorageRoot} {s t : Store} {ps ls ms hs js : List Place} {os : List Opening} → ls ≡ ms → hs ≡ js → Audits root s t ps ls hs os → Audits root s t ps ms js os
-audits_as {root} {s} {t} {ps} {ls} {ms} {hs} {js} {os} e f a = subst (λ xs. Audits root s t ps xs js os) e (subst (λ xs. Audits root s t ps ls xs os) f a)
+pub audits_as : {root : StorageRoot} {s t : Store} {ps ls ms hs js : List Place} {os : List Opening} → ls ≡ ms → hs ≡ js → Audits None root s t ps ls hs os → Audits None root s t ps ms js os
+audits_as {root} {s} {t} {ps} {ls} {ms} {hs} {js} {os} e f a = subst (λ xs. Audits None root s t ps xs js os) e (subst (λ xs. Audits None root s t ps ls xs os) f a)
 
 -- from one place to the next just what is at that one is looked into and read
 pub record IsNear (root : StorageRoot) (from : Option Place) (x : Place) : Type 0 where
@@ -26,32 +26,32 @@ pub record IsNear (root : StorageRoot) (from : Option Place) (x : Place) : Type 
   pub read : read_between root from (Some x) ≡ on (reads_inventory root x) x
 
 module _ (root : StorageRoot) (s t : Store) (from : Option Place) (x : Place) (near : IsNear root from x) where
-  pub meets_walks : Meets root s t x → Walks root s t from (Some x)
+  pub meets_walks : Meets None root s t x → Walks root s t from (Some x)
   meets_walks m = record {
     trail = m.trail;
-    audits = audits_meta root s t (looked_between root from (Some x)) (read_between root from (Some x)) m.trail m.over
+    audits = audits_meta None root s t (looked_between root from (Some x)) (read_between root from (Some x)) m.trail m.over
         (subst (λ ls. Did s t m.trail ls 0) (m.listed ∙ sym near.looked) m.did) m.read m.meta (m.heads ∙ sym near.read)
-        (subst (λ ls. LieIn root ls m.trail) (m.listed ∙ sym near.looked) m.near);
+        (subst (λ ls. LieIn None root ls m.trail) (m.listed ∙ sym near.looked) m.near);
   }
 
-  pub meets_fails : (why : Fault) → MeetFails root s t x why → FailsTo root s t from x why
+  pub meets_fails : (why : Fault) → MeetFails None root s t x why → FailsTo root s t from x why
   meets_fails why m = record {
     trail = m.trail;
     listed = m.listings;
     heads = heads_of root m.trail;
-    fails = fails_meta root s t m.listings (heads_of root m.trail) m.trail why m.over m.did m.meta refl m.near m.store;
+    fails = fails_meta None root s t m.listings (heads_of root m.trail) m.trail why m.over m.did m.meta refl m.near m.store;
     listed_front = subst (IsFront m.listings) (sym near.looked) m.listed;
     heads_front = subst (IsFront (heads_of root m.trail)) (sym near.read) m.heads;
   }
 
 -- calls that were made before those that failed
 fails_behind : (root : StorageRoot) (s t u : Store) {ls ms xs hs gs ys : List Place} → ls ++ ms ≡ xs → hs ++ gs ≡ ys → (os : List Opening) (why : Fault)
-    → Audits root s t [] ls hs os → FailsAmong root t u ms gs why → FailsAmong root s u xs ys why
+    → Audits None root s t [] ls hs os → FailsAmong root t u ms gs why → FailsAmong root s u xs ys why
 fails_behind root s t u {ls} {ms} {xs} {hs} {gs} {ys} looked read os why a f = record {
   trail = os ++ f.trail;
   listed = ls ++ f.listed;
   heads = hs ++ f.heads;
-  fails = audits_fail root s t u [] [] _ _ _ _ os f.trail (failed_place why) a f.fails;
+  fails = audits_fail None root s t u [] [] _ _ _ _ os f.trail (failed_place why) a f.fails;
   listed_front = front_behind ls f.listed ms xs looked f.listed_front;
   heads_front = front_behind hs f.heads gs ys read f.heads_front;
 }
@@ -60,7 +60,7 @@ module _ (root : StorageRoot) (s t u : Store) (from : Option Place) (b : Place) 
   pub walks_on : (to : Option Place) → IsWithin to b → Walks root s t from (Some b) → Walks root t u (Some b) to → Walks root s u from to
   walks_on to within v w = record {
     trail = v.trail ++ w.trail;
-    audits = audits_as (looked_on root from to b beyond within) (read_on root from to b beyond within) (audits_on root s t u [] [] _ _ _ _ v.trail w.trail v.audits w.audits);
+    audits = audits_as (looked_on root from to b beyond within) (read_on root from to b beyond within) (audits_on None root s t u [] [] _ _ _ _ v.trail w.trail v.audits w.audits);
   }
 
   pub walks_fail : (to : Option Place) (why : Fault) → IsWithin to b → Walks root s t from (Some b) → FailsBetween root t u (Some b) to why → FailsBetween root s u from to why
@@ -86,11 +86,11 @@ module _ (root : StorageRoot) (s t u : Store) (from : Option Place) (b : Place) 
   pub walks_out : Walks root s t from (Some b) → WalksOut root t u (Some b) e → WalksOut root s u from e
   walks_out v w = record {
     trail = v.trail ++ w.trail;
-    audits = audits_as (looked_out e root from b beyond before) (read_out e root from b beyond before) (audits_on root s t u [] [] _ _ _ _ v.trail w.trail v.audits w.audits);
+    audits = audits_as (looked_out e root from b beyond before) (read_out e root from b beyond before) (audits_on None root s t u [] [] _ _ _ _ v.trail w.trail v.audits w.audits);
   }
 
   -- if no item lies between
-  pub walks_fail_out : (why : Fault) → due root from ≡ due root (Some b) → Walks root s t from (Some b) → FailsOut root t u (Some b) e why → FailsOut root s u from e why
+  pub walks_fail_out : (why : Fault) → due None root from ≡ due None root (Some b) → Walks root s t from (Some b) → FailsOut root t u (Some b) e why → FailsOut root s u from e why
   walks_fail_out why none v w =
       let same : next_due root from ≡ next_due root (Some b) = ap (λ ps. slice_get ps 0) none in
       let within = next_within root b in
@@ -100,7 +100,7 @@ module _ (root : StorageRoot) (s t u : Store) (from : Option Place) (b : Place) 
 -- if nothing is left before the end nothing is done
 pub walks_out_nothing : (root : StorageRoot) (s : Store) (from : Option Place) (e : End) → s.tree ≡ root → before_end e (looked_between root from None) ≡ []
     → before_end e (read_between root from None) ≡ [] → WalksOut root s s from e
-walks_out_nothing root s from e over looked read = record { trail = []; audits = audits_as (sym looked) (sym read) (audits_nothing root s over) }
+walks_out_nothing root s from e over looked read = record { trail = []; audits = audits_as (sym looked) (sym read) (audits_nothing None root s over) }
 
 -- if memory was refused before anything was done
 pub no_memory : (root : StorageRoot) (s : Store) {looked read : List Place} → s.tree ≡ root → FailsAmong root s s looked read fault.Memory
@@ -108,7 +108,7 @@ no_memory root s over = record {
   trail = [];
   listed = [];
   heads = [];
-  fails = fails_nothing root s over;
+  fails = fails_nothing None root s over;
   listed_front = front_none _;
   heads_front = front_none _;
 }

@@ -80,7 +80,7 @@ module _ (root : StorageRoot) (old : Walk) (n : Text) (some : old.first ≡ Some
     pub begins_end : (new : Walk) → new.first ≡ Some n → StepsAt root s t before.0 e old.stand new.stand step.End → GivesOut root s t last e new None
     begins_end new same h =
         let here : Stands root new last = subst (λ f. StandsFrom root f new.stand last) (sym same) (parts.0, subst (λ x. StandsAt root x (Some parts.0)) (sym h.2) parts.1, parts.2) in
-        behind (λ l. WalksOut root s t l e × (before_end e (due root l) ≡ []) × HasEndedOut root e new) (h.0, h.1, (last, here, behind (λ l. before_end e (due root l) ≡ []) h.1))
+        behind (λ l. WalksOut root s t l e × (before_end e (due None root l) ≡ []) × HasEndedOut root e new) (h.0, h.1, (last, here, behind (λ l. before_end e (due None root l) ≡ []) h.1))
 
     module _ (u : Store) (mid : Stand) (h : StepsAt root s t before.0 e old.stand mid step.Nothing) where
       pub begins_then : (new : Walk) → new.first ≡ None → (o : Option Pending) → NextGoesOn mid new.stand o → NextTold root t u (Some h.0) e new.stand o → GivesOut root s u last e new o
@@ -105,7 +105,7 @@ module _ (root : StorageRoot) (old : Walk) (n : Text) (some : old.first ≡ Some
 -- to the end of the whole
 module _ (root : StorageRoot) (s t : Store) (last : Option Place) (e : End) (under : e.under ≡ []) (below : e.below ≡ None) where
   gives_all : (new : Walk) (o : Option Pending) → GivesOut root s t last e new o → Gives root s t last new o
-  gives_all new None h = (walks_all root s t last e under below h.0, sym (all_kept e under below (due root last)) ∙ h.1, (h.2.0, h.2.1, sym (all_kept e under below (due root h.2.0)) ∙ h.2.2))
+  gives_all new None h = (walks_all root s t last e under below h.0, sym (all_kept e under below (due None root last)) ∙ h.1, (h.2.0, h.2.1, sym (all_kept e under below (due None root h.2.0)) ∙ h.2.2))
   gives_all new (Some p) h = h
 
   pub all_told : (r : Result (Walk × Option Pending) Fault) → MatchResult r (λ o. GivesOut root s t last e o.0 o.1) (λ why. FailsOut root s t last e why)

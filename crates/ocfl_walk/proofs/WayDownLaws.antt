@@ -49,21 +49,21 @@ one_head root (y ∷ trail) x o (inl e) h =
     among_left (inventory_of (zone root y.place)) (heads_of root trail) o (subst (λ os. IsAmong os o) (sym own) (inl refl))
 one_head root (y ∷ trail) x o (inr i) h = among_right (inventory_of (zone root y.place)) (heads_of root trail) o (one_head root trail x o i h)
 
-no_content : (root : StorageRoot) (trail : List Opening) → content_trail root trail ≡ [] → (x : Opening) → IsAmong trail x → is_meta root x.place ≡ true
+no_content : (root : StorageRoot) (trail : List Opening) → content_trail None root trail ≡ [] → (x : Opening) → IsAmong trail x → is_meta None root x.place ≡ true
 no_content root [] h x i = absurd i
-no_content root (y ∷ trail) h x i = by (is_meta root y.place) refl h i (λ k j. no_content root trail k x j)
+no_content root (y ∷ trail) h x i = by (is_meta None root y.place) refl h i (λ k j. no_content root trail k x j)
   where
-    by : (b : Bool) → is_meta root y.place ≡ b
-        → map (λ o. o.place) (cond (not b) (y ∷ filter (λ o. not (is_meta root o.place)) trail) (filter (λ o. not (is_meta root o.place)) trail)) ≡ [] → IsAmong (y ∷ trail) x
-        → (content_trail root trail ≡ [] → IsAmong trail x → is_meta root x.place ≡ true) → is_meta root x.place ≡ true
+    by : (b : Bool) → is_meta None root y.place ≡ b
+        → map (λ o. o.place) (cond (not b) (y ∷ filter (λ o. not (is_meta None root o.place)) trail) (filter (λ o. not (is_meta None root o.place)) trail)) ≡ [] → IsAmong (y ∷ trail) x
+        → (content_trail None root trail ≡ [] → IsAmong trail x → is_meta None root x.place ≡ true) → is_meta None root x.place ≡ true
     by false e k j more = absurd cc
-    by true e k (inl f) more = ap (λ o. is_meta root o.place) f ∙ e
+    by true e k (inl f) more = ap (λ o. is_meta None root o.place) f ∙ e
     by true e k (inr j) more = more k j
 
 -- ---- the way down
 
 module _ (root : StorageRoot) (s t : Store) (p : Option Place) (g : GoesDown root s t p) where
-  nothing_opened : content_trail root g.trail ≡ []
+  nothing_opened : content_trail None root g.trail ≡ []
   nothing_opened = g.audits.opened ∙ none_hashed root
 
   pub down_inventories : (trail : List Opening)
@@ -80,7 +80,7 @@ module _ (root : StorageRoot) (s t : Store) (p : Option Place) (g : GoesDown roo
       by None o i = absurd i
       by (Some d) o i = let k = held_above root d o i in (k.0, (k.1.0, ap (λ y. Some y) k.1.1))
 
-  pub down_metadata : (trail : List Opening) × ((t.openings ≡ s.openings ++ trail) × ((x : Opening) → IsAmong trail x → is_meta root x.place ≡ true))
+  pub down_metadata : (trail : List Opening) × ((t.openings ≡ s.openings ++ trail) × ((x : Opening) → IsAmong trail x → is_meta None root x.place ≡ true))
   down_metadata = (g.trail, (g.audits.did.openings_are, no_content root g.trail nothing_opened))
 
   pub down_listed : (listed : List Place) × ((t.listings ≡ s.listings ++ listed) × ((d : Place) → IsAmong listed d → (q : Place) × (p ≡ Some (d ++ q))))
@@ -99,4 +99,4 @@ module _ (root : StorageRoot) (s t : Store) (p : Option Place) (g : GoesDown roo
       (first.0, g.audits.did.listings_are ∙ ap (λ l. s.listings ++ l) first.1)
 
   pub down_unfailing : t.failures ≡ s.failures
-  down_unfailing = let none = ap length (none_unread root g.trail nothing_opened) in let all = g.audits.did.failures_are in omega (arith, none, all)
+  down_unfailing = let none = ap length (none_unread None root g.trail nothing_opened) in let all = g.audits.did.failures_are in omega (arith, none, all)

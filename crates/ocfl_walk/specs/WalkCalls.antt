@@ -15,7 +15,7 @@ use Rattle.ocfl_walk.specs.{Ends.{before_end}, declared.end.End.{End}}
 -- the directories between two places were listed, and the inventories between them read
 pub record Walks (root : StorageRoot) (s t : Store) (from to : Option Place) : Type 0 where
   pub trail : List Opening
-  pub audits : Audits root s t [] (looked_between root from to) (read_between root from to) trail
+  pub audits : Audits None root s t [] (looked_between root from to) (read_between root from to) trail
 
 -- the first of these directories were listed, and the first of these objects' inventories read, and
 -- then there was a fault
@@ -23,7 +23,7 @@ pub record FailsAmong (root : StorageRoot) (s t : Store) (looked read : List Pla
   pub trail : List Opening
   pub listed : List Place
   pub heads : List Place
-  pub fails : Fails root s t [] listed heads trail (failed_place why)
+  pub fails : Fails None root s t [] listed heads trail (failed_place why)
   pub listed_front : IsFront listed looked
   pub heads_front : IsFront heads read
 
@@ -33,7 +33,7 @@ FailsBetween root s t from to why = FailsAmong root s t (looked_between root fro
 
 -- the place of the next item above a place, and none if no item is left
 abbrev pub next_due : StorageRoot → Option Place → Option Place
-next_due root from = slice_get (due root from) 0
+next_due root from = slice_get (due None root from) 0
 
 -- the first of those from a place to the next item's
 abbrev pub WalkFails : StorageRoot → Store → Store → Option Place → Fault → Type 0
@@ -44,7 +44,7 @@ WalkFails root s t from why = FailsBetween root s t from (next_due root from) wh
 -- the directories from a place to the end were listed, and the inventories read
 pub record WalksOut (root : StorageRoot) (s t : Store) (from : Option Place) (e : End) : Type 0 where
   pub trail : List Opening
-  pub audits : Audits root s t [] (before_end e (looked_between root from None)) (before_end e (read_between root from None)) trail
+  pub audits : Audits None root s t [] (before_end e (looked_between root from None)) (before_end e (read_between root from None)) trail
 
 -- the first of those up to the next item's place, and then there was a fault
 abbrev pub FailsOut : StorageRoot → Store → Store → Option Place → End → Fault → Type 0
@@ -83,7 +83,7 @@ pub record GoesDown (root : StorageRoot) (s t : Store) (p : Option Place) : Type
   pub trail : List Opening
   pub listed : List Place
   pub heads : List Place
-  pub audits : Audits root s t [] listed heads trail
+  pub audits : Audits None root s t [] listed heads trail
   pub root_first : IfSome p (λ q. IsRootFirst listed)
   pub all_listed : AreAllListed root (way_of p) listed
   pub listed_front : IsFront listed (way_of p)
@@ -94,7 +94,7 @@ pub record GoDownFails (root : StorageRoot) (s t : Store) (p : Option Place) (wh
   pub trail : List Opening
   pub listed : List Place
   pub heads : List Place
-  pub fails : Fails root s t [] listed heads trail (failed_place why)
+  pub fails : Fails None root s t [] listed heads trail (failed_place why)
   pub listed_front : IsFront listed (way_of p)
   pub heads_front : IsFront heads (holder root p)
   pub once : AllPairs (λ a b. a.place ≢ b.place) trail

@@ -44,21 +44,21 @@ GoesOn old new (Some p) = (last_of new ≡ Some p.place) × IsBeyond (last_of ol
 
 -- nothing is left above the place after which it stands
 abbrev pub HasEnded : StorageRoot → Walk → Type 0
-HasEnded root walk = (x : Option Place) × Stands root walk x × (due root x ≡ [])
+HasEnded root walk = (x : Option Place) × Stands root walk x × (due None root x ≡ [])
 
 -- the first of what is due, or none if nothing is, then and from then on
 abbrev pub Gives : StorageRoot → Store → Store → Option Place → Walk → Option Pending → Type 0
-Gives root s t last new None = Walks root s t last None × (due root last ≡ []) × HasEnded root new
+Gives root s t last new None = Walks root s t last None × (due None root last ≡ []) × HasEnded root new
 Gives root s t last new (Some p) =
-    Walks root s t last (Some p.place) × Stands root new (Some p.place) × IsPending root p × (due root last ≡ p.place ∷ due root (Some p.place))
+    Walks root s t last (Some p.place) × Stands root new (Some p.place) × IsPending None root p × (due None root last ≡ p.place ∷ due None root (Some p.place))
 
 -- ---- up to an end
 
 -- nothing is left before the end above the place after which it stands
 abbrev pub HasEndedOut : StorageRoot → End → Walk → Type 0
-HasEndedOut root e walk = (x : Option Place) × Stands root walk x × (before_end e (due root x) ≡ [])
+HasEndedOut root e walk = (x : Option Place) × Stands root walk x × (before_end e (due None root x) ≡ [])
 
 -- the first of what is due, or none where nothing is due before the end
 abbrev pub GivesOut : StorageRoot → Store → Store → Option Place → End → Walk → Option Pending → Type 0
-GivesOut root s t last e new None = WalksOut root s t last e × (before_end e (due root last) ≡ []) × HasEndedOut root e new
+GivesOut root s t last e new None = WalksOut root s t last e × (before_end e (due None root last) ≡ []) × HasEndedOut root e new
 GivesOut root s t last e new (Some p) = Gives root s t last new (Some p)

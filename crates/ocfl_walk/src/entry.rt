@@ -36,7 +36,7 @@ fn listed<T: Tree>(store: &mut T, folder: &Folder, name: &Name) -> Result<Option
         (StaysOut root (T.state store.old) (T.state store.new) below)
         (λ inner. Enters root (T.state store.old) (T.state store.new) below
         inner.place inner.entries.items))
-        (λ why. Stops root (T.state store.old) (T.state store.new) (below ∷ []) [] why)) }
+        (λ why. Stops None root (T.state store.old) (T.state store.new) (below ∷ []) [] why)) }
 {
     if !can_enter(folder, name) {
         return Ok(None);

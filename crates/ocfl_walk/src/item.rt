@@ -27,7 +27,7 @@ pub fn item_at<T: Tree>(
     ensures told { IfTold T.told (T.state store.old) (λ root.
         MatchResult result
         (λ o. GoesDown root (T.state store.old) (T.state store.new) (Some place.now)
-        × IsItemAt root place.now o)
+        × IsItemAt None root place.now o)
         (λ why. GoDownFails root (T.state store.old) (T.state store.new) (Some place.now) why)) }
 {
     let names = place.names()?;

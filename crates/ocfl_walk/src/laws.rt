@@ -46,7 +46,7 @@ pub fn the_way_down_opens_one_inventory()
         → (reads_inventory root o ≡ true) × ((q : Place) × (p ≡ Some (o ++ q))))) }
     ensures metadata { (root : StorageRoot) (s t : Store) (p : Option Place)
         → GoesDown root s t p → (trail : List Opening) × ((t.openings ≡ s.openings ++ trail)
-        × ((x : Opening) → IsAmong trail x → is_meta root x.place ≡ true)) }
+        × ((x : Opening) → IsAmong trail x → is_meta None root x.place ≡ true)) }
     ensures listed { (root : StorageRoot) (s t : Store) (p : Option Place)
         → GoesDown root s t p → (listed : List Place) × ((t.listings ≡ s.listings ++ listed)
         × ((d : Place) → IsAmong listed d → (q : Place) × (p ≡ Some (d ++ q)))) }
@@ -64,8 +64,8 @@ pub fn the_way_down_opens_one_inventory()
 /// directories are looked into and whose inventories are read from there on.
 #[tactic(auto, using(crate::proofs::BeforeLaws::due_from, crate::proofs::BeforeLaws::looked_from, crate::proofs::BeforeLaws::read_from))]
 pub fn before_a_place_lies_the_rest()
-    ensures due { (root : StorageRoot) (p : Place) → due root (place_before root p)
-        ≡ places_from p (item_places root) }
+    ensures due { (root : StorageRoot) (p : Place) → due None root (place_before root p)
+        ≡ places_from p (item_places None root) }
     ensures looked { (root : StorageRoot) (p : Place) (to : Option Place)
         → looked_between root (place_before root p) to
         ≡ places_from p (looked_between root None to) }

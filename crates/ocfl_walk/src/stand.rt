@@ -288,7 +288,7 @@ fn met_by(around: Option<Around>, place: &Place, visit: Visit) -> Result<Met, Al
         → IsAroundIf place.now (around_of around place.now visit.table)
         → IfOk result (λ m. IsFairMet place.now m) }
     ensures told { (root : StorageRoot) → IsFairVisit place.now visit
-        → IsVisit root place.now visit
+        → IsVisit None root place.now visit
         → IsTableAround root place.now (around_of around place.now visit.table)
         → IfOk result (λ m. IsMeeting root place.now m) }
 {
@@ -296,6 +296,7 @@ fn met_by(around: Option<Around>, place: &Place, visit: Visit) -> Result<Met, Al
         item,
         folder,
         table,
+        ..
     } = visit;
     let around = around_at(around, place, table)?;
     let folder = sorted_if(folder);
@@ -319,9 +320,9 @@ fn meet<T: Tree>(
     ensures told { IfTold T.told (T.state store.old) (λ root.
         (d : Spot) → IsMet root d (still around place.now) entry.now place.now
         → MatchResult result
-        (λ m. Meets root (T.state store.old) (T.state store.new) place.now
+        (λ m. Meets None root (T.state store.old) (T.state store.new) place.now
         × IsMeeting root place.now m)
-        (λ why. MeetFails root (T.state store.old) (T.state store.new) place.now why)) }
+        (λ why. MeetFails None root (T.state store.old) (T.state store.new) place.now why)) }
 {
     let around = still_around(around, place);
     let visit = visit_entry(alloc, store, &around, place.try_clone()?, entry)?;

@@ -7,6 +7,7 @@ use Rattle.ocfl_digest.specs.declared.algorithm.Algorithm.TheVariants.{Sha256, S
 use Rattle.ocfl_inventory.specs.Declaration.{Declared, undeclared, known, unknown, several, declaration_name}
 use Rattle.ocfl_inventory.specs.declared.declaration.Level.TheVariants.{Object}
 use Rattle.ocfl_inventory.specs.{declared.declaration.Version.{Version}, Table.{Table, table_of}}
+use Rattle.ocfl_rules.specs.Inventories.{Further}
 use Rattle.ocfl_rules.specs.{Zone.{inventory_name, inventory_limit}, Head.{sidecar_name}}
 use Rattle.ocfl_rules.specs.Trail.{places_of}
 use Rattle.ocfl_item.specs.{Looking.{IsFront}, Auditing.{IsMetadataRead}}
@@ -19,15 +20,15 @@ IsFileAt root p limit None = file_at root p ≡ None
 IsFileAt root p limit (Some b) = (bytes : Text) × (file_at root p ≡ Some bytes) × IsBoundedTo limit bytes b
 
 -- the file of one name was read
-pub record ReadsFile (root : StorageRoot) (s t : Store) (o : Place) (name : Text) (limit : ℕ) (r : Result (Option Bounded) Fault) : Type 0 where
-  pub gives : MatchResult r (λ f. ReadsFiles root s t o (name ∷ []) × IsFileAt root (o ++ name ∷ []) limit f) (FilesStop root s t o (name ∷ []))
+pub record ReadsFile (further : Further) (root : StorageRoot) (s t : Store) (o : Place) (name : Text) (limit : ℕ) (r : Result (Option Bounded) Fault) : Type 0 where
+  pub gives : MatchResult r (λ f. ReadsFiles further root s t o (name ∷ []) × IsFileAt root (o ++ name ∷ []) limit f) (FilesStop further root s t o (name ∷ []))
 
 -- the first of them were opened, and nothing else
-pub record ReadsSome (root : StorageRoot) (s t : Store) (o : Place) (names : List Text) : Type 0 where
+pub record ReadsSome (further : Further) (root : StorageRoot) (s t : Store) (o : Place) (names : List Text) : Type 0 where
   pub over : s.tree ≡ root
   pub trail : List Opening
   pub did : Did s t trail [] 0
-  pub read : IsMetadataRead root trail
+  pub read : IsMetadataRead further root trail
   pub opened : IsFront (places_of trail) (files_there root o names)
 
 -- the files about an object's inventory, in the order in which they are read

@@ -5,7 +5,8 @@ use Rattle.ocfl_tree.specs.StorageRoot.{StorageRoot}
 use Rattle.ocfl_inventory.specs.{Note.{note, Note}, Remark.{remark_view}, Table.{Named}}
 use Rattle.ocfl_digest.specs.Algorithm.{algorithm_name}
 use Rattle.ocfl_item.specs.declared.lines.PlaceLines.{PlaceLines}
-use Rattle.ocfl_rules.specs.Lines.{notes, named_at, block_cmp, block_code}
+use Rattle.ocfl_rules.specs.Inventories.{Further, notes, is_hashed}
+use Rattle.ocfl_rules.specs.Lines.{block_cmp, block_code}
 
 -- these are the lines
 abbrev pub HasLines : PlaceLines → List Note → Type 0
@@ -15,11 +16,11 @@ HasLines l ns = map remark_view l.remarks.items ≡ ns
 abbrev pub Adds : PlaceLines → PlaceLines → List Note → Type 0
 Adds old new ns = (new.place ≡ old.place) × (map remark_view new.remarks.items ≡ map remark_view old.remarks.items ++ ns)
 
--- the lines of a place at which no file is hashed and for which no digest is named
-pub record IsUnhashed (root : StorageRoot) (l : PlaceLines) : Type 0 where
-  pub some : notes root None l.place ≢ []
-  pub named : named_at root l.place ≡ []
-  pub lines : HasLines l (notes root None l.place)
+-- the lines of a place at which no file is hashed
+pub record IsUnhashed (further : Further) (root : StorageRoot) (l : PlaceLines) : Type 0 where
+  pub some : notes further root None l.place ≢ []
+  pub unhashed : is_hashed further root l.place ≡ false
+  pub lines : HasLines l (notes further root None l.place)
 
 -- the line for one block and algorithm whose file is missing
 abbrev pub missing_note : Named → Note

@@ -12,14 +12,17 @@ use Rattle.ocfl_inventory.specs.declared.declaration.Declared.{Declared as MadeD
 use Rattle.ocfl_inventory.specs.Table.{Table}
 use Rattle.ocfl_inventory.specs.declared.declaration.Level.TheVariants as level
 use Rattle.ocfl_rules.specs.Zone.{hierarchy, inside, zone, is_entered, is_listed_zone, object_declared, root_declared, beginnings, is_declared, max_listed_depth}
-use Rattle.ocfl_rules.specs.Lines.{listed_dir_notes, notes, named_at, is_hashed}
-use Rattle.ocfl_rules.specs.{Between.{is_looked_into}, Walk.{seen_names}, Head.{on}}
+use Rattle.ocfl_rules.specs.Lines.{listed_dir_notes}
+use Rattle.ocfl_rules.specs.Inventories.{Further, notes, is_hashed}
+use Rattle.ocfl_rules.specs.Between.{is_looked_into}
+use Rattle.ocfl_rules.specs.Walk.{seen_names}
+use Rattle.ocfl_rules.specs.Head.{on}
 use Rattle.ocfl_rules.specs.Trail.{content_trail, is_head, heads_of, reads_inventory}
 use Rattle.ocfl_item.specs.Auditing.{FailedAt, IsMetadataRead, LieIn}
 use Rattle.ocfl_item.specs.{Looking.{IsFront, failures_by}, Internal.Ways.{IsHeadOf}}
 use Rattle.ocfl_item.specs.{Meeting.{IsVisit}, declared.fault.Fault.{Fault}}
 use Rattle.ocfl_item.specs.{declared.lines.PlaceLines.{PlaceLines}, declared.role.Role.{Role}}
-use Rattle.ocfl_item.specs.declared.visit.Visit.{Visit}
+use Rattle.ocfl_item.specs.{declared.visit.Visit.{Visit}, declared.root.RootInventory.{RootInventory as MadeRoot}}
 use Rattle.ocfl_item.specs.declared.fault.Fault.TheVariants as fault
 use Rattle.ocfl_item.specs.declared.role.Role.TheVariants as role
 
@@ -28,10 +31,10 @@ pub record IsEntryAt (root : StorageRoot) (e : Place) (k : Kind) : Type 0 where
   pub way : list_all (is_entered root) (beginnings e) ≡ true
   pub kind : option_map kind_of (at root e) ≡ Some k
 
--- no object, with no digest named for it, and these lines
-pub record IsPlainAt (root : StorageRoot) (e : Place) (ns : List Note) : Type 0 where
-  pub lines : notes root None e ≡ ns
-  pub named : named_at root e ≡ []
+-- no object, with no file that is hashed, and these lines
+pub record IsPlainAt (further : Further) (root : StorageRoot) (e : Place) (ns : List Note) : Type 0 where
+  pub lines : notes further root None e ≡ ns
+  pub unhashed : is_hashed further root e ≡ false
   pub head : is_head (zone root e) ≡ false
 
 -- a directory that is entered if it is not too deep
@@ -60,11 +63,11 @@ pub record IsUndeclaredAt (root : StorageRoot) (e : Place) (es : List Entry) : T
   pub none : object_declared root e ≡ undeclared
 
 -- what an entry is to the walk
-abbrev pub HasRole : StorageRoot → Place → Role → Type 0
-HasRole root e role.LeftAlone = IsPlainAt root e [] × IsShut root e
-HasRole root e (role.Plain code) = IsPlainAt root e (plain code ∷ []) × IsShut root e
-HasRole root e role.Listed = IsListedAt root e × IsPlainAt root e (listed_dir_notes root e [])
-HasRole root e role.Directory = IsDirectoryAt root e
+abbrev pub HasRole : Further → StorageRoot → Place → Role → Type 0
+HasRole further root e role.LeftAlone = IsPlainAt further root e [] × IsShut root e
+HasRole further root e (role.Plain code) = IsPlainAt further root e (plain code ∷ []) × IsShut root e
+HasRole further root e role.Listed = IsListedAt root e × IsPlainAt further root e (listed_dir_notes root e [])
+HasRole further root e role.Directory = IsDirectoryAt root e
 
 -- the storage root, as it was listed, and what its declarations were read to be
 pub record IsBase (root : StorageRoot) (d : Place) (es : List Entry) (m : MadeDeclared) : Type 0 where
@@ -77,31 +80,31 @@ pub record IsBase (root : StorageRoot) (d : Place) (es : List Entry) (m : MadeDe
 
 -- from s to t metadata was read, right in o and each file once, of inventories just that of o if
 -- it has one, and nothing was listed
-pub record ReadsOne (root : StorageRoot) (s t : Store) (o : Place) : Type 0 where
+pub record ReadsOne (further : Further) (root : StorageRoot) (s t : Store) (o : Place) : Type 0 where
   pub over : s.tree ≡ root
   pub trail : List Opening
   pub did : Did s t trail [] 0
-  pub read : IsMetadataRead root trail
-  pub meta : content_trail root trail ≡ []
+  pub read : IsMetadataRead further root trail
+  pub meta : content_trail further root trail ≡ []
   pub once : AllPairs (λ a b. a.place ≢ b.place) trail
   pub heads : heads_of root trail ≡ on (reads_inventory root o) o
-  pub near : LieIn root (o ∷ []) trail
+  pub near : LieIn further root (o ∷ []) trail
 
 -- at most this, and then there was a fault
-pub record ReadOneFails (root : StorageRoot) (s t : Store) (o : Place) (why : Fault) : Type 0 where
+pub record ReadOneFails (further : Further) (root : StorageRoot) (s t : Store) (o : Place) (why : Fault) : Type 0 where
   pub over : s.tree ≡ root
   pub trail : List Opening
   pub did : Did s t trail [] (failures_by why)
-  pub read : failures_by why ≡ 0 → IsMetadataRead root trail
-  pub meta : content_trail root trail ≡ []
+  pub read : failures_by why ≡ 0 → IsMetadataRead further root trail
+  pub meta : content_trail further root trail ≡ []
   pub once : AllPairs (λ a b. a.place ≢ b.place) trail
   pub heads : IsFront (heads_of root trail) (on (reads_inventory root o) o)
-  pub near : LieIn root (o ∷ []) trail
-  pub store : (q : Place) → why ≡ fault.Store q → (is_hashed root q ≡ false) × FailedAt root s t [] trail q
+  pub near : LieIn further root (o ∷ []) trail
+  pub store : (q : Place) → why ≡ fault.Store q → (is_hashed further root q ≡ false) × FailedAt further root s t [] trail q
 
 -- the lines of an object's head and its table
-pub record HeadRead (root : StorageRoot) (s t : Store) (o : Place) (r : Result (PlaceLines × Option Table) Fault) : Type 0 where
-  pub gives : MatchResult r (λ p. ReadsOne root s t o × IsHeadOf root o p) (λ why. ReadOneFails root s t o why)
+pub record HeadRead (further : Further) (root : StorageRoot) (s t : Store) (o : Place) (r : Result (PlaceLines × Option Table × Option MadeRoot) Fault) : Type 0 where
+  pub gives : MatchResult r (λ p. ReadsOne further root s t o × IsHeadOf further root o p) (λ why. ReadOneFails further root s t o why)
 
-pub record VisitsHead (root : StorageRoot) (s t : Store) (o : Place) (r : Result Visit Fault) : Type 0 where
-  pub gives : MatchResult r (λ v. ReadsOne root s t o × IsVisit root o v) (λ why. ReadOneFails root s t o why)
+pub record VisitsHead (further : Further) (root : StorageRoot) (s t : Store) (o : Place) (r : Result Visit Fault) : Type 0 where
+  pub gives : MatchResult r (λ v. ReadsOne further root s t o × IsVisit further root o v) (λ why. ReadOneFails further root s t o why)

@@ -1,6 +1,6 @@
 -- What reading an object's own files did, and what is known of an object whose declarations were
 -- read.
-use Rattle.std.specs.Prelude.{List, Bool, true, false, Option, Some, None, Result, MatchResult, AllPairs, ◌≡◌, ◌≢◌, []}
+use Rattle.std.specs.Prelude.{List, Bool, true, false, Option, Some, None, Result, MatchResult, option_map, AllPairs, ◌≡◌, ◌≢◌, []}
 use Rattle.std.specs.List.{list_all}
 use Rattle.ocfl_tree.specs.{Place.{Place}, StorageRoot.{StorageRoot}, Store.{Store, Did}}
 use Rattle.ocfl_tree.specs.{Listing.{IsListing}, declared.store.Entry.{Entry}}
@@ -10,11 +10,13 @@ use Rattle.ocfl_inventory.specs.Entries.{meaning, PointsAtOne}
 use Rattle.ocfl_inventory.specs.declared.declaration.Declared.{Declared as MadeDeclared}
 use Rattle.ocfl_inventory.specs.Table.{Table}
 use Rattle.ocfl_rules.specs.Zone.{inside, zone, is_entered, object_declared, table_at, beginnings}
-use Rattle.ocfl_rules.specs.{Lines.{notes}, Head.{on}}
+use Rattle.ocfl_rules.specs.Inventories.{Further, notes}
+use Rattle.ocfl_rules.specs.Head.{on}
 use Rattle.ocfl_rules.specs.Trail.{content_trail, heads_of, reads_inventory}
 use Rattle.ocfl_item.specs.{Looking.{IsFront}, Auditing.{IsMetadataRead}, Internal.Lines.{HasLines}}
 use Rattle.ocfl_item.specs.{declared.fault.Fault.{Fault}, declared.lines.PlaceLines.{PlaceLines}}
 use Rattle.ocfl_item.specs.declared.folder.Head.{Head}
+use Rattle.ocfl_item.specs.{Root.{root_at, root_view}, declared.root.RootInventory.{RootInventory as MadeRoot}}
 use Rattle.ocfl_item.specs.Ways.{Stops, is_listable, AreInventories, IsAt}
 use Rattle.ocfl_tree.specs.declared.store.Kind.TheVariants as kind
 use Rattle.ocfl_tree.specs.declared.store.Trouble.TheVariants as trouble
@@ -30,31 +32,31 @@ fault_by p trouble.Absent = fault.Store p
 fault_by p trouble.Memory = fault.Memory
 
 -- openings of metadata, each file once
-pub record AreMeta (root : StorageRoot) (trail : List Opening) : Type 0 where
-  pub meta : content_trail root trail ≡ []
+pub record AreMeta (further : Further) (root : StorageRoot) (trail : List Opening) : Type 0 where
+  pub meta : content_trail further root trail ≡ []
   pub once : AllPairs (λ a b. a.place ≢ b.place) trail
 
-pub record SeekStops (root : StorageRoot) (s t : Store) (way : List Place) (why : Fault) : Type 0 where
+pub record SeekStops (further : Further) (root : StorageRoot) (s t : Store) (way : List Place) (why : Fault) : Type 0 where
   pub trail : List Opening
-  pub stops : Stops root s t way trail why
-  pub meta : AreMeta root trail
+  pub stops : Stops further root s t way trail why
+  pub meta : AreMeta further root trail
 
 -- from s to t metadata was read, and nothing was listed
-pub record ReadsMeta (root : StorageRoot) (s t : Store) : Type 0 where
+pub record ReadsMeta (further : Further) (root : StorageRoot) (s t : Store) : Type 0 where
   pub over : s.tree ≡ root
   pub trail : List Opening
   pub did : Did s t trail [] 0
-  pub read : IsMetadataRead root trail
-  pub meta : AreMeta root trail
+  pub read : IsMetadataRead further root trail
+  pub meta : AreMeta further root trail
 
 -- and of inventories at most that of o, if its head reaches it
-pub record Opens (root : StorageRoot) (s t : Store) (o : Place) : Type 0 where
-  pub reads : ReadsMeta root s t
+pub record Opens (further : Further) (root : StorageRoot) (s t : Store) (o : Place) : Type 0 where
+  pub reads : ReadsMeta further root s t
   pub heads : IsFront (heads_of root reads.trail) (on (reads_inventory root o) o)
 
 -- and then there was a fault
-pub record OpensStop (root : StorageRoot) (s t : Store) (o : Place) (why : Fault) : Type 0 where
-  pub stops : SeekStops root s t [] why
+pub record OpensStop (further : Further) (root : StorageRoot) (s t : Store) (o : Place) (why : Fault) : Type 0 where
+  pub stops : SeekStops further root s t [] why
   pub heads : IsFront (heads_of root stops.trail) (on (reads_inventory root o) o)
 
 abbrev pub is_file_kind : Option Kind → Bool
@@ -64,12 +66,12 @@ is_file_kind (Some kind.Dir) = false
 is_file_kind (Some kind.Other) = false
 
 -- an object's table, with its inventory read for it, and no other file
-pub record ReadsTable (root : StorageRoot) (s t : Store) (o : Place) (r : Result (Option Table) Fault) : Type 0 where
-  pub gives : MatchResult r (λ table. (opens : Opens root s t o) × (table ≡ table_at root o) × AreInventories root opens.reads.trail) (λ why. (stop : OpensStop root s t o why) × AreInventories root stop.stops.trail)
+pub record ReadsTable (further : Further) (root : StorageRoot) (s t : Store) (o : Place) (r : Result (Option Table) Fault) : Type 0 where
+  pub gives : MatchResult r (λ table. (opens : Opens further root s t o) × (table ≡ table_at root o) × AreInventories root opens.reads.trail) (λ why. (stop : OpensStop further root s t o why) × AreInventories root stop.stops.trail)
 
--- the lines of an object's head, and its table
-abbrev pub IsHeadOf : StorageRoot → Place → PlaceLines × Option Table → Type 0
-IsHeadOf root o p = HasLines p.0 (notes root None o) × (p.1 ≡ table_at root o)
+-- the lines of an object's head, its table, and what its root inventory is if that is asked for
+abbrev pub IsHeadOf : Further → StorageRoot → Place → PlaceLines × Option Table × Option MadeRoot → Type 0
+IsHeadOf further root o p = HasLines p.0 (notes further root None o) × (p.1 ≡ table_at root o) × (option_map root_view p.2 ≡ root_at further root o)
 
 -- no declaration, a known version, or a declaration at which the head stops
 abbrev pub head_by : MadeDeclared → Head

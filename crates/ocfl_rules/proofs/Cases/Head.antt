@@ -222,7 +222,7 @@ content_directories = quickly content_directories_cases refl
 -- ---- the manifest and the fixity block as values
 
 -- Seen to refuse: S07 is a finding.
-unsupported_fixity_is_no_finding : found (audit (sha256_object (listing_with lists_f (codes "{\"blake2b-512\":7}")) f_is_abc) []) ≡ false
+unsupported_fixity_is_no_finding : found (audit None (sha256_object (listing_with lists_f (codes "{\"blake2b-512\":7}")) f_is_abc) []) ≡ false
 unfolding audit_on_literals
 unsupported_fixity_is_no_finding = refl
 

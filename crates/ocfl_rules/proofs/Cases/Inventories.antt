@@ -6,7 +6,9 @@ use Rattle.ocfl_tree.specs.{Place.{Text}, StorageRoot.{StorageRoot}}
 use Rattle.ocfl_tree.specs.declared.store.Opening.{Opening}
 use Rattle.ocfl_report.specs.declared.code.Code.TheVariants.{Clean, E015, E023, E036, E058, E060, E061, S04, S08}
 use Rattle.ocfl_inventory.specs.Note.{note, Note, plain}
-use Rattle.ocfl_rules.specs.Inventories.{NewCodes, notes_with, cost_with, is_hashed_with, is_meta_with, audit_with, content_trail_with, unread_with, item_places_with, hashed_with}
+use Rattle.ocfl_rules.specs.declared.further.NewCodes.{NewCodes}
+use Rattle.ocfl_rules.specs.Inventories.{notes, cost, is_hashed}
+use Rattle.ocfl_rules.specs.{Audit.{audit}, Trail.{is_meta, content_trail, unread_of}, Due.{item_places, hashed_among}}
 use Rattle.ocfl_rules.proofs.Cases.OnLiterals.{audit_on_literals}
 use Rattle.ocfl_rules.proofs.Cases.Trees.{place, text_at, bytes_at, folder, link, object, object_beside, item, the_root, right}
 
@@ -74,7 +76,7 @@ abbrev said : String → StorageRoot → String → (NewCodes → List Note) →
 said name root p lines = record { name = name; root = root; place = p; lines = lines }
 
 abbrev AllSay : List Said → Type 0
-AllSay cases = (k : NewCodes) → map (λ c. notes_with (Some k) c.root None (place c.place)) cases ≡ map (λ c. c.lines k) cases
+AllSay cases = (k : NewCodes) → map (λ c. notes (Some k) c.root None (place c.place)) cases ≡ map (λ c. c.lines k) cases
 
 -- of the inventory in `v1`
 abbrev in_first : String → StorageRoot → (NewCodes → List Note) → Said
@@ -180,9 +182,9 @@ other_places k = refl
 abbrev form_and_flipped : StorageRoot
 form_and_flipped = first_beside (codes "x") first_flipped
 
-unread_inventory : (k : NewCodes) → (notes_with (Some k) (first_beside (beside first_256) first_flipped) (Some 3) (place "o/v1/inventory.json") ≡ plain S08 ∷ [])
-    × (notes_with (Some k) form_and_flipped (Some 0) (place "o/v1/inventory.json") ≡ note E061 (codes "sha256") ∷ plain S08 ∷ [])
-    × (cost_with (Some k) form_and_flipped (Some 3) (place "o/v1/inventory.json") ≡ 4)
+unread_inventory : (k : NewCodes) → (notes (Some k) (first_beside (beside first_256) first_flipped) (Some 3) (place "o/v1/inventory.json") ≡ plain S08 ∷ [])
+    × (notes (Some k) form_and_flipped (Some 0) (place "o/v1/inventory.json") ≡ note E061 (codes "sha256") ∷ plain S08 ∷ [])
+    × (cost (Some k) form_and_flipped (Some 3) (place "o/v1/inventory.json") ≡ 4)
 unfolding audit_on_literals
 unread_inventory k = (refl, refl, refl)
 
@@ -190,8 +192,8 @@ unread_inventory k = (refl, refl, refl)
 abbrev unexpected : StorageRoot
 unexpected = object (naming "v2") (folder "o/v1" ∷ bytes_at "o/v1/inventory.json" first_flipped ∷ [])
 
-unopened_inventory : (k : NewCodes) → (notes_with (Some k) unexpected (Some 3) (place "o/v1/inventory.json") ≡ plain E058 ∷ [])
-    × (is_hashed_with (Some k) unexpected (place "o/v1/inventory.json") ≡ false) × (cost_with (Some k) unexpected (Some 3) (place "o/v1/inventory.json") ≡ 0)
+unopened_inventory : (k : NewCodes) → (notes (Some k) unexpected (Some 3) (place "o/v1/inventory.json") ≡ plain E058 ∷ [])
+    × (is_hashed (Some k) unexpected (place "o/v1/inventory.json") ≡ false) × (cost (Some k) unexpected (Some 3) (place "o/v1/inventory.json") ≡ 0)
 unfolding audit_on_literals
 unopened_inventory k = (refl, refl, refl)
 
@@ -202,7 +204,7 @@ whole_object = object_beside (beside second_256) (naming "v2") (
     folder "o/v1" ∷ bytes_at "o/v1/inventory.json" (naming "v1") ∷ bytes_at "o/v1/inventory.json.sha256" (beside first_256) ∷ text_at "o/v1/note" "x"
     ∷ folder "o/v2" ∷ bytes_at "o/v2/inventory.json" first_flipped ∷ bytes_at "o/v2/inventory.json.sha256" (beside second_256) ∷ folder "o/v3" ∷ [])
 
-audit_of_versions : (k : NewCodes) → audit_with (Some k) whole_object []
+audit_of_versions : (k : NewCodes) → audit (Some k) whole_object []
     ≡ the_root ∷ item "o" 0 (plain Clean ∷ note k.is_now (codes "sha256 5aae4bf052d22be5d2840c5cf7ef5ae539183f222606b54201e8b297ec6924dd v2") ∷ [])
     ∷ right "o/v1/inventory.json" 55 "54" ∷ item "o/v1/note" 0 (plain E015 ∷ [])
     ∷ item "o/v2/inventory.json" 55 (
@@ -211,19 +213,19 @@ audit_of_versions : (k : NewCodes) → audit_with (Some k) whole_object []
 unfolding audit_on_literals
 audit_of_versions k = refl
 
-files_of_versions : (k : NewCodes) → hashed_with (Some k) whole_object (item_places_with (Some k) whole_object) ≡ place "o/v1/inventory.json" ∷ place "o/v2/inventory.json" ∷ []
-unfolding audit_on_literals hashed_with item_places_with
+files_of_versions : (k : NewCodes) → hashed_among (Some k) whole_object (item_places (Some k) whole_object) ≡ place "o/v1/inventory.json" ∷ place "o/v2/inventory.json" ∷ []
+unfolding audit_on_literals hashed_among item_places
 files_of_versions k = refl
 
 -- ---- metadata, and what openings show
 
-metadata_with_versions : (k : NewCodes) → filter (is_meta_with (Some k) whole_object) (map (λ e. e.0) whole_object)
+metadata_with_versions : (k : NewCodes) → filter (is_meta (Some k) whole_object) (map (λ e. e.0) whole_object)
     ≡ place "0=ocfl_1.1" ∷ place "o/0=ocfl_object_1.1" ∷ place "o/inventory.json" ∷ place "o/inventory.json.sha256" ∷ place "o/v1/inventory.json.sha256" ∷ place "o/v2/inventory.json.sha256" ∷ []
 unfolding audit_on_literals
 metadata_with_versions k = refl
 
 -- by its name, whether or not it is there; in a version directory alone
-metadata_by_name_with_versions : (k : NewCodes) → map (is_meta_with (Some k) whole_object)
+metadata_by_name_with_versions : (k : NewCodes) → map (is_meta (Some k) whole_object)
     (place "o/v3/inventory.json.sha512" ∷ place "o/v1/inventory.json.md5" ∷ place "o/w1/inventory.json.sha256" ∷ place "o/v1/content/inventory.json.sha256" ∷ place "p/v1/inventory.json.sha256" ∷ [])
     ≡ true ∷ false ∷ false ∷ false ∷ false ∷ []
 unfolding audit_on_literals
@@ -233,7 +235,7 @@ metadata_by_name_with_versions k = refl
 abbrev failed : String → Opening
 failed p = record { place = place p; given = 2; failed = true }
 
-openings_of_versions : (k : NewCodes) → (content_trail_with (Some k) whole_object (failed "o/v1/inventory.json.sha256" ∷ failed "o/v1/inventory.json" ∷ []) ≡ place "o/v1/inventory.json" ∷ [])
-    × (unread_with (Some k) whole_object (failed "o/v1/inventory.json.sha256" ∷ failed "o/v1/inventory.json" ∷ []) ≡ (place "o/v1/inventory.json", 2) ∷ [])
+openings_of_versions : (k : NewCodes) → (content_trail (Some k) whole_object (failed "o/v1/inventory.json.sha256" ∷ failed "o/v1/inventory.json" ∷ []) ≡ place "o/v1/inventory.json" ∷ [])
+    × (unread_of (Some k) whole_object (failed "o/v1/inventory.json.sha256" ∷ failed "o/v1/inventory.json" ∷ []) ≡ (place "o/v1/inventory.json", 2) ∷ [])
 unfolding audit_on_literals
 openings_of_versions k = (refl, refl)

@@ -158,12 +158,12 @@ with_content d path = codes "{\"digestAlgorithm\":\"sha256\",\"contentDirectory\
     "\",\"manifest\":{\"ba7816bf8f01cfea414140de5dae2223b00361a396177a9cb410ff61f20015ad\":[\"" ++ path ++ codes "\"]}}"
 
 -- stops nothing, but no path can be in it
-content_directory_longer_than_a_name : text (audit (sha256_object (with_content (replicate 256 97) (codes "v1/" ++ replicate 256 97 ++ codes "/f")) []) [])
+content_directory_longer_than_a_name : text (audit None (sha256_object (with_content (replicate 256 97) (codes "v1/" ++ replicate 256 97 ++ codes "/f")) []) [])
     ≡ codes "ok\t.\t-\nS06\to\tv1/" ++ replicate 256 97 ++ codes "/f\n"
 unfolding audit_on_literals
 content_directory_longer_than_a_name = refl
 
-content_directory_with_nul : text (audit (sha256_object (with_content (codes "a\\u0000") (codes "v1/a\\u0000/f")) []) []) ≡ codes "ok\t.\t-\nS06\to\tv1/a%00/f\n"
+content_directory_with_nul : text (audit None (sha256_object (with_content (codes "a\\u0000") (codes "v1/a\\u0000/f")) []) []) ≡ codes "ok\t.\t-\nS06\to\tv1/a%00/f\n"
 unfolding audit_on_literals
 content_directory_with_nul = refl
 

@@ -9,18 +9,19 @@ use Rattle.ocfl_inventory.specs.{Note.{plain}, Declaration.{undeclared, declared
 use Rattle.ocfl_inventory.specs.{declared.declaration.Level.TheVariants.{Object}, Table.{Table}}
 use Rattle.ocfl_digest.specs.declared.algorithm.Algorithm.TheVariants.{Sha256}
 use Rattle.ocfl_rules.specs.Zone.{hierarchy, is_entered, is_listed_zone, zone, object_declared, seen, files_in}
-use Rattle.ocfl_rules.specs.Lines.{notes, hierarchy_notes, object_entry_notes, version_entry_notes, content_notes}
+use Rattle.ocfl_rules.specs.Inventories.{notes}
+use Rattle.ocfl_rules.specs.Lines.{hierarchy_notes, object_entry_notes, version_entry_notes, content_notes}
 use Rattle.ocfl_rules.specs.Audit.{audit}
 use Rattle.ocfl_rules.proofs.Cases.OnLiterals.{audit_on_literals}
 use Rattle.ocfl_rules.proofs.Cases.Trees.{AllAre, reports, place, text_at, bytes_at, folder, link, storage_root}
 
 -- ---- the declaration of the storage root
 
-declared_root_is_no_finding : found (audit (storage_root []) []) ≡ false
+declared_root_is_no_finding : found (audit None (storage_root []) []) ≡ false
 unfolding audit_on_literals
 declared_root_is_no_finding = refl
 
-empty_root_is_finding : found (audit [] []) ≡ true
+empty_root_is_finding : found (audit None [] []) ≡ true
 unfolding audit_on_literals
 empty_root_is_finding = refl
 
@@ -164,7 +165,7 @@ directory_too_deep root = refl
 
 -- also in the audit, wherever one is seen in the hierarchy
 -- Seen to refuse: empty before too deep.
-seen_directory_too_deep : (root : StorageRoot) → zone root (deep 128) ≡ hierarchy → seen root (deep 128) ≡ Some dir → notes root None (deep 128) ≡ plain S05 ∷ []
+seen_directory_too_deep : (root : StorageRoot) → zone root (deep 128) ≡ hierarchy → seen root (deep 128) ≡ Some dir → notes None root None (deep 128) ≡ plain S05 ∷ []
 seen_directory_too_deep root where_it_lies is_seen = rw (where_it_lies, is_seen)
 
 -- files and links there have their lines

@@ -1,5 +1,5 @@
 -- Words to write the trees of worked cases with, and the digests that they name.
-use Rattle.std.proofs.Common.{◌≡◌, ◌==◌, ℕ, List, [], ◌∷◌, ◌++◌, codes, map, refl, ◌∙◌}
+use Rattle.std.proofs.Common.{◌≡◌, ◌==◌, ℕ, List, [], ◌∷◌, ◌++◌, codes, map, refl, ◌∙◌, None}
 use Rattle.std.specs.List.{join_with_byte, slice_split}
 use Prim.Native.String.{String}
 use Rattle.ocfl_tree.specs.{Place.{Text, Place}, StorageRoot.{StorageRoot, Leaf, file, dir, other}}
@@ -39,7 +39,7 @@ case name shown wanted = record { name = name; shown = shown; quick = shown; is_
 
 -- the text of the audit of a tree in which each file can be read
 abbrev pub reports : String → StorageRoot → String → Case
-reports name root t = case name (text (audit root [])) (codes t)
+reports name root t = case name (text (audit None root [])) (codes t)
 
 -- ---- what is in a tree
 

@@ -1,5 +1,5 @@
 -- Worked cases: the walk over a stack of listings and the table of one object.
-use Rattle.std.proofs.Common.{◌≡◌, ℕ, List, [], ◌∷◌, codes, refl, map}
+use Rattle.std.proofs.Common.{◌≡◌, ℕ, List, [], ◌∷◌, codes, refl, map, None}
 use Rattle.ocfl_tree.specs.{Place.{Text, Place}, StorageRoot.{StorageRoot}}
 use Rattle.ocfl_report.specs.Text.{text}
 use Rattle.ocfl_rules.specs.{Walk.{walk}, Stack.{taken, lists, listed_at}}
@@ -8,7 +8,7 @@ use Rattle.ocfl_rules.proofs.Cases.Trees.{Case, case, AllAre, Behind, behind, be
 
 -- what a walk that enters a tree at a place takes from there on
 abbrev takes : StorageRoot → Behind → Case
-takes root b = case b.name (text (taken 12 root [] (place b.place) (listed_at root [] (place b.place) []))) (codes b.lines)
+takes root b = case b.name (text (taken None 12 root [] (place b.place) (listed_at root [] (place b.place) []))) (codes b.lines)
 
 -- ---- a file that is missing, and one that is right
 
@@ -24,7 +24,7 @@ directories_listed = refl
 
 -- what the walk has taken, and has listed, after n places
 abbrev taken_of_one_file : ℕ → Text
-taken_of_one_file n = text (taken n sha512_file [] [] (listed_at sha512_file [] [] []))
+taken_of_one_file n = text (taken None n sha512_file [] [] (listed_at sha512_file [] [] []))
 
 abbrev listed_of_one_file : ℕ → List Place
 listed_of_one_file n = lists n sha512_file [] (listed_at sha512_file [] [] [])
@@ -60,11 +60,11 @@ listed_behind_the_second_head = refl
 abbrev plain_tree : StorageRoot
 plain_tree = storage_root (folder "x" ∷ folder "y" ∷ text_at "y/z" "z" ∷ [])
 
-walk_through_the_hierarchy : text (walk 4 plain_tree [] []) ≡ codes "ok\t.\t-\nE073\tx\t-\nE072\ty/z\t-\n"
+walk_through_the_hierarchy : text (walk None 4 plain_tree [] []) ≡ codes "ok\t.\t-\nE073\tx\t-\nE072\ty/z\t-\n"
 unfolding audit_on_literals
 walk_through_the_hierarchy = refl
 
-walk_through_an_object : text (walk 6 missing_and_right [] []) ≡ codes "ok\t.\t-\nok\to\t-\nE092\to/v1/content/a\tsha256 missing\nE093\to/v1/content/a\tsha1 missing\nok\to/v1/content/b\t3\n"
+walk_through_an_object : text (walk None 6 missing_and_right [] []) ≡ codes "ok\t.\t-\nok\to\t-\nE092\to/v1/content/a\tsha256 missing\nE093\to/v1/content/a\tsha1 missing\nok\to/v1/content/b\t3\n"
 unfolding audit_on_literals
 walk_through_an_object = refl
 
@@ -73,6 +73,6 @@ unfolding audit_on_literals
 taken_from_the_hierarchy = refl
 
 -- what is under no directory is not there, for the walk as for the audit
-walk_without_directory : text (walk 4 (storage_root (folder "a/b" ∷ text_at "a/b/0=ocfl_object_1.1" "ocfl_object_1.1\n" ∷ [])) [] []) ≡ codes "ok\t.\t-\n"
+walk_without_directory : text (walk None 4 (storage_root (folder "a/b" ∷ text_at "a/b/0=ocfl_object_1.1" "ocfl_object_1.1\n" ∷ [])) [] []) ≡ codes "ok\t.\t-\n"
 unfolding audit_on_literals
 walk_without_directory = refl

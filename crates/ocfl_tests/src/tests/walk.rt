@@ -45,7 +45,7 @@ pub(crate) fn judged<T: Tree>(
     pending: Pending,
 ) -> Result<(String, u64), Fail> {
     let mut block = Block::new(alloc)?;
-    let (lines, cost) = judge(alloc, store, pending, &mut block)?;
+    let (lines, cost) = judge(store, pending, &mut block)?;
     Ok((String::from_utf8(lines.into_piece(alloc)?.text)?, cost))
 }
 

@@ -5,7 +5,8 @@ use Rattle.ocfl_tree.specs.{Place.{Text, Place}, StorageRoot.{StorageRoot, max_e
 use Rattle.ocfl_tree.specs.{Store.{Store, Did}, Listing.{IsOrdinary}, declared.store.Entry.{Entry}}
 use Rattle.ocfl_tree.specs.declared.store.Opening.{Opening}
 use Rattle.ocfl_rules.specs.Zone.{Zone, inside, root_declared, zone, table_at, is_known, max_listed_depth}
-use Rattle.ocfl_rules.specs.{Lines.{is_hashed}, Trail.{content_trail, heads_of, reads_inventory}}
+use Rattle.ocfl_rules.specs.Inventories.{is_hashed}
+use Rattle.ocfl_rules.specs.Trail.{content_trail, heads_of, reads_inventory}
 use Rattle.ocfl_rules.specs.Walk.{is_reached, step_listed}
 use Rattle.ocfl_rules.specs.Stack.{seen_places, seen_left, listed_at, IsListed}
 use Rattle.ocfl_item.specs.Looking.{way_to, IsFront, failures_by}
@@ -37,13 +38,13 @@ pub record Calls (root : StorageRoot) (s t : Store) (failures : ℕ) : Type 0 wh
   pub trail : List Opening
   pub listings : List Place
   pub did : Did s t trail listings failures
-  pub read : failures ≡ 0 → IsMetadataRead root trail
-  pub meta : content_trail root trail ≡ []
+  pub read : failures ≡ 0 → IsMetadataRead None root trail
+  pub meta : content_trail None root trail ≡ []
   pub reached : AreReached root trail
 
 -- a fault of the store names the place at which the last call failed
 abbrev pub NamesFailed : (root : StorageRoot) (s t : Store) (why : Fault) → Calls root s t (failures_by why) → Type 0
-NamesFailed root s t why calls = (q : Place) → why ≡ fault.Store q → (is_hashed root q ≡ false) × FailedAt root s t calls.listings calls.trail q
+NamesFailed root s t why calls = (q : Place) → why ≡ fault.Store q → (is_hashed None root q ≡ false) × FailedAt None root s t calls.listings calls.trail q
 
 -- from s to t directories of a way were listed in order, with more of it left, and the inventories
 -- of some objects were read in order, right in these directories, with more of them left, and
@@ -53,7 +54,7 @@ pub record Descends (root : StorageRoot) (s t : Store) (way more may left : List
   pub only : AreInventories root calls.trail
   pub listed : IsFront (calls.listings ++ more) way
   pub heads : IsFront (heads_of root calls.trail ++ left) may
-  pub near : LieIn root calls.listings calls.trail
+  pub near : LieIn None root calls.listings calls.trail
 
 -- and of the directories of the way that are entered each was listed, or is among those left
 pub record Comes (root : StorageRoot) (s t : Store) (way more may left : List Place) : Type 0 where
@@ -72,7 +73,7 @@ pub record ListsRoot (root : StorageRoot) (s t : Store) (r : Result (Option Fold
   pub gives : MatchResult r
       (λ next. Did s t [] ([] ∷ []) 0
       × MatchOption next (is_known (root_declared root) ≡ false) (λ base. InHierarchy root base.place base.entries.items))
-      (λ why. Stops root s t ([] ∷ []) [] why)
+      (λ why. Stops None root s t ([] ∷ []) [] why)
 
 -- ---- the table of an object
 
@@ -82,7 +83,7 @@ pub record OpensIn (root : StorageRoot) (s t : Store) (o : Place) (failures : �
   pub only : AreInventories root calls.trail
   pub unlisted : calls.listings ≡ []
   pub heads : IsFront (heads_of root calls.trail ++ []) (o ∷ [])
-  pub near : LieIn root (o ∷ []) calls.trail
+  pub near : LieIn None root (o ∷ []) calls.trail
 
 -- and then there was a fault
 pub record OpensInFails (root : StorageRoot) (s t : Store) (o : Place) (why : Fault) : Type 0 where

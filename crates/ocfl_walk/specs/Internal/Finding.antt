@@ -1,5 +1,5 @@
 -- One place, looked up by itself: the way down to it, and what is met there.
-use Rattle.std.specs.Prelude.{◌≡◌, ◌≢◌, ℕ, List, [], Option, Result, MatchResult, AllPairs}
+use Rattle.std.specs.Prelude.{◌≡◌, ◌≢◌, ℕ, List, [], Option, Result, MatchResult, AllPairs, None}
 use Rattle.ocfl_tree.specs.{Place.{Place}, StorageRoot.{StorageRoot}, Store.{Store}}
 use Rattle.ocfl_rules.specs.Trail.{heads_of}
 use Rattle.ocfl_item.specs.{Auditing.{LieIn}, Looking.{IsFront, failures_by}, Meeting.{IsItemAt}}
@@ -15,7 +15,7 @@ pub record Finds (root : StorageRoot) (s t : Store) (way may : List Place) (fail
   pub closed : may ≡ [] → calls.trail ≡ []
   pub listed : IsFront calls.listings way
   pub heads : IsFront (heads_of root calls.trail) may
-  pub near : LieIn root calls.listings calls.trail
+  pub near : LieIn None root calls.listings calls.trail
 
 -- and each directory of the way that is entered was listed
 pub record FindsAll (root : StorageRoot) (s t : Store) (way may : List Place) : Type 0 where
@@ -29,4 +29,4 @@ pub record FindFails (root : StorageRoot) (s t : Store) (way may : List Place) (
 
 -- the item of a place
 pub record FindsItem (root : StorageRoot) (s t : Store) (way may : List Place) (p : Place) (r : Result (Option Pending) Fault) : Type 0 where
-  pub gives : MatchResult r (λ o. FindsAll root s t way may × IsItemAt root p o) (λ why. FindFails root s t way may why)
+  pub gives : MatchResult r (λ o. FindsAll root s t way may × IsItemAt None root p o) (λ why. FindFails root s t way may why)

@@ -6,7 +6,9 @@ use Rattle.ocfl_tree.specs.Place.{Text, Place, text_cmp, place_cmp, begins}
 use Rattle.ocfl_tree.specs.Ascending.{IsAscending, IsBeforeAll}
 use Rattle.ocfl_tree.specs.{StorageRoot.{StorageRoot, max_entries}, declared.store.Entry.{Entry}}
 use Rattle.ocfl_inventory.specs.{Table.{IsFit, Table}, NextPath.{next_path}}
-use Rattle.ocfl_rules.specs.{Zone.{seen, max_listed_depth}, Lines.{notes}, Due.{due}}
+use Rattle.ocfl_rules.specs.Zone.{seen, max_listed_depth}
+use Rattle.ocfl_rules.specs.Inventories.{notes}
+use Rattle.ocfl_rules.specs.Due.{due}
 use Rattle.ocfl_rules.specs.Walk.{seen_names}
 use Rattle.ocfl_rules.specs.Stack.{NoneSeenBetween, NoneSeenAbove, Frame, IsStack, IsListed}
 use Rattle.ocfl_item.specs.{Around.{IsTableAround}, declared.folder.Folder.{Folder}}
@@ -146,15 +148,15 @@ pub record IsTurn (root : StorageRoot) (last x : Place) (fs : List Frame) : Type
   pub none_seen : NoneSeenBetween root last x
   pub stack : IsStack root x fs
   pub listed : IsListed root fs
-  pub some : notes root None x ≢ [] → due root (Some last) ≡ x ∷ due root (Some x)
-  pub none : notes root None x ≡ [] → due root (Some last) ≡ due root (Some x)
+  pub some : notes None root None x ≢ [] → due None root (Some last) ≡ x ∷ due None root (Some x)
+  pub none : notes None root None x ≡ [] → due None root (Some last) ≡ due None root (Some x)
 
 -- what a turn comes to
 abbrev pub TurnIs : StorageRoot → Place → List Pile → Turn → Type 0
 TurnIs root last ps turn.Base = ⊥
 TurnIs root last ps (turn.Entry e) = IsTurn root last e ((e, seen_names root e) ∷ popped ps)
 TurnIs root last ps (turn.Path b) = IsTurn root last b (frames_of ps) × (seen root b ≡ None)
-TurnIs root last ps turn.End = NoneSeenAbove root last × (due root (Some last) ≡ [])
+TurnIs root last ps turn.End = NoneSeenAbove root last × (due None root (Some last) ≡ [])
 
 -- the entries that are left of a listing, the next first
 abbrev pub left_of_folder : Folder → List Entry

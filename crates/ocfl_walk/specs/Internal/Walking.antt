@@ -22,7 +22,7 @@ IsPileAt root e o = MatchOption o (seen_names root e ≡ []) (λ f. (f.place ≡
 
 -- what was met at an entry, with the object that holds it
 pub record IsMeeting (root : StorageRoot) (e : Place) (m : Met) : Type 0 where
-  pub item : IsItemAt root e m.item
+  pub item : IsItemAt None root e m.item
   pub folder : IsPileAt root e m.folder
   pub table : IsTableAround root e m.around
 
@@ -37,8 +37,8 @@ pub record IsFairMet (e : Place) (m : Met) : Type 0 where
 
 -- the next item: the first that is due
 pub record IsNext (root : StorageRoot) (last : Option Place) (p : Pending) : Type 0 where
-  pub pending : IsPending root p
-  pub due_are : due root last ≡ p.place ∷ due root (Some p.place)
+  pub pending : IsPending None root p
+  pub due_are : due None root last ≡ p.place ∷ due None root (Some p.place)
 
 abbrev pub step_from : Option Pending → Step
 step_from None = step.Nothing
@@ -51,7 +51,7 @@ FailsTo root s t from to why = FailsBetween root s t from (Some to) why
 -- one step to a place
 abbrev pub Steps : StorageRoot → Store → Store → Option Place → Stand → Step → Type 0
 Steps root s t last new (step.Item p) = Walks root s t last (Some p.place) × StandsAt root new (Some p.place) × IsBeyond last p.place × IsNext root last p
-Steps root s t last new step.Nothing = (x : Place) × Walks root s t last (Some x) × StandsAt root new (Some x) × IsBeyond last x × (due root last ≡ due root (Some x))
+Steps root s t last new step.Nothing = (x : Place) × Walks root s t last (Some x) × StandsAt root new (Some x) × IsBeyond last x × (due None root last ≡ due None root (Some x))
 Steps root s t last new step.End = ⊥
 
 -- what a step to x comes to, or the fault that it meets
@@ -63,8 +63,8 @@ abbrev pub StepsOut : StorageRoot → Store → Store → Option Place → End �
 StepsOut root s t last e new (step.Item p) =
     Walks root s t last (Some p.place) × StandsAt root new (Some p.place) × IsBeyond last p.place × (is_past e p.place ≡ false) × IsNext root last p
 StepsOut root s t last e new step.Nothing =
-    (x : Place) × Walks root s t last (Some x) × StandsAt root new (Some x) × IsBeyond last x × (is_past e x ≡ false) × (due root last ≡ due root (Some x))
-StepsOut root s t last e new step.End = WalksOut root s t last e × (before_end e (due root last) ≡ []) × StandsAt root new last
+    (x : Place) × Walks root s t last (Some x) × StandsAt root new (Some x) × IsBeyond last x × (is_past e x ≡ false) × (due None root last ≡ due None root (Some x))
+StepsOut root s t last e new step.End = WalksOut root s t last e × (before_end e (due None root last) ≡ []) × StandsAt root new last
 
 abbrev pub StepsOutTo : StorageRoot → Store → Store → Option Place → End → Stand → Result Step Fault → Type 0
 StepsOutTo root s t last e new r = MatchResult r (λ step. StepsOut root s t last e new step) (λ why. FailsOut root s t last e why)
@@ -73,7 +73,7 @@ StepsOutTo root s t last e new r = MatchResult r (λ step. StepsOut root s t las
 abbrev pub StepsAt : StorageRoot → Store → Store → Place → End → Stand → Stand → Step → Type 0
 StepsAt root s t q e old new (step.Item p) = StepsOut root s t (Some q) e new (step.Item p)
 StepsAt root s t q e old new step.Nothing = StepsOut root s t (Some q) e new step.Nothing
-StepsAt root s t q e old new step.End = WalksOut root s t (Some q) e × (before_end e (due root (Some q)) ≡ []) × (new ≡ old)
+StepsAt root s t q e old new step.End = WalksOut root s t (Some q) e × (before_end e (due None root (Some q)) ≡ []) × (new ≡ old)
 
 abbrev pub StepsAtTo : StorageRoot → Store → Store → Place → End → Stand → Stand → Result Step Fault → Type 0
 StepsAtTo root s t q e old new r = MatchResult r (λ step. StepsAt root s t q e old new step) (λ why. FailsOut root s t (Some q) e why)
@@ -104,11 +104,11 @@ GoesAt old new step.End = new ≡ old
 
 -- nothing is left before the end where it stands
 abbrev pub HasEnded : StorageRoot → End → Stand → Type 0
-HasEnded root e new = (x : Option Place) × StandsAt root new x × (before_end e (due root x) ≡ [])
+HasEnded root e new = (x : Option Place) × StandsAt root new x × (before_end e (due None root x) ≡ [])
 
 -- the next item
 abbrev pub NextTold : StorageRoot → Store → Store → Option Place → End → Stand → Option Pending → Type 0
-NextTold root s t last e new None = WalksOut root s t last e × (before_end e (due root last) ≡ []) × HasEnded root e new
+NextTold root s t last e new None = WalksOut root s t last e × (before_end e (due None root last) ≡ []) × HasEnded root e new
 NextTold root s t last e new (Some p) = Walks root s t last (Some p.place) × StandsAt root new (Some p.place) × IsNext root last p
 
 abbrev pub NextOutTo : StorageRoot → Store → Store → Option Place → End → Stand → Result (Option Pending) Fault → Type 0
@@ -124,4 +124,4 @@ Onward old new = (new ≡ old) ⊎ ((x : Place) × (new.last ≡ Some x) × IsBe
 
 abbrev pub SoFar : StorageRoot → Store → Store → Option Place → End → Stand → Type 0
 SoFar root s t last e stand =
-    ((t ≡ s) × StandsAt root stand last) ⊎ ((x : Place) × Walks root s t last (Some x) × StandsAt root stand (Some x) × IsBeyond last x × (is_past e x ≡ false) × (due root last ≡ due root (Some x)))
+    ((t ≡ s) × StandsAt root stand last) ⊎ ((x : Place) × Walks root s t last (Some x) × StandsAt root stand (Some x) × IsBeyond last x × (is_past e x ≡ false) × (due None root last ≡ due None root (Some x)))

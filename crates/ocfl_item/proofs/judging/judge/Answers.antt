@@ -30,8 +30,8 @@ returns-then-not-pending-clause-closed g c = λ h hashed. absurd (true_not_false
 
 pub returns-then-not-pending-clause-told : goal.returns-then-not-pending-clause-told
 returns-then-not-pending-clause-told g c =
-    λ h root over short pending.
-    judged_known root _ c.args.pending over pending c.if-not-pending.true
+    λ h root over further short pending.
+    judged_known further root _ c.args.pending over pending c.if-not-pending.true
 
 pub returns-clause-cost : goal.returns-clause-cost
 returns-clause-cost g c = judged_fits _ _ c.judged.result c.if-not-pending.false (few_given c.hash_open-read.result c.hash_open-read.ensures.short c.hash_open-read.ensures.given) c.judged.ensures.cost
@@ -47,6 +47,6 @@ returns-clause-largest g c = λ h. read_largest _ _ _ _ _ c.hash_open-read.resul
 
 pub returns-clause-told : goal.returns-clause-told
 returns-clause-told g c =
-    λ h root over short pending.
-    judged_is root _ _ c.args.pending over pending c.if-not-pending.false short c.wanted.result c.wanted.ensures c.hash_open-read.result c.judged.result (c.hash_open-read.ensures.hashes h root over)
+    λ h root over further short pending.
+    judged_is further root _ _ c.args.pending over pending c.if-not-pending.false short c.wanted.result c.wanted.ensures c.hash_open-read.result c.judged.result (c.hash_open-read.ensures.hashes h root over)
     c.judged.ensures.place c.judged.ensures.cost c.judged.ensures.refused c.judged.ensures.whole c.judged.ensures.part

@@ -21,7 +21,7 @@ use Rattle.ocfl_night.specs.{Ending.{place_or_pause}, Reading.{AreBeyond, AreDec
 use Rattle.ocfl_night.proofs.Reading.{beyond_more, goes_read, halts_read, next_reached, read_all, read_last, read_more, read_none}
 use Rattle.ocfl_tree.specs.{Ascending.{IsAscending}, Place.{place_cmp}}
 use Rattle.ocfl_state.specs.Crash.{LeavesOnly}
-use Rattle.ocfl_night.specs.{Again.{GoesOn, IsOpened}, Ending.{cycle_of}, Halting.{AreFailed}, Promises.{IfThere}}
+use Rattle.ocfl_night.specs.{Again.{GoesOn, TookOrBegan}, Ending.{cycle_of}, Halting.{AreFailed}, Promises.{IfThere}}
 use Rattle.ocfl_night.proofs.{Again.{goes_more, goes_on_by, little_begun, little_last, little_more, little_none, little_now, same_cursor, unheard_begun, unheard_none, unheard_paused}, Beginnings.{made_in}}
 use Rattle.ocfl_night.specs.Asking.{AskedFrom, GaveAll, IsDeclaredBy, declaring}
 use Rattle.ocfl_night.proofs.Asking.{asked_named, err_holds, may_named}
@@ -109,7 +109,7 @@ module _ (g : given.Over) (c : After-go_on_after g) (tells : IsTrue g.T.Tree.tol
   slice_once : IsAscending place_cmp (content_since root (g.T.Tree.state c.loop-run.tree) (g.T.Tree.state c.slice.new.tree))
   slice_once = c.slice.ensures.once declares tells root (c.loop-run.invariant.root tells root over short) short (c.loop-run.invariant.walk tells root over short)
 
-  slice_took : IsOpened (reached c.in_ok-made.made.checkpoint) c.in_ok-made.made.end (content_since root (g.T.Tree.state c.loop-run.tree) (g.T.Tree.state c.slice.new.tree))
+  slice_took : TookOrBegan (reached c.in_ok-made.made.checkpoint) c.in_ok-made.made.end (content_since root (g.T.Tree.state c.loop-run.tree) (g.T.Tree.state c.slice.new.tree))
   slice_took = c.in_ok-made.ensures.took declares tells root (c.loop-run.invariant.root tells root over short) short (c.loop-run.invariant.walk tells root over short)
 
   slice_crash : IsTrue g.S.StateFolder.told → (t : Text) → IsReady g.S.StateFolder (of_any (part_of c.args.part.now)) t c.args.start c.args.folder.now

@@ -1,4 +1,4 @@
-use Rattle.std.proofs.Common.{◌∙◌, ap, map}
+use Rattle.std.proofs.Common.{◌∙◌, ap, map, None}
 use Rattle.ocfl_report.specs.Text.{text}
 use Rattle.ocfl_rules.specs.{Audit.{audit, Unread}, Parts.{within}}
 use Rattle.ocfl_night_laws.proofs.AnyNights.{one_cycle, joined_reports}
@@ -12,4 +12,4 @@ returns-clause-unread c = λ root rounds d w all.
 pub returns-clause-exact : goal.returns-clause-exact
 returns-clause-exact c = λ root rounds d w all none.
     let one = one_cycle root rounds.part w.led.first w.last w.led.runs all w.led.chain in
-    w.report ∙ joined_reports w.led.runs ∙ c.runs_that_stop_join.ensures.ended root rounds.part w.led.first (map (λ r. r.run) w.led.runs) w.led.starts one.0 one.1 ∙ ap (λ (u : Unread). text (within rounds.part (audit root u))) none
+    w.report ∙ joined_reports w.led.runs ∙ c.runs_that_stop_join.ensures.ended root rounds.part w.led.first (map (λ r. r.run) w.led.runs) w.led.starts one.0 one.1 ∙ ap (λ (u : Unread). text (within rounds.part (audit None root u))) none

@@ -5,5 +5,5 @@ pub returns : goal.returns
 returns c = record {
   by_name = by_name;
   names = names_ascend;
-  here = λ root unread d. item_here root unread d;
+  here = λ further root unread d. item_here further root unread d;
 }

@@ -3,8 +3,8 @@ use Rattle.ocfl_rules.proofs.laws.parts_join.Goals as goal
 
 pub returns : goal.returns
 returns c = record {
-  items = λ root unread separators up. items_join root separators up unread;
-  texts = λ root unread separators up. texts_join root separators up unread;
+  items = λ further root unread separators up. items_join further root separators up unread;
+  texts = λ further root unread separators up. texts_join further root separators up unread;
   hashed = hashed_join;
   places = places_join;
 }

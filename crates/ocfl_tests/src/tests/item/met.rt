@@ -195,6 +195,7 @@ fn a_path_that_is_not_seen_is_missing_where_the_table_names_it(
             item: visit_path(alloc, object, &place)?,
             folder: None,
             table: None,
+            root: None,
         };
         expect_met(&rt, row, &mut store, visit, want)?;
     }

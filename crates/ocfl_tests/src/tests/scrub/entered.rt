@@ -44,7 +44,7 @@ fn items_above(
         if before.is_some_and(|place| pending.place() <= place) {
             return Err("an item is not above the one before".into());
         }
-        let (lines, _) = judge(alloc, store, pending, block)?;
+        let (lines, _) = judge(store, pending, block)?;
         let piece = lines.into_piece(alloc)?;
         items.push(Passage {
             place: piece.place,

@@ -1,3 +1,4 @@
+use Rattle.std.specs.Prelude.{None}
 use Rattle.std.proofs.Common.{◌≡◌, ◌++◌, ◌∷◌, [], true, sym, subst, ◌∙◌}
 use Rattle.std.proofs.lemmas.Result.{err_from_is_err_and}
 use Rattle.ocfl_item.specs.Ways.{is_listable}
@@ -9,7 +10,7 @@ pub returns-clause-told : goal.returns-clause-told
 returns-clause-told g c = λ h root over listing.
     let may : is_listable root (c.args.folder.now.place ++ c.args.name.now ∷ []) ≡ true =
     sym (listable_is root c.args.folder.now.place c.args.name.now c.args.folder.now.entries.items listing) ∙ sym c.can_enter.ensures ∙ c.if-not-can_enter.false in
-    enters_at root _ _ _ _ _ _ c.in_ok-place.ensures (c.in_ok-list.ensures.told h root over (subst (λ p. is_listable root p ≡ true) (sym c.in_ok-place.ensures) may))
+    enters_at root _ _ _ _ _ _ c.in_ok-place.ensures (c.in_ok-list.ensures.told h root over None (subst (λ p. is_listable root p ≡ true) (sym c.in_ok-place.ensures) may))
 
 pub returns-in_err-place-clause-told : goal.returns-in_err-place-clause-told
 returns-in_err-place-clause-told g c = λ h root over listing.

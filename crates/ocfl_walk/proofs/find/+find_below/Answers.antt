@@ -1,3 +1,4 @@
+use Rattle.std.specs.Prelude.{None}
 use Rattle.std.proofs.{Common.{◌∙◌, sym, subst}, lemmas.Result.{err_from_is_err_and}}
 use Rattle.ocfl_item.specs.{Around.{IsPart}, Ways.{IsAt}}
 use Rattle.ocfl_walk.proofs.FindLaws.{further, item_further, item_refused, item_stop, shut_finds, shut_table, shut_unseen}
@@ -24,7 +25,7 @@ returns-in_ok-visit_path-in-None g t c = record {
   told = λ h root over at part is.
       let parts = rw c.in-Some.is at c.split_first.ensures.cases in
       let leads = rw c.in-None.is at c.in_ok-inner.ensures.told h root over at part c.args.rest.now in
-      let told = c.in_ok-visit_path-in-None.ensures.told root
+      let told = c.in_ok-visit_path-in-None.ensures.told None root
       (shut_table root c.args.folder.place c.args.name.now c.args.rest.now _ c.args.around c.down.new.object is _ _ leads)
       (shut_unseen root c.args.folder.place c.args.name.now c.args.rest.now _ c.args.around c.down.new.object is _ _ c.in-Some.next.now c.in-Some.behind.now parts.0 leads) in
       record { gives = (shut_finds root c.args.folder.place c.args.name.now c.args.rest.now _ c.args.around c.down.new.object is _ _ leads, told) };

@@ -43,6 +43,6 @@ pub returns-in_ok-visit_path-in-None : goal.returns-in_ok-visit_path-in-None
 returns-in_ok-visit_path-in-None g c = record {
   told = λ h root over at part is.
       let none : kind_in c.args.folder.now.entries.items c.args.name.now ≡ None = subst (λ es. kind_in es c.args.name.now ≡ None) c.deref.ensures.value (rw c.in-None.is at c.entry_named.ensures) in
-      let told = c.in_ok-visit_path-in-None.ensures.told root (missing_table root _ _ _ _ at is none _ part) (missing_unseen root _ _ _ _ at is none) in
+      let told = c.in_ok-visit_path-in-None.ensures.told None root (missing_table root _ _ _ _ at is none _ part) (missing_unseen root _ _ _ _ at is none) in
       record { gives = (finds_none root _ c.args.place.now _ over (missing_out root _ _ _ _ at is none), told) };
 }

@@ -1,3 +1,4 @@
+use Rattle.std.specs.Prelude.{None}
 use Rattle.std.proofs.{Common.{sym, subst}, lemmas.Result.{err_from_is_err_and}}
 use Rattle.ocfl_walk.specs.Internal.Standing.{IsAroundIf}
 use Rattle.ocfl_item.specs.{Around.{IsMet}, Meeting.{IsFairVisit, IsVisit, Meets}}
@@ -8,7 +9,7 @@ use Rattle.ocfl_walk.proofs.stand.meet.Goals as goal
 pub returns-in_err-try_clone-clause-told : goal.returns-in_err-try_clone-clause-told
 returns-in_err-try_clone-clause-told g c = λ h root over d met.
     let p = err_from_is_err_and c.from_residual.result c.from_residual.ensures.1 in
-    rw (p.1, p.2) (meet_nothing root (g.T.Tree.state c.args.store.now) c.args.place.now over)
+    rw (p.1, p.2) (meet_nothing None root (g.T.Tree.state c.args.store.now) c.args.place.now over)
 
 pub returns-clause-fair : goal.returns-clause-fair
 returns-clause-fair g c = λ r.
@@ -22,8 +23,8 @@ returns-clause-told g c = λ h root over d met.
     let is = subst (λ a. IsMet root d a c.args.entry.now x) (sym c.still_around-around.ensures) met in
     let fair = subst (λ y. IsFairVisit y c.in_ok-visit.visit) c.in_ok-try_clone.ensures c.in_ok-visit.ensures.fair in
     let v = (c.in_ok-visit.ensures.told h root over d (subst (λ y. IsMet root d c.still_around-around.result c.args.entry.now y) (sym c.in_ok-try_clone.ensures) is)).gives in
-    let there = subst (λ y. Meets root (g.T.Tree.state c.args.store.now) (g.T.Tree.state c.visit_entry.new.store) y) c.in_ok-try_clone.ensures v.0 in
-    let visit = subst (λ y. IsVisit root y c.in_ok-visit.visit) c.in_ok-try_clone.ensures v.1 in
+    let there = subst (λ y. Meets None root (g.T.Tree.state c.args.store.now) (g.T.Tree.state c.visit_entry.new.store) y) c.in_ok-try_clone.ensures v.0 in
+    let visit = subst (λ y. IsVisit None root y c.in_ok-visit.visit) c.in_ok-try_clone.ensures v.1 in
     (there, c.in_ok-met_by.ensures.told root fair visit (table_met root d x c.args.entry.now c.still_around-around.result c.in_ok-visit.visit.table is visit.table))
 
 pub returns-in_err-met_by-clause-told : goal.returns-in_err-met_by-clause-told
@@ -31,5 +32,5 @@ returns-in_err-met_by-clause-told g c = λ h root over d met.
     let p = err_from_is_err_and c.from_residual-in_err-met_by.result c.from_residual-in_err-met_by.ensures.1 in
     let is = subst (λ a. IsMet root d a c.args.entry.now c.args.place.now) (sym c.still_around-around.ensures) met in
     let v = (c.in_ok-visit.ensures.told h root over d (subst (λ y. IsMet root d c.still_around-around.result c.args.entry.now y) (sym c.in_ok-try_clone.ensures) is)).gives in
-    let there = subst (λ y. Meets root (g.T.Tree.state c.args.store.now) (g.T.Tree.state c.visit_entry.new.store) y) c.in_ok-try_clone.ensures v.0 in
-    rw (p.1, p.2) (meet_out root (g.T.Tree.state c.args.store.now) (g.T.Tree.state c.visit_entry.new.store) c.args.place.now there)
+    let there = subst (λ y. Meets None root (g.T.Tree.state c.args.store.now) (g.T.Tree.state c.visit_entry.new.store) y) c.in_ok-try_clone.ensures v.0 in
+    rw (p.1, p.2) (meet_out None root (g.T.Tree.state c.args.store.now) (g.T.Tree.state c.visit_entry.new.store) c.args.place.now there)

@@ -3,4 +3,4 @@ use Rattle.ocfl_item.proofs.VisitLaws.{unhashed_pending}
 use Rattle.ocfl_item.proofs.pending.Pending.of_lines.Goals as goal
 
 pub returns-clause-told : goal.returns-clause-told
-returns-clause-told c = λ root h. unhashed_pending root c.args.lines _ h refl refl refl c.new.ensures.items
+returns-clause-told c = λ further root h. unhashed_pending further root c.args.lines _ h refl refl refl

@@ -1,3 +1,4 @@
+use Rattle.std.specs.Prelude.{None}
 use Rattle.std.proofs.lemmas.Result.{err_from_is_err_and}
 use Rattle.ocfl_walk.proofs.WalkCallLaws.{no_memory}
 use Rattle.ocfl_walk.proofs.FirstSteps.{missing_falls, missing_goes_on, missing_orderly, missing_there, missing_told}
@@ -24,4 +25,4 @@ returns-clause-there c = missing_there c.args.self.now c.args.place c.requires.o
 pub returns-clause-told : goal.returns-clause-told
 returns-clause-told c = λ s root over last held turn unseen.
     missing_told c.args.self.now c.args.place c.requires.orderly c.requires.some c.requires.trim c.requires.next c.in_ok-item.item c.step_of.result
-    c.step_of.ensures root s last over held turn unseen (c.in_ok-item.ensures.told root held.table unseen)
+    c.step_of.ensures root s last over held turn unseen (c.in_ok-item.ensures.told None root held.table unseen)

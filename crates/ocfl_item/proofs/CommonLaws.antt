@@ -1,0 +1,36 @@
+-- Where nothing further has lines, a place has the lines that it has in each audit.
+use Rattle.std.proofs.Common.{◌≡◌, ℕ, ◌+◌, [], ◌∷◌, refl, ◌∙◌, ap, false, Option, Some, None, add-zero}
+use Rattle.std.specs.Prelude.{nat_lt}
+use Rattle.ocfl_tree.specs.{Place.{Place}, StorageRoot.{StorageRoot}}
+use Rattle.ocfl_rules.specs.Zone.{Zone, skipped, hierarchy, inside, zone, seen}
+use Rattle.ocfl_rules.specs.Inventories.{Further, version_inventory_in, version_inventory, version_cost, notes, is_hashed}
+use Rattle.ocfl_rules.specs.{Lines.{common_cost, cost_of, named_at}, Trail.{is_head}}
+use Rattle.ocfl_rules.proofs.InventoryLaws.{lines_elsewhere}
+
+-- no inventory of a version is at a place, by its zone
+pub no_version : (root : StorageRoot) (p : Place) (z : Zone) → zone root p ≡ z → version_inventory_in z (seen root p) ≡ None → version_inventory root p ≡ None
+no_version root p z e h = ap (λ x. version_inventory_in x (seen root p)) e ∙ h
+
+-- or if nothing is seen
+pub unseen_version : (root : StorageRoot) (p : Place) → seen root p ≡ None → version_inventory root p ≡ None
+unseen_version root p h = ap (version_inventory_in (zone root p)) h ∙ by (zone root p)
+  where
+    by : (z : Zone) → version_inventory_in z None ≡ None
+    by skipped = refl
+    by hierarchy = refl
+    by (inside o []) = refl
+    by (inside o (n ∷ [])) = refl
+    by (inside o (v ∷ n ∷ [])) = refl
+    by (inside o (v ∷ c ∷ n ∷ q)) = refl
+
+module _ (root : StorageRoot) (p : Place) (version : version_inventory root p ≡ None) where
+  pub lines_alone : (further : Further) → is_head (zone root p) ≡ false → (u : Option ℕ) → notes further root u p ≡ notes None root u p
+  lines_alone None head u = refl
+  lines_alone (Some k) head u = lines_elsewhere k root u p head version
+
+  pub hashed_alone : (further : Further) → is_hashed further root p ≡ is_hashed None root p
+  hashed_alone None = refl
+  hashed_alone (Some k) = ap (nat_lt 0) ((λ i. common_cost root None p + version_cost k root None (version i)) ∙ add-zero (common_cost root None p))
+
+  pub unnamed_unhashed : (further : Further) → named_at root p ≡ [] → is_hashed further root p ≡ false
+  unnamed_unhashed further unnamed = hashed_alone further ∙ ap (λ ns. nat_lt 0 (cost_of ns None (seen root p))) unnamed

@@ -12,9 +12,11 @@ use Rattle.ocfl_tree.proofs.Orders.{place_cmp_total, not_below_itself, before_ea
 use Rattle.ocfl_tree.proofs.Bools.{and_first, and_second, and_both}
 use Rattle.ocfl_tree.proofs.Places.{text_cmp_exact, text_eq-same, place_eq-same}
 use Rattle.ocfl_report.specs.{Line.{Line}}
-use Rattle.ocfl_compare.specs.Changes.{is_below, has_below, is_shut, lines_at, is_in_shut, is_left, answer_at, said_at, placed, answers}
+use Rattle.ocfl_compare.specs.Changes.{is_below, has_below, is_shut, lines_at, is_in_shut, is_left, answer_at}
+use Rattle.ocfl_compare.specs.Seen.{all_seen, lines_seen, seen_at, shown}
+use Rattle.ocfl_compare.specs.declared.side.Side.TheVariants.{Before, Now}
 use Rattle.ocfl_compare.specs.declared.question.Question.{Question}
-use Rattle.ocfl_compare.specs.Internal.Turns.{Group, IsGroup, group_changes, place_or, first_place, leads_to, AreFollowed, shuts, below_shut, leads_from, IsShutBy, shut_after}
+use Rattle.ocfl_compare.specs.Internal.Turns.{Group, IsGroup, group_seen, place_or, first_place, leads_to, AreFollowed, shuts, below_shut, leads_from, IsShutBy, shut_after}
 use Rattle.ocfl_compare.proofs.Groups.{places, other_place, lines_of, before_own, now_own, same_places}
 
 -- ---- places
@@ -316,7 +318,7 @@ module _ (asked : Question) (left : List Place) (gs : List Group) (h : All IsGro
       each (y ∷ fs) a x (inr j) = each fs (All-tail (λ z. z.in_shut ≡ below_shut gs z.place) y fs a) x j
 
   at_each : (fs : List Group) → ((g : Group) → IsAmong fs g → IsAmong gs g)
-      → flat_map (λ p. placed p (said_at asked left (was gs h k) (is gs h k) p)) (places fs) ≡ flat_map (group_changes asked left) fs
+      → flat_map (seen_at asked left (was gs h k) (is gs h k)) (places fs) ≡ flat_map (group_seen asked left) fs
   at_each [] among = refl
   at_each (g ∷ fs) among =
       let i : IsAmong gs g = among g (inl refl) in
@@ -324,7 +326,7 @@ module _ (asked : Question) (left : List Place) (gs : List Group) (h : All IsGro
       let n = lines_of (λ x. x.now) now_own gs h k g i in
       let a = in_shut_of g i in
       let l = has_lines_is gs h k f g i in
-      λ j. placed g.place (cond (is_left left g.place) [] (answer_at asked (a j) (l j) (b j) (n j))) ++ at_each fs (λ x m. among x (inr m)) j
+      λ j. (lines_seen asked Before (b j) ++ (lines_seen asked Now (n j) ++ shown g.place (cond (is_left left g.place) [] (answer_at asked (a j) (l j) (b j) (n j))))) ++ at_each fs (λ x m. among x (inr m)) j
 
-  pub groups_said : flat_map (group_changes asked left) gs ≡ answers asked left (was gs h k) (is gs h k)
-  groups_said = sym (ap (λ ps. flat_map (λ p. placed p (said_at asked left (was gs h k) (is gs h k) p)) ps) (same_places gs h k) ∙ at_each gs (λ g i. i))
+  pub groups_said : flat_map (group_seen asked left) gs ≡ all_seen asked left (was gs h k) (is gs h k)
+  groups_said = sym (ap (λ ps. flat_map (seen_at asked left (was gs h k) (is gs h k)) ps) (same_places gs h k) ∙ at_each gs (λ g i. i))

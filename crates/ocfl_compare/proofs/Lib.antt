@@ -1,4 +1,5 @@
 mod Reports
+mod Sights
 mod Tellings
 mod Around
 mod Groups

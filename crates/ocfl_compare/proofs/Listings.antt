@@ -18,6 +18,8 @@ use Rattle.ocfl_report.proofs.{Bytes.{utf8_bytes}, LineTexts.{first_lines, lines
 use Rattle.ocfl_separators.specs.Splits.{HasText, AreInOrder, AreLines, IsBadReportLine}
 use Rattle.ocfl_compare.proofs.Reports.{not_greater}
 use Rattle.ocfl_codes.specs.Kinds.{is_empty, tells_object}
+use Rattle.ocfl_compare.specs.Seen.{Seen, all_seen, changes_seen}
+use Rattle.ocfl_compare.proofs.Sights.{only_changes}
 use Rattle.ocfl_compare.specs.Changes.{lines_at, places_of, is_left, when, placed, said_at, answers}
 use Rattle.ocfl_compare.specs.declared.change.Change.TheVariants.{Missing}
 use Rattle.ocfl_compare.specs.declared.change.ChangeAt.{ChangeAt}
@@ -168,14 +170,14 @@ objects_report ps h k = record { texts = objects_have ps h; order = objects_orde
 same_lines : (ls ms : List Line) → AreLines ls → AreLines ms → lines_text ls ≡ lines_text ms → ls ≡ ms
 same_lines ls ms h k e = lines_text_determines ls ms (All-weaker HasText IsLine line_of_text ls h.texts) (All-weaker HasText IsLine line_of_text ms k.texts) e
 
-pub searched : (left ps qs : List Place) (b n : Text) (Taken : List ChangeAt → Type 0) → IsPermutation ps qs → IsSorted place_cmp qs → All IsPlace qs → b ≡ lines_text (map as_object qs)
+pub searched : (left ps qs : List Place) (b n : Text) (Taken : List Seen → Type 0) → IsPermutation ps qs → IsSorted place_cmp qs → All IsPlace qs → b ≡ lines_text (map as_object qs)
     → IsAnswered Expected left b n Taken → IsSearched left ps n Taken
 searched left ps qs b n Taken perm sorted names e h =
     let same_list : h.before ≡ map as_object qs = same_lines h.before (map as_object qs) h.is_before.are (objects_report qs names sorted) (sym h.is_before.is ∙ e) in
     record {
       lines = h.now;
       report = h.is_now;
-      taken = subst Taken (ap (λ ls. answers Expected left ls h.now) same_list ∙ answers_are left ps qs h.now perm) h.taken;
+      taken = subst Taken (ap (λ ls. all_seen Expected left ls h.now) same_list ∙ only_changes left (map as_object qs) h.now ∙ ap changes_seen (answers_are left ps qs h.now perm)) h.taken;
     }
 
 -- ---- no line of the list is bad
@@ -228,7 +230,7 @@ list_stops b n ls Memory are e h = tt
 
 -- ---- as the code has it
 
-pub known_searched : (left ps qs : List Place) (b : Text) (n : Option Text) (Taken : List ChangeAt → Type 0) → IsPermutation ps qs → IsSorted place_cmp qs → All IsPlace qs → b ≡ lines_text (map as_object qs)
+pub known_searched : (left ps qs : List Place) (b : Text) (n : Option Text) (Taken : List Seen → Type 0) → IsPermutation ps qs → IsSorted place_cmp qs → All IsPlace qs → b ≡ lines_text (map as_object qs)
     → IfSome n (λ t. IsAnswered Expected left b t Taken) → IfSome n (λ t. IsSearched left ps t Taken)
 known_searched left ps qs b None Taken perm sorted names e h = tt
 known_searched left ps qs b (Some t) Taken perm sorted names e h = searched left ps qs b t Taken perm sorted names e h

@@ -9,11 +9,10 @@ use Rattle.ocfl_tree.proofs.Orders.{place_cmp_total, not_below_itself}
 use Rattle.ocfl_report.specs.{Line.{Line}, Text.{lines_text}, declared.line.Line.{Line as MadeLine}}
 use Rattle.ocfl_separators.specs.Splits.{HasText, AreLines}
 use Rattle.ocfl_separators.proofs.Reports.{none_read}
-use Rattle.ocfl_compare.specs.{Changes.{is_shut, placed, answers}, Compared.{IsReport, IsAnswered}}
-use Rattle.ocfl_compare.specs.declared.change.ChangeAt.{ChangeAt}
+use Rattle.ocfl_compare.specs.{Changes.{is_shut}, Seen.{Seen, all_seen}, Compared.{IsReport, IsAnswered}}
 use Rattle.ocfl_compare.specs.CompareStop.{StopsRightly}
 use Rattle.ocfl_compare.specs.Internal.Reading.{IsReading, HasRead, IsBelow, IsAt, IsNextPlace, ReadStopsRightly, last_place}
-use Rattle.ocfl_compare.specs.Internal.Turns.{AreTaken, Group, IsGroup, group_changes, said_changes, first_place, leads_to, leads_from, shut_after, below_shut, AreFollowed, IsShutBy, IsHalf, IsSoFar, before_stop, now_stop}
+use Rattle.ocfl_compare.specs.Internal.Turns.{AreTaken, Group, IsGroup, group_seen, first_place, leads_to, leads_from, shut_after, below_shut, AreFollowed, IsShutBy, IsHalf, IsSoFar, before_stop, now_stop}
 use Rattle.ocfl_compare.specs.declared.question.Question.{Question}
 use Rattle.ocfl_compare.specs.declared.reading.ReadStop.{ReadStop}
 use Rattle.ocfl_compare.specs.declared.reading.ReadStop.TheVariants.{Line as BadLine, Failed, Output, Memory}
@@ -69,13 +68,13 @@ less_than p gs next h a = All-weaker (λ f. IsBelow f.place next) (λ f. place_c
 abbrev group_of : Place → Bool → Bool → List Line → List Line → Group
 group_of p shut has_lines was is = record { place = p; in_shut = shut; has_lines = has_lines; before = was; now = is }
 
-module _ {T : Type 0} (Takes : T → List ChangeAt → T → Type 0) (joined : (t u v : T) (first then : List ChangeAt) → Takes t first u → Takes u then v → Takes t (first ++ then) v)
+module _ {T : Type 0} (Takes : T → List Seen → T → Type 0) (joined : (t u v : T) (first then : List Seen) → Takes t first u → Takes u then v → Takes t (first ++ then) v)
     (asked : Question) (left : List Place) (p : Place) (b c d n m o : Option Text) (w x y : T) (b_next b_then n_next n_then : Option MadeLine) (b_count b_more n_count n_more : ℕ) (shut : Option Place)
     (next : IsNextPlace (Some p) b_next n_next) (h : IsSoFar asked left b c b_next b_count n m n_next n_count shut (λ cs. Takes w cs x)) where
   pub place_more : (was is : List Line) (in_shut has_lines : Bool) (after : Option Place) → AreTaken p b d (flat_map (λ g. g.before) h.groups) was b_next b_then b_more
       → AreTaken p n o (flat_map (λ g. g.now) h.groups) is n_next n_then n_more
       → IsBelow p b_then → IsBelow p n_then → in_shut ≡ leads_from shut p → has_lines ≡ leads_to p (last_place n_then) → after ≡ shut_after shut p (is_shut was is)
-      → Takes x (placed p (said_changes asked left p in_shut has_lines was is)) y
+      → Takes x (group_seen asked left (group_of p in_shut has_lines was is)) y
       → IsSoFar asked left b d b_then b_more n o n_then n_more after (λ cs. Takes w cs y)
   place_more was is in_shut has_lines after b_taken n_taken b_below n_below known lines shut_is said = record {
     groups = h.groups ++ g ∷ [];
@@ -86,7 +85,7 @@ module _ {T : Type 0} (Takes : T → List ChangeAt → T → Type 0) (joined : (
       ascend = ascend_one h.groups g h.told.ascend less;
       followed = followed_more h.groups g (last_place n_next) (last_place n_then) h.told.followed (first_is is n_taken.here n_taken.some) lines;
       shuts = subst (IsShutBy (h.groups ++ g ∷ [])) (sym shut_is) (shut_more h.groups g shut less h.told.shuts known);
-      taken = subst (λ cs. Takes w cs y) (sym (flat_one (group_changes asked left) h.groups g)) (joined w x y (flat_map (group_changes asked left) h.groups) (group_changes asked left g) h.told.taken said);
+      taken = subst (λ cs. Takes w cs y) (sym (flat_one (group_seen asked left) h.groups g)) (joined w x y (flat_map (group_seen asked left) h.groups) (group_seen asked left g) h.told.taken said);
     };
   }
     where
@@ -127,7 +126,7 @@ nothing_read all next count e f =
     subst (λ o. IsReading all all [] o count) (sym e)
     (record { lines = record { texts = All-nil HasText; order = tt }; read = none_read all; counted = f })
 
-pub begun : (asked : Question) (left : List Place) (b c n m : Option Text) (Taken : List ChangeAt → Type 0) (b_next n_next : Option MadeLine) (b_count n_count : ℕ) (shut : Option Place) → HasRead b c [] b_next b_count → HasRead n m [] n_next n_count
+pub begun : (asked : Question) (left : List Place) (b c n m : Option Text) (Taken : List Seen → Type 0) (b_next n_next : Option MadeLine) (b_count n_count : ℕ) (shut : Option Place) → HasRead b c [] b_next b_count → HasRead n m [] n_next n_count
     → shut ≡ None → Taken [] → IsSoFar asked left b c b_next b_count n m n_next n_count shut Taken
 begun asked left b c n m Taken b_next n_next b_count n_count shut h k e none = record {
   groups = [];
@@ -150,7 +149,7 @@ whole (Some b) (Some rest) ls count h end = record {
   is = h.read ∙ (λ i. lines_text (append-nil ls i) ++ end i) ∙ append-nil (lines_text ls);
 }
 
-pub compared : (asked : Question) (left : List Place) (b c n m : Option Text) (Taken : List ChangeAt → Type 0) (b_next n_next : Option MadeLine) (b_count n_count : ℕ) (shut : Option Place) → IsNextPlace None b_next n_next
+pub compared : (asked : Question) (left : List Place) (b c n m : Option Text) (Taken : List Seen → Type 0) (b_next n_next : Option MadeLine) (b_count n_count : ℕ) (shut : Option Place) → IsNextPlace None b_next n_next
     → IsSoFar asked left b c b_next b_count n m n_next n_count shut Taken → IfSome b (λ s. IfSome n (λ t. IsAnswered asked left s t Taken))
 compared asked left b c n m Taken b_next n_next b_count n_count shut next h =
     let was = flat_map (λ g. g.before) h.groups in
@@ -161,7 +160,7 @@ compared asked left b c n m Taken b_next n_next b_count n_count shut next h =
     (subst Taken (groups_said asked left h.groups h.told.are h.told.ascend (subst (λ o. AreFollowed h.groups (last_place o)) next.1 h.told.followed) shut h.told.shuts) h.told.taken)
   where
     both : (k l : Option Text) → IfSome k (λ s. IsReport s (flat_map (λ g. g.before) h.groups)) → IfSome l (λ t. IsReport t (flat_map (λ g. g.now) h.groups))
-        → Taken (answers asked left (flat_map (λ g. g.before) h.groups) (flat_map (λ g. g.now) h.groups)) → IfSome k (λ s. IfSome l (λ t. IsAnswered asked left s t Taken))
+        → Taken (all_seen asked left (flat_map (λ g. g.before) h.groups) (flat_map (λ g. g.now) h.groups)) → IfSome k (λ s. IfSome l (λ t. IsAnswered asked left s t Taken))
     both None l r s a = tt
     both (Some k) None r s a = tt
     both (Some k) (Some l) r s a = record { before = flat_map (λ g. g.before) h.groups; now = flat_map (λ g. g.now) h.groups; is_before = r; is_now = s; taken = a }

@@ -10,10 +10,10 @@ use Rattle.ocfl_tree.proofs.Orders.{place_cmp_exact, place_cmp_total, not_below_
 use Rattle.ocfl_report.specs.{Line.{Line, line_of}, declared.code.Code.{Code}}
 use Rattle.ocfl_report.specs.declared.line.Line.{Line as MadeLine}
 use Rattle.ocfl_codes.specs.Kinds.{is_empty, tells_object, tells_file, hides}
-use Rattle.ocfl_compare.specs.Changes.{has_code, with_code, codes_from, new_codes, stops, when, change_at, placed}
+use Rattle.ocfl_compare.specs.Changes.{has_code, with_code, codes_from, new_codes, stops, when}
+use Rattle.ocfl_compare.specs.Seen.{Seen, show_at, shown}
 use Rattle.ocfl_compare.specs.declared.change.Change.{Change}
 use Rattle.ocfl_compare.specs.declared.change.Change.TheVariants.{Found, Repaired}
-use Rattle.ocfl_compare.specs.declared.change.ChangeAt.{ChangeAt}
 use Rattle.ocfl_compare.specs.Internal.Reading.{listed, HasRead, IsNotAbove, IsBelow, IsAt, GoesOn}
 use Rattle.ocfl_compare.specs.Internal.Telling.{IsTold, new_at, repaired_at}
 use Rattle.ocfl_compare.specs.Internal.Turns.{AreTaken}
@@ -45,32 +45,32 @@ told_more told after own l h absent object stopped file hidden findings = record
 
 -- ---- changes, one by one
 
-pub new_changes : (p : Place) (before now : List Code) → placed p (map Found (new_codes before now)) ≡ flat_map (new_at p before) now
+pub new_changes : (p : Place) (before now : List Code) → shown p (map Found (new_codes before now)) ≡ flat_map (new_at p before) now
 new_changes p before [] = refl
 new_changes p before (c ∷ now) = by (not (has_code before c)) (new_changes p before now)
   where
-    by : (b : Bool) → placed p (map Found (new_codes before now)) ≡ flat_map (new_at p before) now
-        → placed p (map Found (cond b (c ∷ new_codes before now) (new_codes before now))) ≡ placed p (when b (Found c)) ++ flat_map (new_at p before) now
-    by true e = ap (λ cs. change_at p (Found c) ∷ cs) e
+    by : (b : Bool) → shown p (map Found (new_codes before now)) ≡ flat_map (new_at p before) now
+        → shown p (map Found (cond b (c ∷ new_codes before now) (new_codes before now))) ≡ shown p (when b (Found c)) ++ flat_map (new_at p before) now
+    by true e = ap (λ cs. show_at p (Found c) ∷ cs) e
     by false e = e
 
-pub repaired_changes : (p : Place) (now before : List Code) → placed p (map Repaired (new_codes now before)) ≡ flat_map (repaired_at p now) before
+pub repaired_changes : (p : Place) (now before : List Code) → shown p (map Repaired (new_codes now before)) ≡ flat_map (repaired_at p now) before
 repaired_changes p now [] = refl
 repaired_changes p now (c ∷ before) = by (not (has_code now c)) (repaired_changes p now before)
   where
-    by : (b : Bool) → placed p (map Repaired (new_codes now before)) ≡ flat_map (repaired_at p now) before
-        → placed p (map Repaired (cond b (c ∷ new_codes now before) (new_codes now before))) ≡ placed p (when b (Repaired c)) ++ flat_map (repaired_at p now) before
-    by true e = ap (λ cs. change_at p (Repaired c) ∷ cs) e
+    by : (b : Bool) → shown p (map Repaired (new_codes now before)) ≡ flat_map (repaired_at p now) before
+        → shown p (map Repaired (cond b (c ∷ new_codes now before) (new_codes now before))) ≡ shown p (when b (Repaired c)) ++ flat_map (repaired_at p now) before
+    by true e = ap (λ cs. show_at p (Repaired c) ∷ cs) e
     by false e = e
 
 -- four kinds of changes, taken in turn
-pub all_taken : {T : Type 0} (Takes : T → List ChangeAt → T → Type 0) (joined : (t u v : T) (first then : List ChangeAt) → Takes t first u → Takes u then v → Takes t (first ++ then) v)
-    (p : Place) (a b c d : List Change) (start one two three four : T) → Takes start (placed p a) one → Takes one (placed p b) two → Takes two (placed p c) three → Takes three (placed p d) four
-    → Takes start (placed p (a ++ (b ++ (c ++ d)))) four
+pub all_taken : {T : Type 0} (Takes : T → List Seen → T → Type 0) (joined : (t u v : T) (first then : List Seen) → Takes t first u → Takes u then v → Takes t (first ++ then) v)
+    (p : Place) (a b c d : List Change) (start one two three four : T) → Takes start (shown p a) one → Takes one (shown p b) two → Takes two (shown p c) three → Takes three (shown p d) four
+    → Takes start (shown p (a ++ (b ++ (c ++ d)))) four
 all_taken Takes joined p a b c d start one two three four e f g h =
-    subst (λ cs. Takes start cs four) (sym (map-append (change_at p) a (b ++ (c ++ d)) ∙ ap (λ cs. placed p a ++ cs) (map-append (change_at p) b (c ++ d) ∙ ap (λ cs. placed p b ++ cs) (map-append (change_at p) c d))))
-    (joined start one four (placed p a) (placed p b ++ (placed p c ++ placed p d)) e
-    (joined one two four (placed p b) (placed p c ++ placed p d) f (joined two three four (placed p c) (placed p d) g h)))
+    subst (λ cs. Takes start cs four) (sym (map-append (show_at p) a (b ++ (c ++ d)) ∙ ap (λ cs. shown p a ++ cs) (map-append (show_at p) b (c ++ d) ∙ ap (λ cs. shown p b ++ cs) (map-append (show_at p) c d))))
+    (joined start one four (shown p a) (shown p b ++ (shown p c ++ shown p d)) e
+    (joined one two four (shown p b) (shown p c ++ shown p d) f (joined two three four (shown p c) (shown p d) g h)))
 
 -- ---- lines of a place, one by one
 

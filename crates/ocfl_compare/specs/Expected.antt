@@ -6,7 +6,7 @@ use Rattle.ocfl_report.specs.Line.{Line}
 use Rattle.ocfl_compare.specs.declared.change.Change.TheVariants.{Missing}
 use Rattle.ocfl_compare.specs.declared.change.ChangeAt.{ChangeAt}
 use Rattle.ocfl_codes.specs.Kinds.{is_empty, tells_object}
-use Rattle.ocfl_compare.specs.{Changes.{lines_at, is_left, change_at}, Compared.{IsReport}}
+use Rattle.ocfl_compare.specs.{Changes.{lines_at, is_left, change_at}, Compared.{IsReport}, Seen.{Seen, changes_seen}}
 
 -- no line of an object is at the place, which was not left out; the storage root is no object
 abbrev pub is_missing : List Place → List Line → Place → Bool
@@ -20,7 +20,7 @@ abbrev pub missing : Place → ChangeAt
 missing p = change_at p Missing
 
 -- the bytes are those of a report, and just what is missing in it was taken
-pub record IsSearched (left listed : List Place) (b : Text) (Taken : List ChangeAt → Type 0) : Type 0 where
+pub record IsSearched (left listed : List Place) (b : Text) (Taken : List Seen → Type 0) : Type 0 where
   pub lines : List Line
   pub report : IsReport b lines
-  pub taken : Taken (map missing (missing_objects left listed lines))
+  pub taken : Taken (changes_seen (map missing (missing_objects left listed lines)))

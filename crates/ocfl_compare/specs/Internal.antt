@@ -3,3 +3,4 @@ pub mod Telling
 pub mod Turns
 pub mod Listing
 pub mod Gones
+pub mod Seeing

@@ -1,4 +1,5 @@
 pub mod Changes
+pub mod Seen
 pub mod Gone
 pub mod Compared
 pub mod CompareStop

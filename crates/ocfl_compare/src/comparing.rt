@@ -1,7 +1,7 @@
 //! Comparing two reports.
 ghost use Rattle.std.specs.Prelude.{◌≡◌, ◌⊎◌, ℕ, List, Option, Some, None, IfOk, IfErr, IfSome, OnOk, []};
 ghost use Rattle.ocfl_report.specs.Line.{Line as ModelLine};
-ghost use Rattle.ocfl_compare.specs.Changes.{placed};
+ghost use Rattle.ocfl_compare.specs.Seen.{shown};
 ghost use Rattle.ocfl_compare.specs.Compared.{IsAnswered, IsCompared};
 ghost use Rattle.ocfl_compare.specs.{CompareStop.{StopsRightly}, Internal.Reading.{HasRead, IsNextPlace}};
 ghost use Rattle.ocfl_compare.specs.Internal.Reading.{last_place};
@@ -10,10 +10,11 @@ ghost use Rattle.ocfl_compare.specs.Internal.Turns.{IfBothSome, IsSoFar, before_
 ghost use Rattle.ocfl_compare.specs.Internal.Turns.{leads_to, now_stop, said_changes, shut_after};
 
 use crate::question::Question;
-use crate::reading::{ReadStop, Reading, next_place, read_next, shown_of, take_place, unread};
+use crate::reading::{ReadStop, Reading, next_place, read_next, take_place, unread};
 use crate::saying::{Sides, give_said, is_shut};
+use crate::side::Side;
 use crate::stop::CompareStop;
-use crate::taking::{Side, TakeChange, TakeStop};
+use crate::taking::{TakeChange, TakeStop};
 use ocfl_report::Line;
 use ocfl_tree::Place;
 use std::alloc::{AllocError, Global};
@@ -49,7 +50,7 @@ pub fn compare<R: BufRead, S: BufRead, T: TakeChange>(
         (IfSome (R.remaining before.old) (λ before_bytes.
         IfSome (S.remaining now.old) (λ now_bytes.
         IsCompared left.now before_bytes now_bytes
-        (λ changes. T.takes taker.old changes taker.new)))) }
+        (λ seen. T.takes taker.old seen taker.new)))) }
     ensures refused { IfErr result (λ stop.
         IfSome (R.remaining before.old) (λ before_bytes.
         IfSome (S.remaining now.old) (λ now_bytes.
@@ -68,7 +69,7 @@ pub(crate) fn answer<R: BufRead, S: BufRead, T: TakeChange>(
     taker: &mut T,
 ) -> Result<(), CompareStop>
     ensures answered { OnOk result (IfBothSome (R.remaining before.old) (S.remaining now.old)
-        (λ b n. IsAnswered asked left.now b n (λ changes. T.takes taker.old changes taker.new))) }
+        (λ b n. IsAnswered asked left.now b n (λ seen. T.takes taker.old seen taker.new))) }
     ensures refused { IfErr result (λ stop.
         IfBothSome (R.remaining before.old) (S.remaining now.old) (λ b n. StopsRightly b n stop)) }
 {
@@ -133,23 +134,22 @@ fn turn<R: BufRead, S: BufRead, T: TakeChange>(
     ensures ok { IfOk result (λ after. (b n : Option (List ℕ)) (start : T)
         → IsSoFar asked left.now b (R.remaining before.old) both.before.next both.before.count
         n (S.remaining now.old) both.now.next both.now.count both.shut
-        (λ changes. T.takes start changes taker.old)
+        (λ seen. T.takes start seen taker.old)
         → IsSoFar asked left.now b (R.remaining before.new) after.before.next after.before.count
         n (S.remaining now.new) after.now.next after.now.count after.shut
-        (λ changes. T.takes start changes taker.new)) }
+        (λ seen. T.takes start seen taker.new)) }
     ensures refused { IfErr result (λ stop. (b n : Option (List ℕ)) (start : T)
         → IsSoFar asked left.now b (R.remaining before.old) both.before.next both.before.count
         n (S.remaining now.old) both.now.next both.now.count both.shut
-        (λ changes. T.takes start changes taker.old)
+        (λ seen. T.takes start seen taker.old)
         → IfBothSome b n (λ before_bytes now_bytes. StopsRightly before_bytes now_bytes stop)) }
 {
-    let shown = shown_of(asked, Side::Before);
-    let was = match take_place(alloc, shown, place, before, taker, text, both.before) {
+    let side = Side::Before;
+    let was = match take_place(alloc, asked, side, place, before, taker, text, both.before) {
         Ok(taken) => taken,
         Err(stop) => return Err(of_before(stop)),
     };
-    let shown = shown_of(asked, Side::Now);
-    let is = match take_place(alloc, shown, place, now, taker, text, both.now) {
+    let is = match take_place(alloc, asked, Side::Now, place, now, taker, text, both.now) {
         Ok(taken) => taken,
         Err(stop) => return Err(of_now(stop)),
     };
@@ -214,7 +214,7 @@ fn say<T: TakeChange>(
 ) -> Result<(), CompareStop>
     ensures ok { OnOk result ((was : List ModelLine) (is : List ModelLine)
         → IsTold sides.entry.before.now was → IsTold sides.entry.now.now is
-        → T.takes taker.old (placed sides.entry.place.now (said_changes asked left.now
+        → T.takes taker.old (shown sides.entry.place.now (said_changes asked left.now
         sides.entry.place.now sides.entry.in_shut sides.entry.has_lines was is)) taker.new) }
     ensures stop { IfErr result (λ stop.
         (stop ≡ CompareStop.Output) ⊎ (stop ≡ CompareStop.Memory)) }

@@ -31,7 +31,7 @@ pub fn find_expected<R: BufRead, T: TakeChange>(
 ) -> Result<(), CompareStop>
     ensures searched { OnOk result (IfSome (R.remaining report.old) (λ bytes.
         IsSearched left.now listed.old.items bytes
-        (λ changes. T.takes taker.old changes taker.new))) }
+        (λ seen. T.takes taker.old seen taker.new))) }
     ensures refused { IfErr result (λ stop. IfSome (R.remaining report.old) (λ bytes.
         ReportStops bytes stop)) }
     ensures permutation { IsPermutation listed.old.items listed.new.items }

@@ -3,11 +3,12 @@ ghost use Rattle.std.specs.Prelude.{◌≡◌, [], ◌∷◌, ◌++◌, None, If
 ghost use Rattle.std.specs.Io.KnownBytes.{Appends};
 ghost use Rattle.std.proofs.KnownBytes.{Appends-nil};
 ghost use Rattle.ocfl_compare.specs.Gone.{gone_row, gone_text, gone_word};
-ghost use Rattle.ocfl_compare.specs.Internal.Gones.{texts_joined};
+ghost use Rattle.ocfl_compare.specs.{Internal.Seeing.{rows_joined}, Seen.{changes_in}};
 ghost use Rattle.ocfl_compare.specs.Changes.{change_at};
 
 use crate::change::Change;
-use crate::taking::{Side, TakeChange, TakeStop};
+use crate::side::Side;
+use crate::taking::{TakeChange, TakeStop};
 use ocfl_report::{Line, put_place, write_all_of};
 use ocfl_tree::Place;
 use std::alloc::{AllocError, Global};
@@ -32,8 +33,8 @@ impl<W: Write + Drop> GoneList<W> {
 }
 
 impl<W: Write + Drop> TakeChange for GoneList<W> {
-    ghost takes = { λ old changes new.
-        Appends (W.contents old.out) (W.contents new.out) (gone_text changes) };
+    ghost takes = { λ old seen new.
+        Appends (W.contents old.out) (W.contents new.out) (gone_text (changes_in seen)) };
 
     fn see(&mut self, _side: Side, _line: &Line) -> Result<(), TakeStop> {
         Ok(())
@@ -51,7 +52,7 @@ impl<W: Write + Drop> TakeChange for GoneList<W> {
     ghost nothing = { λ t. Appends-nil (W.contents t.out) };
 
     ghost joined = { λ t u v first then p q.
-        texts_joined (W.contents t.out) (W.contents u.out) (W.contents v.out) first then p q };
+        rows_joined (W.contents t.out) (W.contents u.out) (W.contents v.out) first then p q };
 }
 
 /// The word of a change that makes something gone.

@@ -7,7 +7,8 @@
 //!   (`IsCompared`): objects with a line of them there and none here, content files whose place has
 //!   no line any more, findings whose code was not at the place, and findings whose code is there no
 //!   more, at places that were looked at. Otherwise it names the first bad line, and of which
-//!   report. That its taker sees each line changes nothing of that.
+//!   report. Its taker sees each line of both reports once, in order, before the changes of its
+//!   place (`all_seen`).
 //! - `find_expected` writes exactly which objects of a list have no line of an object in a report
 //!   (`IsSearched`), in the order of places, each once. `read_list` reads such a list from its
 //!   text, or names the first bad line.
@@ -22,6 +23,7 @@ mod listing;
 mod question;
 mod reading;
 mod saying;
+mod side;
 mod stop;
 mod taking;
 mod told;
@@ -31,5 +33,6 @@ pub use comparing::compare;
 pub use expecting::find_expected;
 pub use gone::GoneList;
 pub use listing::{ListStop, read_list};
+pub use side::Side;
 pub use stop::CompareStop;
-pub use taking::{Side, TakeChange, TakeStop};
+pub use taking::{TakeChange, TakeStop};

@@ -3,14 +3,16 @@ ghost use Rattle.std.specs.Prelude.{◌≡◌, ◌≢◌, ◌⊎◌, ◌+◌, Li
 ghost use Rattle.std.specs.Prelude.{false, IfOk, IfErr, IfSome, OnOk, option_map};
 ghost use Rattle.std.specs.declared.cmp.Ordering.TheVariants.{Greater};
 ghost use Rattle.ocfl_tree.specs.Place.{place_cmp};
-ghost use Rattle.ocfl_report.specs.Line.{Line as ModelLine};
+ghost use Rattle.ocfl_report.specs.Line.{Line as ModelLine, line_of};
 ghost use Rattle.ocfl_compare.specs.Internal.Reading.{GoesOn, HasRead, IsBelow, IsNotAbove};
 ghost use Rattle.ocfl_compare.specs.Internal.Reading.{IsReading, IsNextLine, IsNextPlace, IsOpen};
 ghost use Rattle.ocfl_compare.specs.Internal.Reading.{IsUnfit, ReadStopsRightly, is_after, listed};
-ghost use Rattle.ocfl_compare.specs.{Internal.Telling.{IsTold, Tells}, Internal.Turns.{AreTaken}};
+ghost use Rattle.ocfl_compare.specs.Internal.{Telling.{IsTold, Tells, seen_by}, Turns.{AreTaken}};
+ghost use Rattle.ocfl_compare.specs.Seen.{line_seen, lines_seen};
 
 use crate::question::Question;
-use crate::taking::{Side, TakeChange, TakeStop};
+use crate::side::Side;
+use crate::taking::{TakeChange, TakeStop};
 use crate::told::{Told, nothing, tell};
 use ocfl_report::{InputStop, Line, TextStop, read_line, read_next_line};
 use ocfl_tree::Place;
@@ -48,23 +50,6 @@ pub(crate) fn unread() -> Reading
     Reading {
         next: None,
         count: 0,
-    }
-}
-
-/// Whether a taker of changes sees the lines that are read.
-#[derive(Clone, Copy)]
-pub(crate) enum Shown {
-    /// It does not.
-    No,
-    /// It does, as those of one of two reports.
-    As(Side),
-}
-
-/// The lines are shown if it is asked what changed between two reports.
-pub(crate) fn shown_of(asked: Question, side: Side) -> Shown {
-    match asked {
-        Question::Changed => Shown::As(side),
-        Question::Expected => Shown::No,
     }
 }
 
@@ -141,7 +126,8 @@ pub(crate) struct Taken {
 /// Takes all next lines that have the place, and shows them to a taker of changes.
 pub(crate) fn take_place<R: BufRead, T: TakeChange>(
     alloc: Global,
-    shown: Shown,
+    asked: Question,
+    side: Side,
     place: &Place,
     report: &mut R,
     taker: &mut T,
@@ -153,9 +139,9 @@ pub(crate) fn take_place<R: BufRead, T: TakeChange>(
         → HasRead all (R.remaining report.old) done first.next first.count
         → (own : List ModelLine) × IsTold taken.told own
         × AreTaken place.now all (R.remaining report.new) done own first.next
-        taken.reading.next taken.reading.count) }
+        taken.reading.next taken.reading.count
+        × T.takes taker.old (lines_seen asked side own) taker.new) }
     ensures below { IfOk result (λ taken. IsBelow place.now taken.reading.next) }
-    ensures shown { OnOk result (T.takes taker.old [] taker.new) }
     ensures refused { IfErr result (λ stop. (all : Option (List ℕ)) (done : List ModelLine)
         → HasRead all (R.remaining report.old) done first.next first.count
         → IfSome all (λ bytes. ReadStopsRightly bytes stop)) }
@@ -163,7 +149,7 @@ pub(crate) fn take_place<R: BufRead, T: TakeChange>(
     let mut told = nothing(alloc);
     let mut reading = first;
     for _ in 0..u64::MAX {
-        match take_line(shown, place, told, &reading.next, taker) {
+        match take_line(asked, side, place, told, &reading.next, taker) {
             Ok(Telling::More(more)) => told = more,
             Ok(Telling::Whole(told)) => return Ok(Taken { told, reading }),
             Err(TakeStop::Failed) => return Err(ReadStop::Output),
@@ -183,34 +169,41 @@ pub(crate) enum Telling {
 
 /// Takes the next line, if it has the place, and shows it.
 fn take_line<T: TakeChange>(
-    shown: Shown,
+    asked: Question,
+    side: Side,
     place: &Place,
     told: Told,
     next: &Option<Line>,
     taker: &mut T,
 ) -> Result<Telling, TakeStop>
     ensures tells { IfOk result (Tells place.now told next.now) }
-    ensures shown { OnOk result (T.takes taker.old [] taker.new) }
+    ensures seen { IfOk result (λ telling.
+        T.takes taker.old (seen_by asked side telling next.now) taker.new) }
 {
     let Some(line) = next else {
         return Ok(Telling::Whole(told));
     };
     match place.cmp(&line.place) {
         Ordering::Equal => {
-            show(shown, line, taker)?;
+            show(asked, side, line, taker)?;
             Ok(Telling::More(tell(told, line)?))
         }
         _ => Ok(Telling::Whole(told)),
     }
 }
 
-/// Shows a line to a taker of changes.
-fn show<T: TakeChange>(shown: Shown, line: &Line, taker: &mut T) -> Result<(), TakeStop>
-    ensures { OnOk result (T.takes taker.old [] taker.new) }
+/// Shows a line to a taker of changes, if it is asked what changed between two reports.
+fn show<T: TakeChange>(
+    asked: Question,
+    side: Side,
+    line: &Line,
+    taker: &mut T,
+) -> Result<(), TakeStop>
+    ensures { OnOk result (T.takes taker.old (line_seen asked side (line_of line.now)) taker.new) }
 {
-    match shown {
-        Shown::As(side) => taker.see(side, line),
-        Shown::No => Ok(()),
+    match asked {
+        Question::Changed => taker.see(side, line),
+        Question::Expected => Ok(()),
     }
 }
 

@@ -3,7 +3,7 @@ ghost use Rattle.std.specs.Prelude.{◌≡◌, ◌&&◌, ◌||◌, [], List, OnO
 ghost use Rattle.ocfl_tree.specs.Place.{Place as ModelPlace};
 ghost use Rattle.ocfl_report.specs.Line.{Line as ModelLine};
 ghost use Rattle.ocfl_compare.specs.Changes.{gone_file, gone_object, is_left as is_left_out};
-ghost use Rattle.ocfl_compare.specs.Changes.{change_at, placed, when};
+ghost use Rattle.ocfl_compare.specs.{Changes.{when}, Seen.{shown}};
 ghost use Rattle.ocfl_compare.specs.declared.change.Change.TheVariants.{Repaired};
 ghost use Rattle.ocfl_compare.specs.Internal.Telling.{IsTold, new_at, repaired_at};
 ghost use Rattle.ocfl_compare.specs.Internal.Telling.{told_answer, told_changes, told_repaired};
@@ -37,7 +37,7 @@ pub(crate) fn give_said<T: TakeChange>(
 ) -> Result<(), TakeStop>
     ensures { OnOk result ((was : List ModelLine) (is : List ModelLine)
         → IsTold sides.entry.before.now was → IsTold sides.entry.now.now is
-        → T.takes taker.old (placed sides.entry.place.now (said_changes asked left.now
+        → T.takes taker.old (shown sides.entry.place.now (said_changes asked left.now
         sides.entry.place.now sides.entry.in_shut sides.entry.has_lines was is)) taker.new) }
 {
     if is_left(left, sides.place) {
@@ -59,7 +59,7 @@ fn give_answer<T: TakeChange>(
     sides: Sides<'_>,
     taker: &mut T,
 ) -> Result<(), TakeStop>
-    ensures { OnOk result (T.takes taker.old (placed sides.entry.place.now
+    ensures { OnOk result (T.takes taker.old (shown sides.entry.place.now
         (told_answer asked sides.entry.in_shut sides.entry.has_lines
         sides.entry.before.now sides.entry.now.now)) taker.new) }
 {
@@ -77,7 +77,7 @@ fn give_answer<T: TakeChange>(
 
 /// Gives each change.
 fn give_changes<T: TakeChange>(sides: Sides<'_>, taker: &mut T) -> Result<(), TakeStop>
-    ensures { OnOk result (T.takes taker.old (placed sides.entry.place.now
+    ensures { OnOk result (T.takes taker.old (shown sides.entry.place.now
         (told_changes sides.entry.in_shut sides.entry.has_lines
         sides.entry.before.now sides.entry.now.now)) taker.new) }
 {
@@ -154,7 +154,7 @@ pub(crate) fn is_shut(before: &Told, now: &Told) -> bool
 
 /// Gives each code that is repaired, if the place was looked at.
 fn give_all_repaired<T: TakeChange>(sides: Sides<'_>, taker: &mut T) -> Result<(), TakeStop>
-    ensures { OnOk result (T.takes taker.old (placed sides.entry.place.now
+    ensures { OnOk result (T.takes taker.old (shown sides.entry.place.now
         (map Repaired (told_repaired sides.entry.before.now sides.entry.now.now))) taker.new) }
 {
     let Sides {
@@ -213,7 +213,7 @@ fn give_if<T: TakeChange>(
     change: Change,
     taker: &mut T,
 ) -> Result<(), TakeStop>
-    ensures { OnOk result (T.takes taker.old (placed place.now (when is change)) taker.new) }
+    ensures { OnOk result (T.takes taker.old (shown place.now (when is change)) taker.new) }
 {
     if !is {
         return Ok(());

@@ -5,10 +5,11 @@ use Rattle.ocfl_tree.specs.Place.{Place}
 use Rattle.ocfl_report.specs.{Line.{Line}, declared.code.Code.{Code}}
 use Rattle.ocfl_report.specs.declared.line.Line.{Line as MadeLine}
 use Rattle.ocfl_codes.specs.Kinds.{is_empty, tells_object, tells_file, hides}
-use Rattle.ocfl_compare.specs.Changes.{finding_codes, new_codes, has_code, stops, gone_object, gone_file, placed, when}
+use Rattle.ocfl_compare.specs.Changes.{finding_codes, new_codes, has_code, stops, gone_object, gone_file, when}
+use Rattle.ocfl_compare.specs.Seen.{Seen, lines_seen, shown}
+use Rattle.ocfl_compare.specs.declared.side.Side.{Side}
 use Rattle.ocfl_compare.specs.declared.change.Change.{Change}
 use Rattle.ocfl_compare.specs.declared.change.Change.TheVariants.{Found, Repaired, Missing}
-use Rattle.ocfl_compare.specs.declared.change.ChangeAt.{ChangeAt}
 use Rattle.ocfl_compare.specs.Internal.Reading.{IsAt, listed}
 use Rattle.ocfl_compare.specs.declared.question.Question.{Question}
 use Rattle.ocfl_compare.specs.declared.question.Question.TheVariants.{Changed, Expected}
@@ -28,12 +29,12 @@ abbrev pub told_repaired : Told → Told → List Code
 told_repaired before now = if now.absent || now.hidden then [] else new_codes now.findings.items before.findings.items
 
 -- the change of a code, if it was not there before
-abbrev pub new_at : Place → List Code → Code → List ChangeAt
-new_at p before c = placed p (when (not (has_code before c)) (Found c))
+abbrev pub new_at : Place → List Code → Code → List Seen
+new_at p before c = shown p (when (not (has_code before c)) (Found c))
 
 -- the change of a code that is repaired, if it is not there now
-abbrev pub repaired_at : Place → List Code → Code → List ChangeAt
-repaired_at p now c = placed p (when (not (has_code now c)) (Repaired c))
+abbrev pub repaired_at : Place → List Code → Code → List Seen
+repaired_at p now c = shown p (when (not (has_code now c)) (Repaired c))
 
 -- the changes of a place of which this was told before, and this now
 abbrev pub told_changes : Bool → Bool → Told → Told → List Change
@@ -54,3 +55,8 @@ told_answer Expected shut has_lines before now = told_missing before now
 abbrev pub Tells : Place → Told → Option MadeLine → Telling → Type 0
 Tells p told next (More after) = IsAt p next × ((own : List Line) → IsTold told own → IsTold after (own ++ listed next))
 Tells p told next (Whole after) = (IsAt p next → ⊥) × (after ≡ told)
+
+-- it was seen then
+abbrev pub seen_by : Question → Side → Telling → Option MadeLine → List Seen
+seen_by asked side (More after) next = lines_seen asked side (listed next)
+seen_by asked side (Whole after) next = []

@@ -4,10 +4,11 @@ use Rattle.std.specs.List.{list_any}
 use Rattle.std.specs.declared.cmp.Ordering.TheVariants.{Less}
 use Rattle.ocfl_tree.specs.{Place.{Text, Place, place_cmp, begins}, Ascending.{IsAscending, IsAmong}}
 use Rattle.ocfl_report.specs.{Line.{Line}, declared.line.Line.{Line as MadeLine}}
-use Rattle.ocfl_compare.specs.Changes.{is_left, is_below, is_shut, answer_at, placed}
+use Rattle.ocfl_compare.specs.Changes.{is_left, is_below, is_shut, answer_at}
+use Rattle.ocfl_compare.specs.Seen.{Seen, lines_seen, shown}
+use Rattle.ocfl_compare.specs.declared.side.Side.TheVariants.{Before, Now}
 use Rattle.ocfl_compare.specs.Internal.Reading.{HasRead, IsAt, IsBelow, last_place}
 use Rattle.ocfl_compare.specs.declared.change.Change.{Change}
-use Rattle.ocfl_compare.specs.declared.change.ChangeAt.{ChangeAt}
 use Rattle.ocfl_compare.specs.declared.question.Question.{Question}
 use Rattle.ocfl_compare.specs.declared.reading.ReadStop.{ReadStop}
 use Rattle.ocfl_compare.specs.declared.reading.ReadStop.TheVariants.{Line as BadLine, Failed, Output, Memory}
@@ -41,8 +42,9 @@ pub record IsGroup (g : Group) : Type 0 where
 abbrev pub said_changes : Question → List Place → Place → Bool → Bool → List Line → List Line → List Change
 said_changes asked left p shut has_lines before now = if is_left left p then [] else answer_at asked shut has_lines before now
 
-abbrev pub group_changes : Question → List Place → Group → List ChangeAt
-group_changes asked left g = placed g.place (said_changes asked left g.place g.in_shut g.has_lines g.before g.now)
+abbrev pub group_seen : Question → List Place → Group → List Seen
+group_seen asked left g =
+    lines_seen asked Before g.before ++ (lines_seen asked Now g.now ++ shown g.place (said_changes asked left g.place g.in_shut g.has_lines g.before g.now))
 
 -- one report is read up to a line behind all groups, and these are their lines in it
 pub record IsHalf (lines : Group → List Line) (groups : List Group) (all left : Option Text) (next : Option MadeLine) (count : ℕ) : Type 0 where
@@ -94,14 +96,14 @@ abbrev pub shut_after : Option Place → Place → Bool → Option Place
 shut_after shut p is = if leads_from shut p then shut else (if is then Some p else None)
 
 -- groups in order, of which all was taken
-pub record AreTold (asked : Question) (left : List Place) (groups : List Group) (next : Option Place) (shut : Option Place) (Taken : List ChangeAt → Type 0) : Type 0 where
+pub record AreTold (asked : Question) (left : List Place) (groups : List Group) (next : Option Place) (shut : Option Place) (Taken : List Seen → Type 0) : Type 0 where
   pub are : All IsGroup groups
   pub ascend : IsAscending place_cmp (map (λ g. g.place) groups)
   pub followed : AreFollowed groups next
   pub shuts : IsShutBy groups shut
-  pub taken : Taken (flat_map (group_changes asked left) groups)
+  pub taken : Taken (flat_map (group_seen asked left) groups)
 
-pub record IsSoFar (asked : Question) (left : List Place) (b c : Option Text) (b_next : Option MadeLine) (b_count : ℕ) (n m : Option Text) (n_next : Option MadeLine) (n_count : ℕ) (shut : Option Place) (Taken : List ChangeAt → Type 0) : Type 0 where
+pub record IsSoFar (asked : Question) (left : List Place) (b c : Option Text) (b_next : Option MadeLine) (b_count : ℕ) (n m : Option Text) (n_next : Option MadeLine) (n_count : ℕ) (shut : Option Place) (Taken : List Seen → Type 0) : Type 0 where
   pub groups : List Group
   pub before : IsHalf (λ g. g.before) groups b c b_next b_count
   pub now : IsHalf (λ g. g.now) groups n m n_next n_count

@@ -1,7 +1,8 @@
 use Rattle.std.proofs.Common.{◌≡◌, [], map, sym, subst, ap, ◌∙◌}
 use Rattle.std.specs.Prelude.{cond, ◌||◌, flat_map}
 use Rattle.std.proofs.lemmas.Result.{on_ok_weaker}
-use Rattle.ocfl_compare.specs.Changes.{new_codes, placed}
+use Rattle.ocfl_compare.specs.Changes.{new_codes}
+use Rattle.ocfl_compare.specs.Seen.{shown}
 use Rattle.ocfl_compare.specs.declared.change.Change.TheVariants.{Repaired}
 use Rattle.ocfl_compare.specs.Internal.Telling.{repaired_at, told_repaired}
 use Rattle.ocfl_compare.proofs.Tellings.{repaired_changes}
@@ -17,5 +18,5 @@ returns g c =
     on_ok_weaker c.give_repaired.result (λ h.
     subst (λ cs. g.T.TakeChange.takes c.args.taker.now cs c.give_repaired.new.taker)
     ((λ i. flat_map (repaired_at p (c.as_slice.ensures.value i)) (c.as_slice-2.ensures.value i)) ∙ sym (repaired_changes p now.findings.items before.findings.items)
-    ∙ ap (λ cs. placed p (map Repaired cs)) (sym seen)) h)
+    ∙ ap (λ cs. shown p (map Repaired cs)) (sym seen)) h)
     c.give_repaired.ensures

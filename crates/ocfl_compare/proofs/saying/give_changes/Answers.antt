@@ -1,7 +1,8 @@
 use Rattle.std.proofs.Common.{sym, subst, map, ◌∙◌}
 use Rattle.std.specs.Prelude.{◌&&◌, not, flat_map}
 use Rattle.std.proofs.lemmas.Result.{on_ok_weaker}
-use Rattle.ocfl_compare.specs.Changes.{when, gone_object, gone_file, new_codes, placed}
+use Rattle.ocfl_compare.specs.Changes.{when, gone_object, gone_file, new_codes}
+use Rattle.ocfl_compare.specs.Seen.{shown}
 use Rattle.ocfl_compare.specs.declared.change.Change.TheVariants.{Found, Repaired}
 use Rattle.ocfl_compare.specs.Internal.Telling.{new_at, told_repaired}
 use Rattle.ocfl_compare.proofs.Tellings.{new_changes, all_taken}
@@ -13,8 +14,8 @@ returns g c =
     let before = c.args.sides.before.now in
     let now = c.args.sides.now.now in
     let takes = g.T.TakeChange.takes in
-    let one = subst (λ cs. takes c.args.taker.now cs c.give_if.new.taker) (λ i. placed p (when (c.is_object_gone.ensures i) (c.object_change.ensures i))) c.in_ok-give_if.ensures in
-    let two = subst (λ cs. takes c.give_if.new.taker cs c.give_if-2.new.taker) (λ i. placed p (when (c.is_file_gone.ensures i) (c.file_change.ensures i))) c.in_ok-give_if-2.ensures in
+    let one = subst (λ cs. takes c.args.taker.now cs c.give_if.new.taker) (λ i. shown p (when (c.is_object_gone.ensures i) (c.object_change.ensures i))) c.in_ok-give_if.ensures in
+    let two = subst (λ cs. takes c.give_if.new.taker cs c.give_if-2.new.taker) (λ i. shown p (when (c.is_file_gone.ensures i) (c.file_change.ensures i))) c.in_ok-give_if-2.ensures in
     let three = subst (λ cs. takes c.give_if-2.new.taker cs c.give_new.new.taker)
     ((λ i. flat_map (new_at p (c.as_slice.ensures.value i)) (c.as_slice-2.ensures.value i)) ∙ sym (new_changes p before.findings.items now.findings.items)) c.in_ok-give_new.ensures in
     on_ok_weaker c.give_all_repaired.result (λ four.

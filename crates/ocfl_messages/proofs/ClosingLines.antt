@@ -9,9 +9,9 @@ use Rattle.ocfl_report.specs.declared.line.Line.{Line as MadeLine}
 use Rattle.ocfl_report.proofs.{Bytes.{IsByte}, Escapes.{escape_printable}, LineTexts.{no_line_feed}}
 use Rattle.ocfl_codes.specs.Kinds.{is_dash}
 use Rattle.ocfl_messages.specs.{Command.{path_text}, Finding.{Finding, IsPlaced}, Gravest.{by_weight, gravest, most_kept}}
-use Rattle.ocfl_messages.specs.Closing.{AreCounts, IsMade, above_text, alone_text, back_head, back_line, back_lines, back_room, back_text, behind_new, changed_command, changed_text, closing_text, counted_text, counts_text, ended_text, gone_head, gone_line, gone_lines, gone_room, gone_text, kind_text, lead_text, list_command, most_lines, most_of, new_head, new_lines, new_room, new_text, not_shown, not_whole_text, one_unless, repaired_head, repaired_line, repaired_lines, repaired_room, repaired_text, room_of_sections, run_count_text, section_lines, section_text, since_text, some_gone_text, some_new_text, some_unlooked_text, summary_text, two_unless, uncompared_text, unlooked_text, why_lines, word_lines}
+use Rattle.ocfl_messages.specs.Closing.{AreCounts, IsMade, above_text, alone_text, back_head, back_line, back_lines, back_room, back_text, behind_new, changed_command, changed_text, closing_text, counted_text, counts_text, ended_text, gone_head, gone_line, gone_lines, gone_room, gone_text, kind_text, lead_text, list_command, most_closing_lines, most_of, new_head, new_lines, new_room, new_text, not_shown, not_whole_text, one_unless, repaired_head, repaired_line, repaired_lines, repaired_room, repaired_text, room_of_sections, run_count_text, section_lines, section_text, since_text, some_gone_text, some_new_text, some_unlooked_text, summary_text, two_unless, uncompared_text, unlooked_text, why_lines, word_lines}
 use Rattle.ocfl_messages.specs.{Grouped.{groups_text, led_by, line_count, shown_leads}, Many.{are_text, many_text, scaled_text, size_text}, Night.{findings_command, more_text}}
-use Rattle.ocfl_messages.specs.Wording.{at_space, both_text, coded_text, cut_text, detail_text, digests_text, has_digests, most_digits, named_text, other_text, path_part}
+use Rattle.ocfl_messages.specs.Wording.{at_space, both_text, coded_text, cut_text, detail_text, digests_text, has_digests, most_digits, named_text, plain_detail, path_part}
 use Rattle.ocfl_messages.specs.{declared.closing.Closing.{Closing}, declared.closing.Gone.{Gone}, declared.closing.GoneKind.{GoneKind}, declared.tally.Counts.{Counts}}
 use Rattle.ocfl_messages.specs.declared.closing.GoneKind.TheVariants.{Object, Undeclared, File, Expected}
 use Rattle.ocfl_messages.proofs.LineCounts.{both, coded_flat, digits_flat, escape_flat, gravest_placed, groups_fit, many_flat, more_short, none, over_flat, part_flat, path_flat}
@@ -53,13 +53,13 @@ named_flat : (o : Option (Text × Text)) → IfSome o AreBytes → line_count (n
 named_flat None k = refl
 named_flat (Some p) k = both_flat p.0 (at_space p.1) k.0 (at_space_bytes p.1 k.1)
 
-other_flat : (detail : Text) → All IsByte detail → line_count (other_text detail) ≡ 0
+other_flat : (detail : Text) → All IsByte detail → line_count (plain_detail detail) ≡ 0
 other_flat detail h =
     let said : line_count (codes ": " ++ escape detail) ≡ 0 = both (codes ": ") (escape detail) ∙ omega (arith, bytes_flat detail h) in
     elim (is_dash detail) as (λ q. line_count (cond q [] (codes ": " ++ escape detail)) ≡ 0) [ true ↦ refl | false ↦ said ]
 
 detail_flat : (c : Code) (detail : Text) → All IsByte detail → line_count (detail_text c detail) ≡ 0
-detail_flat c detail h = elim (has_digests c) as (λ q. line_count (cond q (named_text (at_space detail)) (other_text detail)) ≡ 0) [
+detail_flat c detail h = elim (has_digests c) as (λ q. line_count (cond q (named_text (at_space detail)) (plain_detail detail)) ≡ 0) [
   | true ↦ named_flat (at_space detail) (at_space_bytes detail h)
   | false ↦ other_flat detail h
 ]
@@ -447,7 +447,7 @@ all_of : (e u g l n r b w y o room gl nl rl bl all : ℕ) → w ≤ 3 → y ≤ 
     → gl + nl + rl + bl ≤ room → all ≡ e + u + g + l + n + r + b → all ≤ 13
 all_of e u g l n r b w y o room gl nl rl bl all a1 a2 a3 a4 a5 a6 a7 a8 a9 b1 b2 b3 b4 = omega (arith, a1, a2, a3, a4, a5, a6, a7, a8, a9, b1, b2, b3, b4)
 
-pub closing_is_short : (c : Closing) (fs : List Finding) → IsMade c → All IsPlaced fs → line_count (closing_text c fs) ≤ most_lines
+pub closing_is_short : (c : Closing) (fs : List Finding) → IsMade c → All IsPlaced fs → line_count (closing_text c fs) ≤ most_closing_lines
 closing_is_short c fs h placed =
     let w = word_most c.whole in
     let y = why_most c.uncompared.now in

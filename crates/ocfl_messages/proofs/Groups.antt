@@ -1,12 +1,11 @@
 -- Lists of findings that are gone through one by one.
-use Rattle.std.proofs.Common.{◌≡◌, ℕ, ◌+◌, ◌-◌, ◌<◌, ◌≤◌, List, [], ◌∷◌, ◌++◌, Bool, true, false, cond, length, get_or, map, take, drop, codes, refl, ap, sym, ◌∙◌, append_assoc, length-append, arith}
-use Rattle.std.proofs.lemmas.List.{append-nil, at_drop_all, at_drop_more, drop-map, length-drop, length-map, map_more, take-map}
-use Rattle.std.proofs.lemmas.List.Elements.{filter-append}
-use Rattle.std.specs.{Prelude.{◌||◌, Option, Some, if◌then◌else◌}, List.{filter, list_any}}
+use Rattle.std.proofs.Common.{◌≡◌, ℕ, ◌+◌, ◌-◌, ◌<◌, List, [], ◌∷◌, ◌++◌, Bool, true, false, cond, length, get_or, map, take, drop, codes, refl, ap, sym, ◌∙◌, append_assoc, arith}
+use Rattle.std.proofs.lemmas.List.{at_drop_more, drop-map, length-drop, length-map, map_more, take-map}
+use Rattle.std.specs.{Prelude.{◌||◌, Option, Some, if◌then◌else◌}, List.{list_any}}
 use Rattle.ocfl_tree.specs.Place.{Text}
 use Rattle.ocfl_messages.specs.Finding.{Finding, finding_of}
 use Rattle.ocfl_codes.specs.Meaning.{first_step_of}
-use Rattle.ocfl_messages.specs.Grouped.{Sorted, count_like, count_side, count_with, each_text, first_with, fit_text, is_counted_with, is_like, is_with, lead_with, leads_after, leads_of, led_by, line_count, one_if, one_step_text, picked, says_step, shown_group}
+use Rattle.ocfl_messages.specs.Grouped.{Sorted, each_text, first_with, fit_text, is_with, lead_with, leads_after, leads_of, led_by, line_count, one_if, one_step_text, picked, says_step, shown_group}
 use Rattle.ocfl_messages.specs.declared.finding.Finding.{Finding as MadeFinding}
 
 -- one more of a list
@@ -25,60 +24,10 @@ each_on one xs i x t0 t1 t l is h all =
     ∙ append_assoc t0 (one S (finding_of x)) (each_text one (S ++ finding_of x ∷ []) B)
     ∙ (λ j. t0 ++ each_text one (sym before j) (sym rest j)) ∙ all
 
--- and all of it
-pub each_done : (one : List Finding → Finding → Text) (xs : List MadeFinding) (i : ℕ) (t0 t : Text) → length xs ≤ i
-    → t0 ++ each_text one (take i (map finding_of xs)) (drop i (map finding_of xs)) ≡ t → t0 ≡ t
-each_done one xs i t0 t l all =
-    let none : drop i (map finding_of xs) ≡ [] = drop-map finding_of i xs ∙ at_drop_all (map finding_of) xs i l in
-    sym (append-nil t0) ∙ (λ j. t0 ++ each_text one (take i (map finding_of xs)) (sym none j)) ∙ all
-
--- how many are like one, with one more
-abbrev pub one_of : Bool → ℕ
-one_of true = 1
-one_of false = 0
-
-alike : (f g : Finding) → length (filter (is_like f) (g ∷ [])) ≡ one_of (is_like f g)
-alike f g = elim (is_like f g) as (λ b. length (cond b (g ∷ []) []) ≡ one_of b) [ true ↦ refl | false ↦ refl ]
-
-count_on : (f : Finding) (xs : List MadeFinding) (i : ℕ) (x : MadeFinding) → i < length xs → x ≡ get_or xs i x
-    → count_like f (map finding_of (take (i + 1) xs)) ≡ count_like f (map finding_of (take i xs)) + one_of (is_like f (finding_of x))
-count_on f xs i x l is =
-    let S = map finding_of (take i xs) in
-    ap (count_like f) (map_more finding_of xs i x l ∙ ap (λ y. S ++ finding_of y ∷ []) (sym is))
-    ∙ ap length (filter-append (is_like f) S (finding_of x ∷ [])) ∙ length-append (filter (is_like f) S) (filter (is_like f) (finding_of x ∷ []))
-    ∙ ap (λ n. count_like f S + n) (alike f (finding_of x))
-
-pub count_one : (f : Finding) (xs : List MadeFinding) (i : ℕ) (x : MadeFinding) → i < length xs → x ≡ get_or xs i x → is_like f (finding_of x) ≡ true
-    → count_like f (map finding_of (take (i + 1) xs)) ≡ count_like f (map finding_of (take i xs)) + 1
-count_one f xs i x l is e = count_on f xs i x l is ∙ ap (λ b. count_like f (map finding_of (take i xs)) + one_of b) e
-
-pub count_none : (f : Finding) (xs : List MadeFinding) (i : ℕ) (x : MadeFinding) → i < length xs → x ≡ get_or xs i x → is_like f (finding_of x) ≡ false
-    → count_like f (map finding_of (take (i + 1) xs)) ≡ count_like f (map finding_of (take i xs))
-count_none f xs i x l is e = count_on f xs i x l is ∙ ap (λ b. count_like f (map finding_of (take i xs)) + one_of b) e ∙ omega arith
-
+-- a test of any of them
 pub any_map : (p : Finding → Bool) (xs : List MadeFinding) → list_any p (map finding_of xs) ≡ list_any (λ x. p (finding_of x)) xs
 any_map p [] = refl
 any_map p (x ∷ xs) = ap (λ b. p (finding_of x) || b) (any_map p xs)
-
--- how many are of the group of one, with one more
-with_it : (f g : Finding) → length (filter (is_with f) (g ∷ [])) ≡ one_of (is_with f g)
-with_it f g = elim (is_with f g) as (λ b. length (cond b (g ∷ []) []) ≡ one_of b) [ true ↦ refl | false ↦ refl ]
-
-with_on : (f : Finding) (xs : List MadeFinding) (i : ℕ) (x : MadeFinding) → i < length xs → x ≡ get_or xs i x
-    → count_with f (map finding_of (take (i + 1) xs)) ≡ count_with f (map finding_of (take i xs)) + one_of (is_with f (finding_of x))
-with_on f xs i x l is =
-    let S = map finding_of (take i xs) in
-    ap (count_with f) (map_more finding_of xs i x l ∙ ap (λ y. S ++ finding_of y ∷ []) (sym is))
-    ∙ ap length (filter-append (is_with f) S (finding_of x ∷ [])) ∙ length-append (filter (is_with f) S) (filter (is_with f) (finding_of x ∷ []))
-    ∙ ap (λ n. count_with f S + n) (with_it f (finding_of x))
-
-pub with_one : (f : Finding) (xs : List MadeFinding) (i : ℕ) (x : MadeFinding) → i < length xs → x ≡ get_or xs i x → is_with f (finding_of x) ≡ true
-    → count_with f (map finding_of (take (i + 1) xs)) ≡ count_with f (map finding_of (take i xs)) + 1
-with_one f xs i x l is e = with_on f xs i x l is ∙ ap (λ b. count_with f (map finding_of (take i xs)) + one_of b) e
-
-pub with_none : (f : Finding) (xs : List MadeFinding) (i : ℕ) (x : MadeFinding) → i < length xs → x ≡ get_or xs i x → is_with f (finding_of x) ≡ false
-    → count_with f (map finding_of (take (i + 1) xs)) ≡ count_with f (map finding_of (take i xs))
-with_none f xs i x l is e = with_on f xs i x l is ∙ ap (λ b. count_with f (map finding_of (take i xs)) + one_of b) e ∙ omega arith
 
 -- the first findings of groups, with one more of the list
 after_more : (leads xs : List Finding) (f : Finding) → leads_after leads (xs ++ f ∷ []) ≡ lead_with (leads_after leads xs) f
@@ -92,15 +41,7 @@ leads_more xs i x old new l is step h =
     step ∙ ap (λ fs. lead_with fs (finding_of x)) h
     ∙ sym (ap leads_of (map_more finding_of xs i x l ∙ ap (λ y. S ++ finding_of y ∷ []) (sym is)) ∙ after_more [] S (finding_of x))
 
--- the findings of groups, with one more of the list
-pub led_more : (leads : List Finding) (xs : List MadeFinding) (i : ℕ) (x : MadeFinding) (old new : List Finding) → i < length xs → x ≡ get_or xs i x
-    → new ≡ old ++ led_by leads (finding_of x ∷ []) → old ≡ led_by leads (map finding_of (take i xs)) → new ≡ led_by leads (map finding_of (take (i + 1) xs))
-led_more leads xs i x old new l is step h =
-    let S = map finding_of (take i xs) in
-    step ∙ ap (λ fs. fs ++ led_by leads (finding_of x ∷ [])) h
-    ∙ sym (ap (led_by leads) (map_more finding_of xs i x l ∙ ap (λ y. S ++ finding_of y ∷ []) (sym is))
-    ∙ filter-append (λ f. list_any (is_with f) leads) S (finding_of x ∷ []))
-
+-- one finding, if it is of one of these groups or not
 pub led_one : (leads : List Finding) (f : Finding) → list_any (is_with f) leads ≡ true → led_by leads (f ∷ []) ≡ f ∷ []
 led_one leads f e = rw e refl
 
@@ -127,33 +68,6 @@ fit_on root fs xs i room left x t0 t1 t l is h e all =
     ∙ append_assoc t0 (G (length B)) (fit_text root fs (room - line_count (G (length B))) (S ++ finding_of x ∷ []) B)
     ∙ (λ j. t0 ++ fit_text root fs room (sym before j) (sym rest j)) ∙ all
 
--- and all of them
-pub fit_done : (root : Text) (fs : Sorted) (xs : List MadeFinding) (i room : ℕ) (t0 t : Text) → length xs ≤ i
-    → t0 ++ fit_text root fs room (take i (map finding_of xs)) (drop i (map finding_of xs)) ≡ t → t0 ≡ t
-fit_done root fs xs i room t0 t l all =
-    let none : drop i (map finding_of xs) ≡ [] = drop-map finding_of i xs ∙ at_drop_all (map finding_of) xs i l in
-    sym (append-nil t0) ∙ (λ j. t0 ++ fit_text root fs room (take i (map finding_of xs)) (sym none j)) ∙ all
-
--- how many findings of a side are of the path of one, with one more
-side_of : (lost : Bool) (f g : Finding) → length (filter (is_counted_with lost f) (g ∷ [])) ≡ one_of (is_counted_with lost f g)
-side_of lost f g = elim (is_counted_with lost f g) as (λ b. length (cond b (g ∷ []) []) ≡ one_of b) [ true ↦ refl | false ↦ refl ]
-
-side_on : (lost : Bool) (f : Finding) (xs : List MadeFinding) (i : ℕ) (x : MadeFinding) → i < length xs → x ≡ get_or xs i x
-    → count_side lost f (map finding_of (take (i + 1) xs)) ≡ count_side lost f (map finding_of (take i xs)) + one_of (is_counted_with lost f (finding_of x))
-side_on lost f xs i x l is =
-    let S = map finding_of (take i xs) in
-    ap (count_side lost f) (map_more finding_of xs i x l ∙ ap (λ y. S ++ finding_of y ∷ []) (sym is))
-    ∙ ap length (filter-append (is_counted_with lost f) S (finding_of x ∷ [])) ∙ length-append (filter (is_counted_with lost f) S) (filter (is_counted_with lost f) (finding_of x ∷ []))
-    ∙ ap (λ n. count_side lost f S + n) (side_of lost f (finding_of x))
-
-pub side_one : (lost : Bool) (f : Finding) (xs : List MadeFinding) (i : ℕ) (x : MadeFinding) → i < length xs → x ≡ get_or xs i x → is_counted_with lost f (finding_of x) ≡ true
-    → count_side lost f (map finding_of (take (i + 1) xs)) ≡ count_side lost f (map finding_of (take i xs)) + 1
-side_one lost f xs i x l is e = side_on lost f xs i x l is ∙ ap (λ b. count_side lost f (map finding_of (take i xs)) + one_of b) e
-
-pub side_none : (lost : Bool) (f : Finding) (xs : List MadeFinding) (i : ℕ) (x : MadeFinding) → i < length xs → x ≡ get_or xs i x → is_counted_with lost f (finding_of x) ≡ false
-    → count_side lost f (map finding_of (take (i + 1) xs)) ≡ count_side lost f (map finding_of (take i xs))
-side_none lost f xs i x l is e = side_on lost f xs i x l is ∙ ap (λ b. count_side lost f (map finding_of (take i xs)) + one_of b) e ∙ omega arith
-
 -- those of a list that are picked, with one more
 pub picked_on : (is : List Finding → Finding → Bool) (xs : List MadeFinding) (i : ℕ) (x : MadeFinding) (b : Bool) (t0 t1 t : List Finding) → i < length xs → x ≡ get_or xs i x
     → b ≡ is (map finding_of (take i xs)) (finding_of x) → t1 ≡ t0 ++ one_if b (finding_of x)
@@ -169,13 +83,6 @@ picked_on is xs i x b t0 t1 t l at e h all =
     (λ j. (h ∙ ap (λ q. t0 ++ one_if q (finding_of x)) e) j ++ picked is (more j) (behind j))
     ∙ append_assoc t0 (one_if (is S (finding_of x)) (finding_of x)) (picked is (S ++ finding_of x ∷ []) B)
     ∙ (λ j. t0 ++ picked is (sym before j) (sym rest j)) ∙ all
-
--- and all of them
-pub picked_done : (is : List Finding → Finding → Bool) (xs : List MadeFinding) (i : ℕ) (t0 t : List Finding) → length xs ≤ i
-    → t0 ++ picked is (take i (map finding_of xs)) (drop i (map finding_of xs)) ≡ t → t0 ≡ t
-picked_done is xs i t0 t l all =
-    let none : drop i (map finding_of xs) ≡ [] = drop-map finding_of i xs ∙ at_drop_all (map finding_of) xs i l in
-    sym (append-nil t0) ∙ (λ j. t0 ++ picked is (take i (map finding_of xs)) (sym none j)) ∙ all
 
 -- what to do first, if one before has said so or not
 pub step_seen : (alone before : List Finding) (g : Finding) → list_any (says_step alone g) before ≡ true → one_step_text alone before g ≡ []

@@ -1,6 +1,6 @@
 -- Looking up entries by their places.
 use Rattle.std.proofs.Common.{◌≡◌, ◌≤◌, ◌<◌, ◌+◌, ℕ, suc, List, [], ◌∷◌, Bool, true, false, ◌&&◌, ◌||◌, refl, sym, ◌∙◌, ap, ap₂, subst, length, take, get_or, leb-true, arith}
-use Rattle.std.proofs.{lemmas.Bool.Decides.{nat_tests}, lemmas.List.{get_or_default, take_all}, lemmas.List.Elements.{AllWithin-more}}
+use Rattle.std.proofs.{lemmas.Bool.{and_parts, and_right, or_from, or_parts, or_right}, lemmas.Bool.Decides.{nat_tests}, lemmas.List.{get_or_default, take_all}, lemmas.List.Elements.{AllWithin-more}}
 use Rattle.std.proofs.lemmas.List.Sorted.{sorted_far, list_any-IsPermutation}
 use Rattle.std.proofs.lemmas.List.MinMax.{ranks_by}
 use Rattle.std.specs.{Prelude.{nat_le}, List.{AllWithin, list_any}, List.Sorted.{IsPartitionPoint, IsPermutation, IsSorted}, Cmp.{IsStrictWeakOrder}}
@@ -16,36 +16,6 @@ use Rattle.ocfl_messages.specs.declared.known.Reach.TheVariants as reach
 
 pub known_in_any_order : (es fs : List KnownEntry) (l : Line) → IsPermutation es fs → is_known es l ≡ is_known fs l
 known_in_any_order es fs l h = list_any-IsPermutation (names l) es fs h
-
--- ---- tests
-
-and_left : (a b : Bool) → (a && b) ≡ true → a ≡ true
-and_left true b h = refl
-and_left false b h = h
-
-and_right : (a b : Bool) → (a && b) ≡ true → b ≡ true
-and_right true b h = h
-and_right false b h = absurd cc
-
-and_false : (a b : Bool) → b ≡ false → (a && b) ≡ false
-and_false true b h = h
-and_false false b h = refl
-
-or_left : (a b : Bool) → (a || b) ≡ false → a ≡ false
-or_left true b h = h
-or_left false b h = refl
-
-or_right : (a b : Bool) → (a || b) ≡ false → b ≡ false
-or_right true b h = absurd cc
-or_right false b h = h
-
-or_false : (a b : Bool) → a ≡ false → b ≡ false → (a || b) ≡ false
-or_false true b h k = h
-or_false false b h k = k
-
-or_true : (a b : Bool) → b ≡ true → (a || b) ≡ true
-or_true true b h = refl
-or_true false b h = h
 
 -- ---- entries that name a line are of its place or of one above it
 
@@ -63,13 +33,13 @@ begun (n ∷ q) (m ∷ p) h = by (text_eq n m) refl h (begun q p)
     by false t k more = absurd cc
 
 named_begins : (l : Line) (e : KnownEntry) → names l e ≡ true → begins e.line.place l.place ≡ true
-named_begins l e h = by e.reach (and_right (code_eq e.line.code l.code) (reaches e.reach (line_of e.line) l) h)
+named_begins l e h = by e.reach (and_parts (code_eq e.line.code l.code) (reaches e.reach (line_of e.line) l) h).1
   where
     same : place_eq e.line.place l.place ≡ true → begins e.line.place l.place ≡ true
     same k = subst (λ q. begins e.line.place q ≡ true) ((place_eq-Decides e.line.place l.place).0 k) (begins-itself e.line.place)
 
     by : (r : Reach) → reaches r (line_of e.line) l ≡ true → begins e.line.place l.place ≡ true
-    by reach.One k = same (and_left _ _ k)
+    by reach.One k = same (and_parts _ _ k).0
     by reach.Place k = same k
     by reach.Branch k = k
 
@@ -87,7 +57,7 @@ one_along l e h = by (names l e) refl
         absurd (true_not_false (sym (at_place (take (length q) l.place) l e s i) ∙ h (length q) less))
 
     by : (b : Bool) → names l e ≡ b → names_at l.place l e ≡ names l e
-    by false i = and_false (place_eq e.line.place l.place) (names l e) i ∙ sym i
+    by false i = and_right (place_eq e.line.place l.place) (names l e) i ∙ sym i
     by true i =
         let s = begun e.line.place l.place (named_begins l e i) in
         whole i e.line.place s.0 s.1 refl (nat_le (length l.place) (length e.line.place)) refl ∙ sym i
@@ -96,7 +66,7 @@ pub known_along : (l : Line) (es : List KnownEntry) → ((m : ℕ) → m < lengt
     → list_any (names_at l.place l) es ≡ is_known es l
 known_along l [] h = refl
 known_along l (e ∷ es) h =
-    ap₂ (λ a b. a || b) (one_along l e (λ m k. or_left _ _ (h m k))) (known_along l es (λ m k. or_right _ _ (h m k)))
+    ap₂ (λ a b. a || b) (one_along l e (λ m k. (or_parts _ _ (h m k)).0)) (known_along l es (λ m k. (or_parts _ _ (h m k)).1))
 
 pub known_at : (q : Place) (l : Line) (es : List KnownEntry) → list_any (names_at q l) es ≡ true → is_known es l ≡ true
 known_at q l [] h = h
@@ -104,8 +74,8 @@ known_at q l (e ∷ es) h = by (names_at q l e) refl h (known_at q l es)
   where
     by : (b : Bool) → names_at q l e ≡ b → (b || list_any (names_at q l) es) ≡ true → (list_any (names_at q l) es ≡ true → is_known es l ≡ true)
         → (names l e || is_known es l) ≡ true
-    by true i k more = ap (λ b. b || is_known es l) (and_right (place_eq e.line.place q) (names l e) i)
-    by false i k more = or_true (names l e) (is_known es l) (more k)
+    by true i k more = ap (λ b. b || is_known es l) (and_parts (place_eq e.line.place q) (names l e) i).1
+    by false i k more = or_right (names l e) (is_known es l) (more k)
 
 -- ---- the entries of a place lie together
 
@@ -131,11 +101,6 @@ IsLow q es i = IsPartitionPoint (λ e. is_lt (place_cmp e.line.place q) ≡ true
 abbrev pub AreOther : Place → Line → List KnownEntry → ℕ → Type 0
 AreOther q l es i = AllWithin (λ e. names_at q l e ≡ false) es 0 i
 
-pub others_begin : (q : Place) (l : Line) (es : List KnownEntry) (i : ℕ) → IsLow q es i → AreOther q l es i
-others_begin q l es i low k d a b =
-    let apart : place_eq (get_or es k d).line.place q ≡ false = ap is_eq (less_from _ (low.0 k d a b)) in
-    ap (λ c. c && names l (get_or es k d)) apart
-
 above_apart : (x y q : Place) → is_lt (place_cmp y x) ≡ false → place_cmp q x ≡ Less → place_eq y q ≡ false
 above_apart x y q h l = by (place_cmp y q) refl
   where
@@ -154,7 +119,7 @@ past x q h k = by (place_cmp x q) refl h k
 
 pub none_from_each : (test : KnownEntry → Bool) (es : List KnownEntry) → ((k : ℕ) (d : KnownEntry) → k < length es → test (get_or es k d) ≡ false) → list_any test es ≡ false
 none_from_each test [] h = refl
-none_from_each test (e ∷ es) h = or_false _ _ (h 0 e (omega arith)) (none_from_each test es (λ k d a. h (suc k) d (omega arith)))
+none_from_each test (e ∷ es) h = or_from _ _ (h 0 e (omega arith)) (none_from_each test es (λ k d a. h (suc k) d (omega arith)))
 
 pub others_all : (q : Place) (l : Line) (es : List KnownEntry) (i : ℕ) → length es ≤ i → AreOther q l es i → list_any (names_at q l) es ≡ false
 others_all q l es i a h = none_from_each (names_at q l) es (λ k d b. h k d (omega arith) (omega arith))
@@ -162,7 +127,7 @@ others_all q l es i a h = none_from_each (names_at q l) es (λ k d b. h k d (ome
 pub others_more : (q : Place) (l : Line) (es : List KnownEntry) (i : ℕ) (x : KnownEntry) → i < length es → x ≡ get_or es i x → names l x ≡ false
     → AreOther q l es i → AreOther q l es (i + 1)
 others_more q l es i x within is apart h =
-    AllWithin-more (λ e. names_at q l e ≡ false) es 0 i h (λ d. and_false _ _ (ap (names l) (sym (is ∙ get_or_default es i x d within)) ∙ apart))
+    AllWithin-more (λ e. names_at q l e ≡ false) es 0 i h (λ d. and_right _ _ (ap (names l) (sym (is ∙ get_or_default es i x d within)) ∙ apart))
 
 -- the entry at an index is of a place after this one
 pub others_end : (q : Place) (l : Line) (es : List KnownEntry) (first i : ℕ) (x : KnownEntry) → IsSorted entry_cmp es → IsLow q es first → first ≤ i

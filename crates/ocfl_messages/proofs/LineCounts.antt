@@ -13,7 +13,7 @@ use Rattle.ocfl_messages.specs.Grouped.{Sorted, below_text, brief_body, brief_fi
 use Rattle.ocfl_codes.specs.declared.weight.Weight.{Weight}
 use Rattle.ocfl_codes.specs.declared.weight.Weight.TheVariants.{Bytes, Object, Record, Position}
 use Rattle.ocfl_messages.specs.{Gravest.{by_weight, gravest, is_of_weight, most_kept, of_weight}, Many.{many_text, word_text}, declared.night.Night.{Night}}
-use Rattle.ocfl_messages.specs.Night.{IsNamed, findings_command, head_text, hint_text, more_text, most_lines, night_text, room_of_groups, runs_text, whose_text}
+use Rattle.ocfl_messages.specs.Night.{IsNamed, findings_command, tonight_text, hint_text, more_text, most_night_lines, night_text, room_of_groups, runs_text, whose_text}
 use Rattle.ocfl_messages.specs.Wording.{at_space, coded_text, has_digests, is_missing, path_part, words_text}
 use Rattle.ocfl_messages.proofs.Controls.{no_line_feeds, plain_has_none}
 
@@ -264,7 +264,7 @@ runs_flat a b la lb =
     ∙ omega (arith, both (codes "runs " ++ decimal a) (codes " to "), both (codes "runs ") (decimal a), digits_flat a la, digits_flat b lb) in
     elim (a == b) as (λ q. line_count (cond q (codes "run " ++ decimal a) (((codes "runs " ++ decimal a) ++ codes " to ") ++ decimal b)) ≡ 0) [ true ↦ one | false ↦ two ]
 
-head_one : (n : Night) (count : ℕ) → IsNamed n → count < 2 ^ 64 → line_count (head_text n count) ≡ 1
+head_one : (n : Night) (count : ℕ) → IsNamed n → count < 2 ^ 64 → line_count (tonight_text n count) ≡ 1
 head_one n count h l =
     let M = many_text count (codes "finding") (codes "findings") in
     let W = whose_text n.part n.root.now in
@@ -294,17 +294,17 @@ gravest_placed fs h =
     All-take IsPlaced most_kept (by_weight fs) (All-append IsPlaced ((of_weight Bytes fs ++ of_weight Object fs) ++ of_weight Record fs) (of_weight Position fs)
     (All-append IsPlaced (of_weight Bytes fs ++ of_weight Object fs) (of_weight Record fs) (All-append IsPlaced (of_weight Bytes fs) (of_weight Object fs) (of Bytes) (of Object)) (of Record)) (of Position))
 
-pub night_is_short : (n : Night) (fs : List Finding) → IsNamed n → length (by_weight fs) < 2 ^ 64 → All IsPlaced fs → line_count (night_text n fs) ≤ most_lines
+pub night_is_short : (n : Night) (fs : List Finding) → IsNamed n → length (by_weight fs) < 2 ^ 64 → All IsPlaced fs → line_count (night_text n fs) ≤ most_night_lines
 night_is_short n fs h l placed =
     let G = gravest fs in
     let count = length (by_weight fs) in
     let few : length G < 2 ^ 64 = omega (arith, length-take most_kept (by_weight fs)) in
-    let H = head_text n count in
+    let H = tonight_text n count in
     let B = groups_text n.root.now room_of_groups G in
     let left = count - length (led_by (shown_leads room_of_groups G) G) in
     let M = more_text findings_command n.report.now left in
     let T = hint_text G in
-    let some : line_count ((H ++ (B ++ M)) ++ T) ≤ most_lines =
+    let some : line_count ((H ++ (B ++ M)) ++ T) ≤ most_night_lines =
     omega (
       arith,
       both (H ++ (B ++ M)) T,
@@ -315,4 +315,4 @@ night_is_short n fs h l placed =
       more_short findings_command n.report.now left refl h.report (omega (arith, l)),
       hint_short G,
     ) in
-    elim (count == 0) as (λ b. line_count (cond b [] ((H ++ (B ++ M)) ++ T)) ≤ most_lines) [ true ↦ omega arith | false ↦ some ]
+    elim (count == 0) as (λ b. line_count (cond b [] ((H ++ (B ++ M)) ++ T)) ≤ most_night_lines) [ true ↦ omega arith | false ↦ some ]

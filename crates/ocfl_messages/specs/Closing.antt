@@ -81,8 +81,8 @@ uncompared_text (b ∷ why) = not_known_text (b ∷ why)
 -- ---- in how many lines
 
 -- how many lines all of it has at most
-abbrev pub most_lines : ℕ
-most_lines = 13
+abbrev pub most_closing_lines : ℕ
+most_closing_lines = 13
 
 -- how many of them are of sections: those of the word at the end, of why nothing was compared and of
 -- what is not looked at are not
@@ -97,7 +97,7 @@ abbrev pub one_unless : Bool → ℕ
 one_unless none = if none then 0 else 1
 
 abbrev pub room_of_sections : Closing → ℕ
-room_of_sections c = most_lines - word_lines c.whole - why_lines c.uncompared.now - one_unless (c.unlooked == 0)
+room_of_sections c = most_closing_lines - word_lines c.whole - why_lines c.uncompared.now - one_unless (c.unlooked == 0)
 
 -- a section behind others has two lines at least
 abbrev pub two_unless : Bool → ℕ

@@ -81,9 +81,9 @@ abbrev pub files_text : Option FileCounts → Text
 files_text None = []
 files_text (Some c) = if c.files == 0 then [] else some_files_text c
 
-abbrev pub head_text : Option Place → Option FileCounts → Code → Text
-head_text (Some o) files c = codes "Object " ++ path_text o ++ files_text files ++ codes ":\n"
-head_text None files c = codes "Elsewhere, " ++ code_text c ++ codes ":\n"
+abbrev pub group_head : Option Place → Option FileCounts → Code → Text
+group_head (Some o) files c = codes "Object " ++ path_text o ++ files_text files ++ codes ":\n"
+group_head None files c = codes "Elsewhere, " ++ code_text c ++ codes ":\n"
 
 -- ---- a file under another spelling of its name
 
@@ -217,7 +217,7 @@ step_text alone before (Some g) = one_step_text alone before g
 -- do first, and how to look at it again
 abbrev pub group_text : Text → Sorted → List Finding → Finding → Text
 group_text root s before f =
-    head_text f.object f.files f.line.code ++ each_text (member_text f s.alone) [] s.alone ++ each_text (respelt_member_text f s.respelt) [] s.respelt
+    group_head f.object f.files f.line.code ++ each_text (member_text f s.alone) [] s.alone ++ each_text (respelt_member_text f s.respelt) [] s.respelt
     ++ step_text s.alone before (first_with f s.alone) ++ again_text root f.line.place
 
 abbrev pub others_text : ℕ → Text

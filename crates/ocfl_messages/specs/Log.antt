@@ -93,13 +93,13 @@ night_with r program = object (counts (codes "cost") r.cost (counts (codes "find
 
 -- the text that a row has: where its cursor stands, its place, its path or what is said, escaped
 -- as in reports, or the digest of its program as it is
-abbrev pub row_text : LogRow → Text
-row_text (Began r) = stands_text r.stands
-row_text (Slice r) = stands_text r.stands
-row_text (Left r) = place_text r.place.now
-row_text (Closing r) = escape r.report.now
-row_text (Refusal r) = escape r.said.now
-row_text (Night r) = r.program.now
+abbrev pub first_text : LogRow → Text
+first_text (Began r) = stands_text r.stands
+first_text (Slice r) = stands_text r.stands
+first_text (Left r) = place_text r.place.now
+first_text (Closing r) = escape r.report.now
+first_text (Refusal r) = escape r.said.now
+first_text (Night r) = r.program.now
 
 -- the other text that a row has, escaped as in reports: the path of the storage root, or why
 abbrev pub other_text : LogRow → Text
@@ -119,4 +119,4 @@ row_with (Refusal r) text other = refusal_with r text
 row_with (Night r) text other = night_with r text
 
 abbrev pub row_data : LogRow → Data
-row_data row = row_with row (row_text row) (other_text row)
+row_data row = row_with row (first_text row) (other_text row)

@@ -23,8 +23,8 @@ abbrev pub runs_text : ℕ → ℕ → Text
 runs_text first last = if first == last then codes "run " ++ decimal first else between_text first last
 
 -- the line before the findings
-abbrev pub head_text : Night → ℕ → Text
-head_text n count = many_text count (codes "finding") (codes "findings") ++ codes " tonight in " ++ whose_text n.part n.root.now ++ codes ", cycle "
+abbrev pub tonight_text : Night → ℕ → Text
+tonight_text n count = many_text count (codes "finding") (codes "findings") ++ codes " tonight in " ++ whose_text n.part n.root.now ++ codes ", cycle "
     ++ decimal n.cycle ++ codes ", " ++ runs_text n.first n.last ++ codes ":\n"
 
 abbrev pub some_more_text : Text → Text → ℕ → Text
@@ -47,15 +47,15 @@ abbrev pub hint_text : List Finding → Text
 hint_text fs = if nat_lt 1 (length (leads_of fs)) then codes "What to do first about a code: ocfl-scrub codes\n" else []
 
 -- how many lines a message has at most, and how many of them are of groups
-abbrev pub most_lines : ℕ
-most_lines = 27
+abbrev pub most_night_lines : ℕ
+most_night_lines = 27
 
 abbrev pub room_of_groups : ℕ
 room_of_groups = 24
 
 -- n findings, of which these are kept
 abbrev pub findings_text : Night → ℕ → List Finding → Text
-findings_text n count fs = head_text n count ++ some_text n.root.now room_of_groups n.report.now count fs ++ hint_text fs
+findings_text n count fs = tonight_text n count ++ some_text n.root.now room_of_groups n.report.now count fs ++ hint_text fs
 
 -- the message of a night with these findings among its lines, and nothing if none is one
 abbrev pub night_text : Night → List Finding → Text

@@ -38,12 +38,12 @@ abbrev pub named_text : Option (Text × Text) → Text
 named_text None = []
 named_text (Some p) = both_text p.0 (at_space p.1)
 
-abbrev pub other_text : Text → Text
-other_text detail = if is_dash detail then [] else codes ": " ++ escape detail
+abbrev pub plain_detail : Text → Text
+plain_detail detail = if is_dash detail then [] else codes ": " ++ escape detail
 
 -- what the detail says beyond the words
 abbrev pub detail_text : Code → Text → Text
-detail_text c detail = if has_digests c then named_text (at_space detail) else other_text detail
+detail_text c detail = if has_digests c then named_text (at_space detail) else plain_detail detail
 
 -- the detail is an algorithm and `missing`
 abbrev pub is_missing : Option (Text × Text) → Bool

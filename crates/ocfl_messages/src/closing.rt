@@ -1,5 +1,5 @@
-//! What is said of a cycle that was closed: how much of it is right, what is gone, new, repaired and
-//! back since the last whole report, and what was left out.
+//! What is said of a cycle that was closed: how much of it is right, what is gone, new, repaired
+//! and back since the last whole report, and what was left out.
 ghost use Rattle.std.specs.Prelude.{◌≡◌, ◌≢◌, ◌-◌, ◌++◌, ◌^◌, ◌<◌, List, [], Some, codes, decimal, length, map, take, IfOk, OnOk, string_bytes};
 ghost use Rattle.ocfl_report.specs.Line.{line_of};
 ghost use Rattle.ocfl_messages.specs.{Finding.{Finding as ModelFinding, finding_of}, Gravest.{IsOf, by_weight}};
@@ -735,15 +735,20 @@ fn put_changes(alloc: Global, closing: &Closing<'_>, text: &mut Vec<u8>) -> Resu
     put_all_back(alloc, closing, text)
 }
 
-/// What is said of a closed cycle, in at most 13 lines. First the word at its end, if what the
-/// report counts is known: how many files are right of how many, how many objects and bytes, and, if
-/// that is known, in how many runs; then how much is new and gone since the cycle that it was
-/// compared with; or that its report is incomplete. Then that nothing was compared, if so, and why; then what is gone, how many files are
-/// not looked at any more, and what is new, repaired and back. Of each of these there is a line with
-/// their number, and the first of them while there is room, what comes first in that order before
-/// the rest; then how many more there are, and the command that lists them. Of what is new the most
-/// serious findings come first, by object as in [`night_text`](crate::night_text), and those that
-/// the message of this night has already are only counted.
+/// What is said of a closed cycle, in at most 13 lines, in this order:
+///
+/// - if what the report counts is known, the word at its end: how many files are right of how many,
+///   how many objects and bytes, and, if that is known, in how many runs; then how much is new and
+///   gone since the cycle that it was compared with, or that its report is incomplete;
+/// - if nothing was compared, that, and why;
+/// - what is gone, how many files are not looked at any more, and what is new, repaired and back.
+///   Of each of these there is a line with their number, and the first of them while there is room,
+///   what comes first in that order before the rest; then how many more there are, and the command
+///   that lists them.
+///
+/// Of what is new the most serious findings come first, by object as in
+/// [`night_text`](crate::night_text), and those that the message of this night has already are only
+/// counted.
 pub fn closing_text(alloc: Global, closing: &Closing<'_>) -> Result<Vec<u8>, AllocError>
     // Whichever findings were taken, of fewer than 2^64.
     ensures { IfOk result (λ text. (fs : List ModelFinding) → IsOf closing.now.appeared.now fs

@@ -25,8 +25,8 @@ pub struct FileCounts {
 pub struct Finding {
     /// The line.
     pub line: Line,
-    /// The object. `None` if it is not known: no line of an object's head is known to come before, or
-    /// that of another object did.
+    /// The object. `None` if it is not known: no line of an object's head is known to come before,
+    /// or that of another object did.
     pub object: Option<Place>,
     /// How many files of the object are right. `None` as long as its lines come.
     pub files: Option<FileCounts>,

@@ -168,7 +168,8 @@ impl Gathering {
 fn count(right: &mut u64, wrong: &mut Places, heads: &Heads, line: &Line) -> Result<(), AllocError>
     ensures right { OnOk result ((ls : List ModelLine)
         → IsCount right.old (right_in (lines_within heads.now.last ls))
-        → IsCount right.new (right_in (lines_within heads.now.last (ls ++ line_of line.now ∷ [])))) }
+        → IsCount right.new (right_in
+        (lines_within heads.now.last (ls ++ line_of line.now ∷ [])))) }
     ensures wrong { OnOk result ((ls : List ModelLine)
         → IsPlaces wrong.old (places_of is_wrong_line (lines_within heads.now.last ls))
         → IsPlaces wrong.new (places_of is_wrong_line

@@ -5,7 +5,7 @@ ghost use Rattle.ocfl_codes.specs.Meaning.{first_step_of};
 ghost use Rattle.ocfl_report.specs.Text.{code_text};
 ghost use Rattle.ocfl_messages.specs.Command.{path_text};
 ghost use Rattle.ocfl_messages.specs.Finding.{finding_of};
-ghost use Rattle.ocfl_messages.specs.Grouped.{below_text, brief_body, brief_finding, brief_head, brief_respelt, brief_text, count_like as count_alike, count_with as count_of_one, each_text, extent_text, files_text, finding_text, first_with as first_of_one, fit_text, folded_text, group_text, head_text, inner_text, is_like as are_alike, is_same as are_same, is_same_step as are_same_step, is_with as are_of_one, lead_with, leads_of as first_ones, led_by, line_count, member_text, more_respelt_text, one_step_text, others_text, respelt_member_text, respelt_said, respelt_text, respelt_words, says_step as group_says_step, shown_group as text_of_group, shown_leads as ones_shown, shown_text, some_files_text, some_respelt_text, sorted as sorted_findings, sorted_of, step_text};
+ghost use Rattle.ocfl_messages.specs.Grouped.{below_text, brief_body, brief_finding, brief_head, brief_respelt, brief_text, count_like as count_alike, count_with as count_of_one, each_text, extent_text, files_text, finding_text, first_with as first_of_one, fit_text, folded_text, group_text, group_head, inner_text, is_like as are_alike, is_same as are_same, is_same_step as are_same_step, is_with as are_of_one, lead_with, leads_of as first_ones, led_by, line_count, member_text, more_respelt_text, one_step_text, others_text, respelt_member_text, respelt_said, respelt_text, respelt_words, says_step as group_says_step, shown_group as text_of_group, shown_leads as ones_shown, shown_text, some_files_text, some_respelt_text, sorted as sorted_findings, sorted_of, step_text};
 
 use crate::appending::put_made;
 use crate::command::{again, path_of};
@@ -299,7 +299,7 @@ fn head(
     files: Option<FileCounts>,
     code: Code,
 ) -> Result<String, AllocError>
-    ensures { IfOk result (λ text. string_bytes text ≡ head_text object.now files code) }
+    ensures { IfOk result (λ text. string_bytes text ≡ group_head object.now files code) }
 {
     match object {
         Some(object) => object_head(alloc, object, files),

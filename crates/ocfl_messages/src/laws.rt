@@ -7,8 +7,8 @@ ghost use Rattle.ocfl_messages.specs.{Finding.{Finding as ModelFinding, IsPlaced
 ghost use Rattle.ocfl_messages.specs.{Command.{path_text}, Quoted.{has_control, quoted}};
 ghost use Rattle.ocfl_messages.specs.Grouped.{groups_text, line_count};
 ghost use Rattle.ocfl_messages.specs.{Gravest.{findings, by_weight}, declared.night.Night.{Night}};
-ghost use Rattle.ocfl_messages.specs.{Night.{IsNamed, most_lines, night_text}, declared.closing.Closing.{Closing}};
-ghost use Rattle.ocfl_messages.specs.Closing.{IsMade, closing_text, most_lines as most_lines_of_closings};
+ghost use Rattle.ocfl_messages.specs.{Night.{IsNamed, most_night_lines, night_text}, declared.closing.Closing.{Closing}};
+ghost use Rattle.ocfl_messages.specs.Closing.{IsMade, closing_text, most_closing_lines};
 ghost use Rattle.ocfl_messages.specs.declared.known.KnownEntry.{KnownEntry as ModelEntry};
 
 /// No finding is lost when they are ordered by weight.
@@ -36,7 +36,8 @@ pub fn words_of_commands_are_shown()
     ensures { (text : Text) → IsUtf8 text → has_control (quoted text) ≡ false }
 {}
 
-/// Groups of findings have no more lines than there is room for, whatever the names in their places.
+/// Groups of findings have no more lines than there is room for, whatever the names in their
+/// places.
 pub fn groups_have_room()
     ensures { (root : Text) (room : ℕ) (fs : List ModelFinding) → length fs < 2 ^ 64
         → All IsPlaced fs → line_count (groups_text root room fs) ≤ room }
@@ -46,12 +47,12 @@ pub fn groups_have_room()
 #[tactic(auto, using(crate::proofs::LineCounts::night_is_short))]
 pub fn messages_of_nights_are_short()
     ensures { (n : Night) (fs : List ModelFinding) → IsNamed n → length (by_weight fs) < 2 ^ 64
-        → All IsPlaced fs → line_count (night_text n fs) ≤ most_lines }
+        → All IsPlaced fs → line_count (night_text n fs) ≤ most_night_lines }
 {}
 
 /// What is said of a closed cycle has at most 13 lines, if no list has more than is counted.
 #[tactic(auto, using(crate::proofs::ClosingLines::closing_is_short))]
 pub fn closings_are_short()
     ensures { (c : Closing) (fs : List ModelFinding) → IsMade c → All IsPlaced fs
-        → line_count (closing_text c fs) ≤ most_lines_of_closings }
+        → line_count (closing_text c fs) ≤ most_closing_lines }
 {}

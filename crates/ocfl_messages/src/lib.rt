@@ -1,5 +1,6 @@
-//! What a night says and logs: the most serious of the findings that were not said before, by object, why a night
-//! was refused or stopped, what a closed cycle found, and a line of the log for each.
+//! What a night says and logs: the most serious of the findings that were not said before, by
+//! object, why a night was refused or stopped, what a closed cycle found, and a line of the log for
+//! each.
 //!
 //! Texts are made in memory, since each has at most a few dozen lines, and
 //! `ocfl_report::write_all_of` writes them. Every name and path in them is escaped as in reports;

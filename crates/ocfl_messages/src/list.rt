@@ -35,8 +35,8 @@ pub enum KnownStop {
 /// Reads a list from all the bytes of a reader. Each line is a report line; or a code, a tab and a
 /// path, for all findings of the code at that place; or the same with `/` behind the path, for
 /// those at and below it, where `./` is the whole root. A line that is empty or begins with `#` is
-/// a remark. So is a line of what is gone: `object`, `undeclared`, `file` or `expected`, then a tab.
-/// It names a loss, and no finding. The last line may lack its line feed.
+/// a remark. So is a line of what is gone: `object`, `undeclared`, `file` or `expected`, then a
+/// tab. It names a loss, and no finding. The last line may lack its line feed.
 pub fn read_known<R: Read>(alloc: Global, reader: &mut R) -> Result<Known, KnownStop>
     ensures known { IfOk result
         (λ known. IfSome (R.remaining reader.old)

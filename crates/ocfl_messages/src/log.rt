@@ -6,7 +6,7 @@
 ghost use Rattle.std.specs.Prelude.{◌≡◌, ◌≤◌, false, IfOk, OnOk, string_bytes};
 ghost use Rattle.serde_json.specs.Data.{Data, depth, no_members, object};
 ghost use Rattle.serde_json.specs.{View.{members_view, view}, Written.{has_float}};
-ghost use Rattle.ocfl_messages.specs.Log.{IsJsonLine, stands_text, row_text, row_data, row_with, other_text, began_with, slice_with, left_with, closing_with, refusal_with, night_with};
+ghost use Rattle.ocfl_messages.specs.Log.{IsJsonLine, stands_text, first_text, row_data, row_with, other_text, began_with, slice_with, left_with, closing_with, refusal_with, night_with};
 ghost use Rattle.ocfl_messages.specs.Internal.Members.{with_member, with_members};
 
 use crate::log::Member::{Count, Flag, Words};
@@ -109,8 +109,8 @@ pub struct ClosingRow<'a> {
     pub whole: bool,
     /// How many findings it has.
     pub findings: u64,
-    /// How many lines it has. 0, as the three numbers that follow, if the checkpoint that closed the
-    /// cycle is not there.
+    /// How many lines it has. 0, as the three numbers that follow, if the checkpoint that closed
+    /// the cycle is not there.
     pub lines: u64,
     /// How many runs the cycle had.
     pub runs: u64,
@@ -219,7 +219,7 @@ fn stands_words(alloc: Global, stands: Stands<'_>) -> Result<String, AllocError>
 
 /// The text of a row, with places, paths and words escaped as in reports.
 fn row_words(alloc: Global, row: &LogRow<'_>) -> Result<String, AllocError>
-    ensures { IfOk result (λ text. string_bytes text ≡ row_text row.now) }
+    ensures { IfOk result (λ text. string_bytes text ≡ first_text row.now) }
 {
     match row {
         LogRow::Began(began) => stands_words(alloc, began.stands),

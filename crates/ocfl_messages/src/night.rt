@@ -2,7 +2,7 @@
 ghost use Rattle.std.specs.Prelude.{◌≡◌, ◌-◌, ◌++◌, ◌^◌, ◌<◌, List, [], length, map, OnOk, IfOk, string_bytes};
 ghost use Rattle.ocfl_messages.specs.{Finding.{Finding as ModelFinding, finding_of}, Gravest.{IsOf, by_weight}};
 ghost use Rattle.ocfl_messages.specs.Grouped.{led_by};
-ghost use Rattle.ocfl_messages.specs.Night.{whose_text, runs_text, head_text, hint_text, more_text, between_text, some_more_text, some_text, part_text, findings_command as command_of_findings, findings_text, night_text as text_of_night, shown_findings};
+ghost use Rattle.ocfl_messages.specs.Night.{whose_text, runs_text, tonight_text, hint_text, more_text, between_text, some_more_text, some_text, part_text, findings_command as command_of_findings, findings_text, night_text as text_of_night, shown_findings};
 
 use crate::appending::put_made;
 use crate::command::over;
@@ -69,7 +69,7 @@ fn runs_between(alloc: Global, first: u64, last: u64) -> Result<String, AllocErr
 
 /// The line before the findings.
 fn head(alloc: Global, night: &Night<'_>, count: u128) -> Result<String, AllocError>
-    ensures { IfOk result (λ text. string_bytes text ≡ head_text night.now count) }
+    ensures { IfOk result (λ text. string_bytes text ≡ tonight_text night.now count) }
 {
     let whose = whose(alloc, night.part, night.root)?;
     let runs = runs(alloc, night.first, night.last)?;

@@ -1,5 +1,5 @@
-//! Files that are there under another spelling of their names: each is a finding of the file that is
-//! missing, and one of the file that is in no inventory.
+//! Files that are there under another spelling of their names: each is a finding of the file that
+//! is missing, and one of the file that is in no inventory.
 ghost use Rattle.std.specs.Prelude.{◌≡◌, ◌++◌, ◌∷◌, [], IfOk, OnOk, encode_utf8_all, chars, map, string_bytes};
 ghost use Rattle.std.specs.List.{list_any};
 ghost use Rattle.unicode_normalization.specs.Forms.{nfc};

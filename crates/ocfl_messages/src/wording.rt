@@ -1,7 +1,7 @@
 //! A finding in words.
 ghost use Rattle.std.specs.Prelude.{◌≡◌, ◌++◌, IfOk, OnOk, option_map, string_bytes};
 ghost use Rattle.ocfl_report.specs.Line.{line_of};
-ghost use Rattle.ocfl_messages.specs.Wording.{at_space, both_text, coded_text, cut_text, detail_text, digests_text, has_digests as of_digests, is_missing as is_missing_part, named_text, other_text, path_part, said_text, words_text};
+ghost use Rattle.ocfl_messages.specs.Wording.{at_space, both_text, coded_text, cut_text, detail_text, digests_text, has_digests as of_digests, is_missing as is_missing_part, named_text, plain_detail, path_part, said_text, words_text};
 
 use crate::appending::put_made;
 use crate::shown::{Shown, escaped};
@@ -121,7 +121,7 @@ fn put_named(
 
 /// Appends a detail that has no digests.
 fn put_other(alloc: Global, detail: &str, text: &mut Vec<u8>) -> Result<(), AllocError>
-    ensures { OnOk result (text.new.items ≡ text.old.items ++ other_text detail.now) }
+    ensures { OnOk result (text.new.items ≡ text.old.items ++ plain_detail detail.now) }
 {
     if is_text(detail, "-") {
         return Ok(());

@@ -1,1 +1,4 @@
+pub mod Failing
+pub mod Hearing
+pub mod Paths
 pub mod Reasons

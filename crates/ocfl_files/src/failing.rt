@@ -1,4 +1,6 @@
 //! Why a step of a night failed.
+ghost use Rattle.std.specs.Prelude.{◌≡◌, MatchResult, Some, if◌then◌else◌, is_some};
+ghost use Rattle.ocfl_files.specs.Failing.{out_of_memory, stopped_status, usage_status};
 
 use crate::saying::{STOPPED, USAGE, say_out_of_memory};
 use std::alloc::{AllocError, AllocFailed};
@@ -12,24 +14,35 @@ pub struct Failure {
 }
 
 impl Failure {
-    /// A command line that cannot be followed.
-    pub fn usage(text: String) -> Failure {
+    fn of(status: u8, text: String) -> Failure
+        ensures { result ≡ record { status = status; text = Some text } }
+    {
         Failure {
-            status: USAGE,
+            status,
             text: Some(text),
         }
+    }
+
+    /// A command line that cannot be followed.
+    pub fn usage(text: String) -> Failure
+        ensures { result ≡ record { status = usage_status; text = Some text } }
+    {
+        Failure::of(USAGE, text)
     }
 
     /// Something else that failed.
-    pub fn stopped(text: String) -> Failure {
-        Failure {
-            status: STOPPED,
-            text: Some(text),
-        }
+    pub fn stopped(text: String) -> Failure
+        ensures { result ≡ record { status = stopped_status; text = Some text } }
+    {
+        Failure::of(STOPPED, text)
     }
 
     /// The same, or that there was no memory for the text.
-    pub fn saying(text: Result<String, AllocError>) -> Failure {
+    pub fn saying(text: Result<String, AllocError>) -> Failure
+        ensures { MatchResult text
+            (λ text. result ≡ record { status = stopped_status; text = Some text })
+            (λ _. result ≡ out_of_memory) }
+    {
         match text {
             Ok(text) => Failure::stopped(text),
             Err(error) => Failure::from(error),
@@ -37,7 +50,9 @@ impl Failure {
     }
 
     /// This one, or that there was no memory for it.
-    pub fn made(failure: Result<Failure, AllocError>) -> Failure {
+    pub fn made(failure: Result<Failure, AllocError>) -> Failure
+        ensures { MatchResult failure (λ failure. result ≡ failure) (λ _. result ≡ out_of_memory) }
+    {
         match failure {
             Ok(failure) => failure,
             Err(error) => Failure::from(error),
@@ -46,6 +61,8 @@ impl Failure {
 }
 
 impl From<AllocError> for Failure {
+    ghost from_gives = { λ _ failure. failure ≡ out_of_memory };
+
     fn from(_error: AllocError) -> Failure {
         Failure {
             status: STOPPED,
@@ -55,6 +72,8 @@ impl From<AllocError> for Failure {
 }
 
 impl<T: Drop> From<AllocFailed<T>> for Failure {
+    ghost from_gives = { λ _ failure. failure ≡ out_of_memory };
+
     fn from(_failed: AllocFailed<T>) -> Failure {
         Failure {
             status: STOPPED,
@@ -69,8 +88,10 @@ pub fn say_text<R: Eprint>(rt: &R, text: &str) {
     let _ = eprint!(rt; "ocfl-scrub: {text}");
 }
 
-/// Says why a step failed, and gives the status.
-pub fn say_failure<R: Eprint>(rt: &R, failure: &Failure) -> u8 {
+/// Says why a step failed, and gives the status: 3 if memory was refused.
+pub fn say_failure<R: Eprint>(rt: &R, failure: &Failure) -> u8
+    ensures { result ≡ (if is_some failure.now.text then failure.now.status else stopped_status) }
+{
     match &failure.text {
         Some(text) => {
             say_text(rt, text.as_str());

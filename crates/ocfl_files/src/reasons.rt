@@ -1,12 +1,13 @@
 //! Why places of a storage root could not be read, in words.
 
-ghost use Rattle.std.specs.{Prelude.{◌≡◌}, Option.{option_map}};
-ghost use Rattle.ocfl_files.specs.Reasons.{words_on};
+ghost use Rattle.std.specs.Prelude.{◌≡◌, [], IfSome, None, Some, string_bytes};
+ghost use Rattle.std.specs.Option.{option_map};
+ghost use Rattle.ocfl_files.specs.Reasons.{IsCopy, Keeps, fuller, words_on};
 
 use ocfl_tree::Place;
 use std::alloc::{AllocError, Global};
 use std::cell::Cell;
-use std::{io, mem};
+use std::io;
 
 /// Of how many places the reason is kept at most.
 const MOST: usize = 1_000;
@@ -27,7 +28,9 @@ pub struct Reasons {
 }
 
 /// A copy of some words. `None` if there are none, or no memory for them.
-fn copy_of(alloc: Global, words: &Option<String>) -> Option<String> {
+fn copy_of(alloc: Global, words: &Option<String>) -> Option<String>
+    ensures { IsCopy (option_map string_bytes words.now) (option_map string_bytes result) }
+{
     match words {
         Some(words) => String::from_str(alloc, words.as_str()).ok(),
         None => None,
@@ -35,7 +38,11 @@ fn copy_of(alloc: Global, words: &Option<String>) -> Option<String> {
 }
 
 /// Why a place could not be read. `None` if there are no words, or no memory for them.
-fn reason_of(alloc: Global, place: &Place, words: &Option<String>) -> Option<Reason> {
+fn reason_of(alloc: Global, place: &Place, words: &Option<String>) -> Option<Reason>
+    ensures place { IfSome result (λ reason. reason.place ≡ place.now) }
+    ensures words { IfSome result (λ reason.
+        option_map string_bytes words.now ≡ Some (string_bytes reason.words)) }
+{
     let words = copy_of(alloc, words)?;
     match place.try_clone() {
         Ok(place) => Some(Reason { place, words }),
@@ -45,21 +52,54 @@ fn reason_of(alloc: Global, place: &Place, words: &Option<String>) -> Option<Rea
 
 impl Reasons {
     /// None.
-    pub fn new(alloc: Global) -> Reasons {
+    pub fn new(alloc: Global) -> Reasons
+        ensures kept { result.kept.items ≡ [] }
+        ensures last { result.last ≡ None }
+    {
         Reasons {
             kept: Vec::new(alloc),
             last: None,
         }
     }
 
-    /// Keeps why a place could not be read. What there is no memory for is not kept.
-    fn keep(&mut self, alloc: Global, place: &Place, words: Option<String>) {
-        if self.kept.len() < MOST && self.find(place).is_none() {
-            if let Some(reason) = reason_of(alloc, place, &words) {
-                let _ = self.kept.push(reason);
-            }
+    /// Keeps why a place could not be read, if nothing is kept on it. What there is no memory for is
+    /// not kept.
+    fn keep_first(&mut self, alloc: Global, place: &Place, words: &Option<String>)
+        ensures kept { Keeps place.now (option_map string_bytes words.now) self.old.kept.items
+            self.new.kept.items }
+        ensures last { self.new.last ≡ self.old.last }
+    {
+        if self.kept.len() >= MOST || self.find(place).is_some() {
+            return;
         }
+        if let Some(reason) = reason_of(alloc, place, words) {
+            let _ = self.kept.push(reason);
+        }
+    }
+
+    /// The same, and that this call failed last.
+    fn keep(&mut self, alloc: Global, place: &Place, words: Option<String>)
+        ensures kept { Keeps place.now (option_map string_bytes words) self.old.kept.items
+            self.new.kept.items }
+        ensures last { self.new.last ≡ words }
+    {
+        self.keep_first(alloc, place, &words);
         self.last = words;
+    }
+
+    /// All that is kept, but for why the last call failed, and what stays: that alone.
+    fn split(self, alloc: Global) -> (Reasons, Reasons)
+        ensures kept { result.0.kept ≡ self.kept }
+        ensures no_last { result.0.last ≡ None }
+        ensures none { result.1.kept.items ≡ [] }
+        ensures last { result.1.last ≡ self.last }
+    {
+        let Reasons { kept, last } = self;
+        let stays = Reasons {
+            kept: Vec::new(alloc),
+            last,
+        };
+        (Reasons { kept, last: None }, stays)
     }
 
     /// Why a place could not be read, if that is kept.
@@ -71,7 +111,7 @@ impl Reasons {
 }
 
 /// The words that were kept first on a place.
-fn find_in<'r>(kept: &'r [Reason], place: &Place) -> Option<&'r str>
+pub fn find_in<'r>(kept: &'r [Reason], place: &Place) -> Option<&'r str>
     ensures { option_map (λ w. w.now) result ≡ words_on kept.now place.now }
 {
     for reason in kept {
@@ -97,6 +137,17 @@ pub fn last_reason(alloc: Global, cell: &Cell<Reasons>) -> Option<String> {
     last
 }
 
+/// The words on a call that failed, or those of the last one that did if they begin with them.
+fn fuller(last: Option<String>, words: String) -> String
+    ensures { string_bytes result
+        ≡ fuller (option_map string_bytes last) (string_bytes words) }
+{
+    match last {
+        Some(last) if last.as_bytes().starts_with(words.as_bytes()) => last,
+        _ => words,
+    }
+}
+
 /// Why a call failed, with all that is kept of it if it is the last one that failed.
 pub fn words_on(
     alloc: Global,
@@ -104,18 +155,12 @@ pub fn words_on(
     error: io::Error,
 ) -> Result<String, AllocError> {
     let words = format!(in alloc; "{error}")?;
-    match last_reason(alloc, cell) {
-        Some(last) if last.as_str().starts_with(words.as_str()) => Ok(last),
-        _ => Ok(words),
-    }
+    Ok(fuller(last_reason(alloc, cell), words))
 }
 
 /// Takes all that is kept, but for why the last call failed.
 pub fn take_reasons(alloc: Global, cell: &Cell<Reasons>) -> Reasons {
-    let mut reasons = cell.replace(Reasons::new(alloc));
-    cell.set(Reasons {
-        kept: Vec::new(alloc),
-        last: mem::replace(&mut reasons.last, None),
-    });
+    let (reasons, stays) = cell.replace(Reasons::new(alloc)).split(alloc);
+    cell.set(stays);
     reasons
 }

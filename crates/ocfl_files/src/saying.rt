@@ -1,4 +1,6 @@
 //! What the program says on standard error, and the statuses that go with it.
+ghost use Rattle.std.specs.Prelude.{◌≡◌};
+ghost use Rattle.ocfl_files.specs.Failing.{stopped_status};
 
 /// The exit status of a bad command line, path, part number, separators or report, and of a
 /// cursor's file inside the storage root.
@@ -13,7 +15,9 @@ pub fn say<R: Eprint>(rt: &R, line: &str) {
 }
 
 /// Says that memory ran out, and gives the status.
-pub fn say_out_of_memory<R: Eprint>(rt: &R) -> u8 {
+pub fn say_out_of_memory<R: Eprint>(rt: &R) -> u8
+    ensures { result ≡ stopped_status }
+{
     say(rt, "out of memory");
     STOPPED
 }

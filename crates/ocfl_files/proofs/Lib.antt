@@ -1,0 +1,3 @@
+pub mod Failures
+mod Reasoning
+mod Slashes

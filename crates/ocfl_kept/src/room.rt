@@ -1,4 +1,6 @@
 //! What the program's system is asked for: the functions over it need no more of it than this.
+ghost use Rattle.std.specs.Prelude.{◌≡◌, Bool, IsTrue, false};
+ghost use Rattle.ocfl_tree.specs.Place.{Text};
 
 use crate::kept::{ClosedIn, open_closed, read_checkpoint};
 use crate::state::{hold_folder, open_state};
@@ -11,12 +13,21 @@ use std::io;
 use std::rt::Files;
 
 /// A system with files, and with state folders of parts by their paths.
+///
+/// One that states nothing of what is there does not show it.
 pub trait Room {
+    /// Whether the clauses say what is there. Of one that does not show it, they say nothing.
+    ghost shown: { Bool } = { false };
+
+    /// Whether something is at a path.
+    ghost there: { Self → Text → Bool } = { λ _ _. false };
+
     /// Where memory comes from.
     fn global(&self) -> Global;
 
     /// Whether something is at a path.
-    fn has(&self, path: &str) -> bool;
+    fn has(&self, path: &str) -> bool
+        ensures { IsTrue shown → result ≡ there self.now path.now };
 
     /// Opens a file, and gives `None` if there is no such file.
     fn find_file(&self, path: &str) -> io::Result<Option<File>>;

@@ -1,9 +1,11 @@
 //! Where the nights over a folder stand, by its checkpoint.
 
-ghost use Rattle.std.specs.Prelude.{◌≡◌};
+ghost use Rattle.std.specs.Prelude.{◌≡◌, ◌-◌, ◌==◌, ◌^◌, length, min};
+ghost use Rattle.ocfl_cursor.specs.State.{state_of};
+ghost use Rattle.ocfl_kept.specs.Standing.{is_ended as is_ended_state, is_open as is_open_phase};
 
 use ocfl_cursor::State;
-use ocfl_state::{Checkpoint, Phase};
+use ocfl_state::{Checkpoint, Left, Phase};
 
 /// Where the nights over a folder stand.
 #[derive(Clone, Copy)]
@@ -24,11 +26,51 @@ pub struct Standing {
     pub left: u64,
 }
 
+/// A number, or 2^64 - 1 if it is more.
+pub fn at_most(number: u128) -> u64
+    ensures { result ≡ min number (2 ^ 64 - 1) }
+{
+    if number > u128::from(u64::MAX) {
+        return u64::MAX;
+    }
+    number as u64
+}
+
+/// Whether a cursor is at the end of its cycle.
+fn is_ended(state: &State) -> bool
+    ensures { result ≡ is_ended_state (state_of state.now) }
+{
+    match state {
+        State::Start => false,
+        State::After(_) => false,
+        State::Ended => true,
+    }
+}
+
+/// Whether runs append to the report.
+fn is_open(phase: Phase) -> bool
+    ensures { result ≡ is_open_phase phase }
+{
+    match phase {
+        Phase::Open => true,
+        Phase::Closing => false,
+    }
+}
+
+/// Whether no branch was left out.
+fn is_none(left: &[Left]) -> bool
+    ensures { result ≡ (length left.now == 0) }
+{
+    left.is_empty()
+}
+
 impl Standing {
-    ghost use Rattle.ocfl_kept.specs.Standing.{last_closed, leaves_more, next_cycle, noted_left, runs_before, spent_until};
+    ghost use Rattle.ocfl_kept.specs.Standing.{first_standing, last_closed, leaves_more, next_cycle, noted_left, runs_before, spent_until, standing_of};
 
     /// Before the first night.
-    pub fn first() -> Standing {
+    pub fn first() -> Standing
+        ensures { result ≡ first_standing }
+    {
         Standing {
             cycle: 1,
             runs: 0,
@@ -41,17 +83,19 @@ impl Standing {
     }
 
     /// By a checkpoint.
-    pub fn of(checkpoint: &Checkpoint) -> Standing {
+    pub fn of(checkpoint: &Checkpoint) -> Standing
+        ensures { result ≡ standing_of checkpoint.now }
+    {
         let cursor = &checkpoint.cursor;
-        let has_ended = matches!(cursor.state(), State::Ended);
+        let has_ended = is_ended(cursor.state());
         Standing {
             cycle: cursor.cycle(),
             runs: cursor.runs(),
-            spent: u64::try_from(cursor.spent()).unwrap_or(u64::MAX),
+            spent: at_most(cursor.spent()),
             has_ended,
-            is_closed: has_ended && checkpoint.phase == Phase::Open,
-            is_whole: checkpoint.whole && checkpoint.left.is_empty(),
-            left: u64::try_from(checkpoint.left.len()).unwrap_or(u64::MAX),
+            is_closed: has_ended && is_open(checkpoint.phase),
+            is_whole: checkpoint.whole && is_none(&checkpoint.left),
+            left: checkpoint.left.len() as u64,
         }
     }
 

@@ -4,8 +4,8 @@ use crate::tests::common::store::place_of;
 use crate::tests::common::{Runtime, expect_shown};
 use ocfl_cursor::{Cursor, CursorStop, Refused, ShowStop, State, TextKind};
 use ocfl_joining::{
-    CycleEnd, KeptMark, facts_of, is_emptied, join_status, known_part, last_of_all, mark_of,
-    runs_of,
+    CycleEnd, FoundReport, KeptMark, add_runs, facts_of, is_emptied, join_status, known_part,
+    last_of_all, mark_of,
 };
 use ocfl_state::{
     Checkpoint, Left, NotShown, Phase, ReportMark, RootIdentity, TopNames, checkpoint_lines,
@@ -404,8 +404,8 @@ fn checkpoints_say_what_parts_have_closed(rt: HostRuntime) -> Result<(), Fail> {
 fn a_part_is_known_by_what_was_kept(rt: HostRuntime) -> Result<(), Fail> {
     let alloc = rt.alloc();
     let facts = facts_of(alloc, &closed_checkpoint(alloc)?)?;
-    let kept = Some(Some(part_checkpoint(alloc)?));
-    let part = known_part(alloc, &facts, 7, true, false, &kept)?;
+    let found = found_with(false, Some(Some(part_checkpoint(alloc)?)));
+    let part = known_part(alloc, &facts, 7, true, &found)?;
     assert!(rt;
         part.root
             .as_slice()
@@ -415,16 +415,26 @@ fn a_part_is_known_by_what_was_kept(rt: HostRuntime) -> Result<(), Fail> {
     assert!(rt; part.cycle == 7 && part.told && !part.whole);
     assert_eq!(rt; part.names, Some(u64::MAX));
     assert_eq!(rt; part.left.len(), 2);
-    assert_eq!(rt; runs_of(&kept), Some(2));
-    assert_eq!(rt; mark_of(true, &kept), KeptMark::Damaged);
-    assert!(rt; matches!(mark_of(false, &kept), KeptMark::Kept(mark) if mark.lines == 7));
+    let kept = &found.kept;
+    assert_eq!(rt; add_runs(Some(5), kept), Some(7));
+    assert_eq!(rt; add_runs(Some(u64::MAX), kept), Some(u64::MAX));
+    assert_eq!(rt; add_runs(None, kept), None);
+    assert_eq!(rt; mark_of(true, kept), KeptMark::Damaged);
+    assert!(rt; matches!(mark_of(false, kept), KeptMark::Kept(mark) if mark.lines == 7));
     assert_eq!(rt; mark_of(false, &Some(None)), KeptMark::Damaged);
     assert_eq!(rt; mark_of(false, &None), KeptMark::NotKept);
     for kept in [None, Some(None)] {
-        let part = known_part(alloc, &facts, 7, true, true, &kept)?;
-        assert!(rt; part.names.is_none() && part.left.is_empty() && runs_of(&kept).is_none());
+        let found = found_with(true, kept);
+        let part = known_part(alloc, &facts, 7, true, &found)?;
+        assert!(rt; part.names.is_none() && part.left.is_empty() && part.whole);
+        assert!(rt; add_runs(Some(5), &found.kept).is_none());
     }
     Ok(())
+}
+
+/// A closed report, and what was kept at its closing.
+fn found_with(whole: bool, kept: Option<Option<Checkpoint>>) -> FoundReport {
+    FoundReport { whole, kept }
 }
 
 /// How a joining ended, and its status.

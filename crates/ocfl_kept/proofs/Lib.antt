@@ -1,0 +1,4 @@
+mod Zeros
+mod Marking
+mod Readings
+mod Refusals

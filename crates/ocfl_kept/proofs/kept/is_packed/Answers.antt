@@ -1,0 +1,5 @@
+use Rattle.std.proofs.Common.{◌∙◌, ap}
+use Rattle.ocfl_kept.proofs.kept.is_packed.Goals as goal
+
+pub returns : goal.returns
+returns g c = λ shown. c.has.ensures shown ∙ ap (g.R.Room.there c.args.rt.now) (c.as_str.ensures.value ∙ c.in_ok-path.ensures)

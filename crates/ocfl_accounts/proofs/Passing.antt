@@ -3,14 +3,14 @@ use Rattle.std.proofs.Common.{◌≡◌, ◌⊎◌, inl, inr, ℕ, ◌≤◌, Li
 use Rattle.ocfl_tree.specs.Place.{Text}
 use Rattle.ocfl_compare.specs.declared.change.ChangeAt.{ChangeAt}
 use Rattle.ocfl_say.specs.Said.{Said}
-use Rattle.ocfl_accounts.specs.{Kept.{Kept, account_of, with_account}, Crash.{Step, Same, MayPut, Outcomes, After, Passes}}
+use Rattle.ocfl_accounts.specs.{Changes.{Says}, Kept.{Kept, account_of, with_account}, Crash.{Step, Same, MayPut, Outcomes, After, Passes}}
 use Rattle.ocfl_accounts.specs.{Telling.{IsAccountSaid, MayAccount}, declared.pair.Pair.{Pair}}
 
 -- where the account of what was said may be put, the account of the cycle may
-pub may_account : (k : Kept) (cycle : ℕ) (text : Pair → List ChangeAt → Text) (old new : Said) (pair : Pair) (changes : List ChangeAt) → IsAccountSaid k cycle text old new pair changes
-    → pair.closed.cycle ≡ cycle → (x y : Kept) → MayPut (account_of pair.closed.cycle changes) x y → MayAccount k cycle text old new x y
-may_account k cycle text old new pair changes said e x y (inl f) = inl f
-may_account k cycle text old new pair changes said e x y (inr f) = inr (pair, (changes, (said, f ∙ ap (λ n. with_account (account_of n changes) x) e)))
+pub may_account : (k : Kept) (cycle : ℕ) (says : Says) (old new : Said) (pair : Pair) (changes : List ChangeAt) → IsAccountSaid k cycle says old new pair changes
+    → pair.closed.cycle ≡ cycle → (x y : Kept) → MayPut (account_of pair.closed.cycle changes) x y → MayAccount k cycle says old new x y
+may_account k cycle says old new pair changes said e x y (inl f) = inl f
+may_account k cycle says old new pair changes said e x y (inr f) = inr (pair, (changes, (said, f ∙ ap (λ n. with_account (account_of n changes) x) e)))
 
 module _ {F : Type 0} (may_leave : F → Outcomes) (moment : F → ℕ) (left_since : F → ℕ → Outcomes) where
   -- two calls, and a step that both steps together are, and the first one alone
@@ -53,9 +53,9 @@ module _ {F : Type 0} (may_leave : F → Outcomes) (moment : F → ℕ) (left_si
   weaker step other more a b p = passes_then step Same other more (λ x y z s e. subst (other x) (sym e) (more x y s)) a b b p (nothing_passes b)
 
   -- two calls that change nothing, and one that may put the account of what was said
-  pub account_passes : (k : Kept) (cycle : ℕ) (text : Pair → List ChangeAt → Text) (old new : Said) (pair : Pair) (changes : List ChangeAt) → IsAccountSaid k cycle text old new pair changes
+  pub account_passes : (k : Kept) (cycle : ℕ) (says : Says) (old new : Said) (pair : Pair) (changes : List ChangeAt) → IsAccountSaid k cycle says old new pair changes
       → pair.closed.cycle ≡ cycle → (a b c d : F) → Passes may_leave moment left_since Same a b → Passes may_leave moment left_since Same b c
-      → Passes may_leave moment left_since (MayPut (account_of pair.closed.cycle changes)) c d → Passes may_leave moment left_since (MayAccount k cycle text old new) a d
-  account_passes k cycle text old new pair changes said e a b c d p q r =
-      same_then (MayAccount k cycle text old new) (λ x. inl refl) a c d (two_same a b c p q)
-      (weaker (MayPut (account_of pair.closed.cycle changes)) (MayAccount k cycle text old new) (may_account k cycle text old new pair changes said e) c d r)
+      → Passes may_leave moment left_since (MayPut (account_of pair.closed.cycle changes)) c d → Passes may_leave moment left_since (MayAccount k cycle says old new) a d
+  account_passes k cycle says old new pair changes said e a b c d p q r =
+      same_then (MayAccount k cycle says old new) (λ x. inl refl) a c d (two_same a b c p q)
+      (weaker (MayPut (account_of pair.closed.cycle changes)) (MayAccount k cycle says old new) (may_account k cycle says old new pair changes said e) c d r)

@@ -6,7 +6,7 @@ use Rattle.ocfl_tree.specs.Place.{Text}
 use Rattle.ocfl_compare.specs.declared.change.ChangeAt.{ChangeAt}
 use Rattle.ocfl_say.specs.Said.{Said, Grows}
 use Rattle.ocfl_accounts.specs.Kept.{Kept, Account, is_some, with_account, with_accounts, with_list, with_lists}
-use Rattle.ocfl_accounts.specs.{Cycle.{Cycle}, Changes.{AreFound, IsSince, IsSinceWhole}}
+use Rattle.ocfl_accounts.specs.{Cycle.{Cycle}, Changes.{AreFound, IsSince, IsSinceWhole, Says}}
 use Rattle.ocfl_accounts.specs.{Crash.{Outcomes, Passes}, Telling.{IsAccountSaid, MayAccount}}
 use Rattle.ocfl_accounts.specs.{Rounds.{Told, AreTold, MayAccounts, account_told}, declared.pair.Pair.{Pair}}
 use Rattle.ocfl_say.proofs.Outputs.{grows_none, grows_on}
@@ -38,20 +38,23 @@ found_before k accounts pair changes h = record { since = h.since; since_whole =
     again None cs is = is
     again (Some w) cs is = is
 
-module _ (k : Kept) (text : Pair → List ChangeAt → Text) where
+module _ (k : Kept) (says : Says) where
   -- a closing that is said over what is kept with more accounts is one over what was kept
-  pub said_before : (accounts : List Account) (cycle : ℕ) (s t : Said) (pair : Pair) (changes : List ChangeAt) → IsAccountSaid (with_accounts accounts k) cycle text s t pair changes → IsAccountSaid k cycle text s t pair changes
+  pub said_before : (accounts : List Account) (cycle : ℕ) (s t : Said) (pair : Pair) (changes : List ChangeAt) → IsAccountSaid (with_accounts accounts k) cycle says s t pair changes → IsAccountSaid k cycle says s t pair changes
   said_before accounts cycle s t pair changes h = record {
     is = h.is;
     unsaid = none_before accounts k.lists cycle h.unsaid;
     pair_is = h.pair_is;
     changes_are = (h.changes_are.0, λ e. found_before k accounts pair changes (h.changes_are.1 e));
+    text = h.text;
+    is_grave = h.is_grave;
+    says_it = h.says_it;
     said = h.said;
     grew = h.grew;
   }
 
   -- the output went on
-  told_on : (low n m : ℕ) (s t u : Said) (told : List Told) → n ≤ m → Grows t u → AreTold k text low n s t told → AreTold k text low m s u told
+  told_on : (low n m : ℕ) (s t u : Said) (told : List Told) → n ≤ m → Grows t u → AreTold k says low n s t told → AreTold k says low m s u told
   told_on low n m s t u [] le grew h = grows_on s t u h grew
   told_on low n m s t u (x ∷ told) le grew h =
       let first = h.0 in
@@ -59,8 +62,8 @@ module _ (k : Kept) (text : Pair → List ChangeAt → Text) where
       (record { from = first.from; below = omega (arith, le, below); grew = first.grew; said = first.said }, told_on (x.cycle + 1) n m x.after t u told le grew h.1)
 
   -- one more cycle was said
-  told_more : (low n : ℕ) (s t u : Said) (told : List Told) (x : Told) → low ≤ n → x.cycle ≡ n → Grows t x.before → Grows x.after u → IsAccountSaid k x.cycle text x.before x.after x.pair x.changes
-      → AreTold k text low n s t told → AreTold k text low (n + 1) s u (told ++ x ∷ [])
+  told_more : (low n : ℕ) (s t u : Said) (told : List Told) (x : Told) → low ≤ n → x.cycle ≡ n → Grows t x.before → Grows x.after u → IsAccountSaid k x.cycle says x.before x.after x.pair x.changes
+      → AreTold k says low n s t told → AreTold k says low (n + 1) s u (told ++ x ∷ [])
   told_more low n s t u [] x le is before after said h = (record { from = omega (arith, le, is); below = omega (arith, is); grew = grows_on s t x.before h before; said = said }, after)
   told_more low n s t u (y ∷ told) x le is before after said h =
       let first = h.0 in
@@ -70,12 +73,12 @@ module _ (k : Kept) (text : Pair → List ChangeAt → Text) where
       )
 
   -- no cycle comes after the last one
-  within : (low n end : ℕ) (s t : Said) (told : List Told) → (n ≤ end) ⊎ (n ≡ low) → AreTold k text low n s t told → AreTold k text low end s t told
+  within : (low n end : ℕ) (s t : Said) (told : List Told) → (n ≤ end) ⊎ (n ≡ low) → AreTold k says low n s t told → AreTold k says low end s t told
   within low n end s t told (inl le) h = told_on low n end s t t told le (grows_none t) h
   within low n end s t [] (inr none) h = h
   within low n end s t (x ∷ told) (inr none) h = let from = h.0.from in let below = h.0.below in absurd (omega (arith, from, below, none))
 
-  pub may_within : (low n end : ℕ) (s t : Said) → (n ≤ end) ⊎ (n ≡ low) → (x y : Kept) → MayAccounts k text low n s t x y → MayAccounts k text low end s t x y
+  pub may_within : (low n end : ℕ) (s t : Said) → (n ≤ end) ⊎ (n ≡ low) → (x y : Kept) → MayAccounts k says low n s t x y → MayAccounts k says low end s t x y
   may_within low n end s t bound x y h = (h.0, (within low n end s t h.0 bound h.1.0, h.1.1))
 
   map_more : (told : List Told) (x : Told) (d : Kept) → with_account (account_told x) (with_accounts (map account_told told) d) ≡ with_accounts (map account_told (told ++ x ∷ [])) d
@@ -87,16 +90,16 @@ module _ (k : Kept) (text : Pair → List ChangeAt → Text) where
 
   module _ (low n : ℕ) (s t u : Said) (le : low ≤ n) (grew : Grows t u) where
     -- a crash before the cycle
-    pub still_may : (x y : Kept) → MayAccounts k text low n s t x y → MayAccounts k text low (n + 1) s u x y
+    pub still_may : (x y : Kept) → MayAccounts k says low n s t x y → MayAccounts k says low (n + 1) s u x y
     still_may x y h = (h.0, (told_on low n (n + 1) s t u h.0 (omega arith) grew h.1.0, h.1.1))
 
     -- a crash in it or after it
-    pub may_more : (now : Kept) → MayAccounts k text low n s t k now → (x y z : Kept) → MayAccounts k text low n s t x y → MayAccount now n text t u y z → MayAccounts k text low (n + 1) s u x z
-    may_more now seen x y z h (inl same) = subst (MayAccounts k text low (n + 1) s u x) (sym same) (still_may x y h)
+    pub may_more : (now : Kept) → MayAccounts k says low n s t k now → (x y z : Kept) → MayAccounts k says low n s t x y → MayAccount now n says t u y z → MayAccounts k says low (n + 1) s u x z
+    may_more now seen x y z h (inl same) = subst (MayAccounts k says low (n + 1) s u x) (sym same) (still_may x y h)
     may_more now seen x y z h (inr put) =
         let said = put.1.1.0 in
         let one : Told = record { cycle = n; pair = put.0; changes = put.1.0; before = t; after = u } in
-        let here = said_before (map account_told seen.0) n t u put.0 put.1.0 (subst (λ d. IsAccountSaid d n text t u put.0 put.1.0) seen.1.1 said) in (
+        let here = said_before (map account_told seen.0) n t u put.0 put.1.0 (subst (λ d. IsAccountSaid d n says t u put.0 put.1.0) seen.1.1 said) in (
           h.0 ++ one ∷ [],
           (
             told_more low n s t u h.0 one le refl (grows_none t) (grows_none u) here h.1.0,
@@ -104,12 +107,12 @@ module _ (k : Kept) (text : Pair → List ChangeAt → Text) where
           ),
         )
 
-    pub cycles_pass : {F : Type 0} (may_leave : F → Outcomes) (moment : F → ℕ) (left_since : F → ℕ → Outcomes) (now : Kept) → MayAccounts k text low n s t k now
-        → (a b c : F) → Passes may_leave moment left_since (MayAccounts k text low n s t) a b → Passes may_leave moment left_since (MayAccount now n text t u) b c
-        → Passes may_leave moment left_since (MayAccounts k text low (n + 1) s u) a c
+    pub cycles_pass : {F : Type 0} (may_leave : F → Outcomes) (moment : F → ℕ) (left_since : F → ℕ → Outcomes) (now : Kept) → MayAccounts k says low n s t k now
+        → (a b c : F) → Passes may_leave moment left_since (MayAccounts k says low n s t) a b → Passes may_leave moment left_since (MayAccount now n says t u) b c
+        → Passes may_leave moment left_since (MayAccounts k says low (n + 1) s u) a c
     cycles_pass may_leave moment left_since now seen a b c p q =
-        passes_then may_leave moment left_since (MayAccounts k text low n s t) (MayAccount now n text t u) (MayAccounts k text low (n + 1) s u) still_may (may_more now seen) a b c p q
+        passes_then may_leave moment left_since (MayAccounts k says low n s t) (MayAccount now n says t u) (MayAccounts k says low (n + 1) s u) still_may (may_more now seen) a b c p q
 
   -- nothing was said yet
-  pub none_told : (low : ℕ) (s : Said) (x : Kept) → MayAccounts k text low low s s x x
+  pub none_told : (low : ℕ) (s : Said) (x : Kept) → MayAccounts k says low low s s x x
   none_told low s x = ([], (grows_none s, refl))

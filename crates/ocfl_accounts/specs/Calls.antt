@@ -3,7 +3,7 @@ use Rattle.std.specs.Prelude.{◌≡◌, ◌⊎◌, ℕ, List, [], ◌∷◌, �
 use Rattle.ocfl_tree.specs.{Place.{Text}}
 use Rattle.ocfl_compare.specs.declared.change.ChangeAt.{ChangeAt}
 use Rattle.ocfl_say.specs.Said.{Said, Grows}
-use Rattle.ocfl_accounts.specs.{Kept.{Kept, Account}, Crash.{Outcomes, Same, Follows, Passes}}
+use Rattle.ocfl_accounts.specs.{Changes.{Says}, Kept.{Kept, Account}, Crash.{Outcomes, Same, Follows, Passes}}
 use Rattle.ocfl_accounts.specs.{Telling.{Stand, IsAccountSaid, IsSettled}, Rounds.{Told, MayAccounts, account_told}}
 use Rattle.ocfl_accounts.specs.declared.pair.Pair.{Pair}
 
@@ -19,12 +19,12 @@ pub record Call (F : Type 0) : Type 0 where
 
 -- The first begins on one of these outcomes, and each other one on what a crash of the one before it,
 -- at any moment, may have left, or on its end.
-abbrev pub AreCalls : {F : Type 0} → (F → Kept) → (F → Outcomes) → (F → ℕ) → (F → ℕ → Outcomes) → (Pair → List ChangeAt → Text) → Outcomes → List (Call F) → Type 0
-AreCalls seen may_leave moment left_since text outcomes [] = ⊤
-AreCalls seen may_leave moment left_since text outcomes (c ∷ calls) =
+abbrev pub AreCalls : {F : Type 0} → (F → Kept) → (F → Outcomes) → (F → ℕ) → (F → ℕ → Outcomes) → Says → Outcomes → List (Call F) → Type 0
+AreCalls seen may_leave moment left_since says outcomes [] = ⊤
+AreCalls seen may_leave moment left_since says outcomes (c ∷ calls) =
     Follows Same outcomes (may_leave c.began)
-    × Passes may_leave moment left_since (MayAccounts (seen c.began) text c.first c.end c.before c.after) c.began c.ended
-    × AreCalls seen may_leave moment left_since text (left_since c.ended (moment c.began)) calls
+    × Passes may_leave moment left_since (MayAccounts (seen c.began) says c.first c.end c.before c.after) c.began c.ended
+    × AreCalls seen may_leave moment left_since says (left_since c.ended (moment c.began)) calls
 
 -- what a crash at any moment of the last call may have left
 abbrev pub left_by : {F : Type 0} → (F → ℕ) → (F → ℕ → Outcomes) → Outcomes → List (Call F) → Outcomes
@@ -33,30 +33,30 @@ left_by moment left_since outcomes (c ∷ calls) = left_by moment left_since (le
 
 -- in one of these calls a text was said, that of the comparison with the right reports, and then the
 -- account was put
-pub record IsSaidIn {F : Type 0} (seen : F → Kept) (text : Pair → List ChangeAt → Text) (a : Account) (c : Call F) : Type 0 where
+pub record IsSaidIn {F : Type 0} (seen : F → Kept) (says : Says) (a : Account) (c : Call F) : Type 0 where
   pub told : Told
   pub is : a ≡ account_told told
   pub grew : Grows c.before told.before
-  pub said : IsAccountSaid (seen c.began) told.cycle text told.before told.after told.pair told.changes
+  pub said : IsAccountSaid (seen c.began) told.cycle says told.before told.after told.pair told.changes
   pub then : Grows told.after c.after
 
-abbrev pub WasSaid : {F : Type 0} → (F → Kept) → (Pair → List ChangeAt → Text) → Account → List (Call F) → Type 0
-WasSaid seen text a [] = ⊥
-WasSaid seen text a (c ∷ calls) = IsSaidIn seen text a c ⊎ WasSaid seen text a calls
+abbrev pub WasSaid : {F : Type 0} → (F → Kept) → Says → Account → List (Call F) → Type 0
+WasSaid seen says a [] = ⊥
+WasSaid seen says a (c ∷ calls) = IsSaidIn seen says a c ⊎ WasSaid seen says a calls
 
 -- ---- one call
 
 -- between two stands of an output its text was said
-pub record IsSaidBetween (k : Kept) (cycle : ℕ) (text : Pair → List ChangeAt → Text) (old new : Said) : Type 0 where
+pub record IsSaidBetween (k : Kept) (cycle : ℕ) (says : Says) (old new : Said) : Type 0 where
   pub pair : Pair
   pub changes : List ChangeAt
   pub before : Said
   pub after : Said
   pub grew : Grows old before
-  pub said : IsAccountSaid k cycle text before after pair changes
+  pub said : IsAccountSaid k cycle says before after pair changes
   pub then : Grows after new
 
 -- of a cycle nothing was to be said: its account was there, or its report was not; or its text was said
 -- in the call
-abbrev pub IsDoneIn : Stand → (Pair → List ChangeAt → Text) → Stand → ℕ → Type 0
-IsDoneIn before text after cycle = IsSettled before.kept cycle ⊎ IsSaidBetween before.kept cycle text before.said after.said
+abbrev pub IsDoneIn : Stand → Says → Stand → ℕ → Type 0
+IsDoneIn before says after cycle = IsSettled before.kept cycle ⊎ IsSaidBetween before.kept cycle says before.said after.said

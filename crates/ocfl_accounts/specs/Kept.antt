@@ -54,6 +54,10 @@ with_account a k = with_accounts (a ∷ []) k
 abbrev pub no_lists : ℕ → Option Text
 no_lists cycle = None
 
+-- the same without the accounts
+abbrev pub no_accounts : Kept → Kept
+no_accounts k = record { sights = k.sights; reports = k.reports; listed = k.listed; lists = no_lists }
+
 -- of a folder of which nothing is known
 abbrev pub nothing_kept : Kept
 nothing_kept = record { sights = λ _. away true false; reports = λ _. []; listed = None; lists = no_lists }

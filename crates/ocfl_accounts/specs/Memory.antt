@@ -1,7 +1,7 @@
 -- Closed reports in memory, and an output in memory.
 use Rattle.std.specs.Prelude.{◌≡◌, ℕ, ◌≤◌, ◌==◌, ◌%◌, List, [], ◌∷◌, ◌++◌, Bool, true, false, Option, Some, None, length, take}
 use Rattle.std.proofs.{Common.{◌∙◌, arith, sym}, lemmas.List.{take_all}}
-use Rattle.std.specs.List.{find}
+use Rattle.std.specs.List.{find, list_any}
 use Rattle.ocfl_tree.specs.Place.{Text, Place}
 use Rattle.ocfl_compare.specs.declared.change.{Change.{Change}, ChangeAt.{ChangeAt}}
 use Rattle.ocfl_compare.specs.declared.change.Change.TheVariants.{Gone, Undeclared, FileGone, Unlooked, Found, Repaired, Missing}
@@ -97,3 +97,7 @@ is_grave c = by c.change
     by (Found code) = true
     by (Repaired code) = false
     by Missing = true
+
+-- that is said, whatever is kept
+abbrev pub says : Kept → Pair → List ChangeAt → Text → Bool → Type 0
+says k pair changes text grave = (text ≡ text_of pair changes) × (grave ≡ list_any is_grave changes)

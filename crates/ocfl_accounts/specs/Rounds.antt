@@ -3,7 +3,7 @@ use Rattle.std.specs.Prelude.{◌≡◌, ℕ, ◌+◌, ◌<◌, ◌≤◌, List,
 use Rattle.ocfl_tree.specs.Place.{Text}
 use Rattle.ocfl_compare.specs.declared.change.ChangeAt.{ChangeAt}
 use Rattle.ocfl_say.specs.Said.{Said, Grows}
-use Rattle.ocfl_accounts.specs.{Kept.{Kept, Account, account_of, with_accounts}, Crash.{Step}}
+use Rattle.ocfl_accounts.specs.{Changes.{Says}, Kept.{Kept, Account, account_of, with_accounts}, Crash.{Step}}
 use Rattle.ocfl_accounts.specs.{Telling.{IsAccountSaid}, declared.pair.Pair.{Pair}}
 
 -- a closing that was said: its cycle, what that was compared with, what it found, and how the output
@@ -19,18 +19,18 @@ abbrev pub account_told : Told → Account
 account_told t = account_of t.cycle t.changes
 
 -- one of the cycles from a number on and below another one was said, since the output stood so
-pub record IsTold (k : Kept) (text : Pair → List ChangeAt → Text) (low high : ℕ) (old : Said) (t : Told) : Type 0 where
+pub record IsTold (k : Kept) (says : Says) (low high : ℕ) (old : Said) (t : Told) : Type 0 where
   pub from : low ≤ t.cycle
   pub below : t.cycle < high
   pub grew : Grows old t.before
-  pub said : IsAccountSaid k t.cycle text t.before t.after t.pair t.changes
+  pub said : IsAccountSaid k t.cycle says t.before t.after t.pair t.changes
 
 -- these were said, in the order of cycles, while the output came from one stand to the other
-abbrev pub AreTold : Kept → (Pair → List ChangeAt → Text) → ℕ → ℕ → Said → Said → List Told → Type 0
-AreTold k text low high old new [] = Grows old new
-AreTold k text low high old new (t ∷ told) = IsTold k text low high old t × AreTold k text (t.cycle + 1) high t.after new told
+abbrev pub AreTold : Kept → Says → ℕ → ℕ → Said → Said → List Told → Type 0
+AreTold k says low high old new [] = Grows old new
+AreTold k says low high old new (t ∷ told) = IsTold k says low high old t × AreTold k says (t.cycle + 1) high t.after new told
 
 -- A crash leaves what it might have left before, with the accounts of some of the cycles, in order:
 -- each of one whose account was not there, and whose text was said before.
-abbrev pub MayAccounts : Kept → (Pair → List ChangeAt → Text) → ℕ → ℕ → Said → Said → Step
-MayAccounts k text low high old new before after = (told : List Told) × (AreTold k text low high old new told × (after ≡ with_accounts (map account_told told) before))
+abbrev pub MayAccounts : Kept → Says → ℕ → ℕ → Said → Said → Step
+MayAccounts k says low high old new before after = (told : List Told) × (AreTold k says low high old new told × (after ≡ with_accounts (map account_told told) before))

@@ -1,12 +1,11 @@
 -- What it is to say what a closed cycle found.
 use Rattle.std.specs.Prelude.{◌≡◌, ◌⊎◌, ℕ, ◌+◌, ◌-◌, max, List, [], ◌∷◌, length, Bool, false, if◌then◌else◌, Option, None, Some}
-use Rattle.std.specs.List.{list_any}
 use Rattle.ocfl_tree.specs.Place.{Text}
 use Rattle.ocfl_compare.specs.declared.change.ChangeAt.{ChangeAt}
 use Rattle.ocfl_accounts.specs.{Cycle.{there}, Unsaid.{is_unsaid}}
-use Rattle.ocfl_accounts.specs.Kept.{Kept, Account, account_of, has_account, with_account}
+use Rattle.ocfl_accounts.specs.Kept.{Kept, Account, account_of, has_account, no_accounts, with_account}
 use Rattle.ocfl_say.specs.Said.{Said, HasSaid, Grows}
-use Rattle.ocfl_accounts.specs.{Crash.{Step}, Pairs.{IsPair, waits, status_of}, Changes.{AreChanges}}
+use Rattle.ocfl_accounts.specs.{Crash.{Step}, Pairs.{IsPair, waits, status_of}, Changes.{AreChanges, Says}}
 use Rattle.ocfl_accounts.specs.{Causes.{IsReason}, declared.{closings.ClosingStop.{ClosingStop}, pair.Pair.{Pair}}}
 
 -- there is nothing to say of a cycle: its account is there, or its report is not
@@ -14,12 +13,15 @@ abbrev pub IsSettled : Kept → ℕ → Type 0
 IsSettled k cycle = is_unsaid k cycle ≡ false
 
 -- the account of the cycle is that of the comparison with the right reports, and its text was said
-pub record IsAccountSaid (k : Kept) (cycle : ℕ) (text : Pair → List ChangeAt → Text) (old new : Said) (pair : Pair) (changes : List ChangeAt) : Type 0 where
+pub record IsAccountSaid (k : Kept) (cycle : ℕ) (says : Says) (old new : Said) (pair : Pair) (changes : List ChangeAt) : Type 0 where
   pub is : k.sights cycle ≡ there pair.closed
   pub unsaid : has_account k cycle ≡ false
   pub pair_is : IsPair k.sights pair
   pub changes_are : AreChanges k pair changes
-  pub said : HasSaid (text pair changes) old new
+  pub text : Text
+  pub is_grave : Bool
+  pub says_it : says (no_accounts k) pair changes text is_grave
+  pub said : HasSaid text old new
   pub grew : Grows old new
 
 -- it is kept then, unless the cycle can still be compared
@@ -27,12 +29,12 @@ abbrev pub kept_then : Pair → Account → Kept → Kept
 kept_then pair account k = if waits pair then k else with_account account k
 
 -- it was said and kept, and this is the status
-pub record IsToldRightly (k : Kept) (cycle : ℕ) (text : Pair → List ChangeAt → Text) (news : ChangeAt → Bool) (after : Kept) (old new : Said) (status : ℕ) : Type 0 where
+pub record IsToldRightly (k : Kept) (cycle : ℕ) (says : Says) (after : Kept) (old new : Said) (status : ℕ) : Type 0 where
   pub pair : Pair
   pub changes : List ChangeAt
-  pub said : IsAccountSaid k cycle text old new pair changes
+  pub said : IsAccountSaid k cycle says old new pair changes
   pub kept : after ≡ kept_then pair (account_of cycle changes) k
-  pub status_is : status ≡ status_of pair (list_any news changes)
+  pub status_is : status ≡ status_of pair said.is_grave
 
 -- nothing was said, and all is as it was
 pub record IsLeftAlone (k : Kept) (cycle : ℕ) (after : Kept) (old new : Said) (status : ℕ) : Type 0 where
@@ -42,9 +44,9 @@ pub record IsLeftAlone (k : Kept) (cycle : ℕ) (after : Kept) (old new : Said) 
   pub status_is : status ≡ 0
 
 -- a crash leaves what it might have left before; or that with the account, once its text was said
-abbrev pub MayAccount : Kept → ℕ → (Pair → List ChangeAt → Text) → Said → Said → Step
-MayAccount k cycle text old new before after =
-    (after ≡ before) ⊎ ((pair : Pair) × ((changes : List ChangeAt) × (IsAccountSaid k cycle text old new pair changes × (after ≡ with_account (account_of cycle changes) before))))
+abbrev pub MayAccount : Kept → ℕ → Says → Said → Said → Step
+MayAccount k cycle says old new before after =
+    (after ≡ before) ⊎ ((pair : Pair) × ((changes : List ChangeAt) × (IsAccountSaid k cycle says old new pair changes × (after ≡ with_account (account_of cycle changes) before))))
 
 -- ---- cycles one after the other
 
@@ -68,19 +70,19 @@ outcome_of after status stop = record { after = after; status = status; stop = s
 
 -- a cycle was said, or left alone; or not for a reason, and then its account may be kept if its text
 -- was said, and the status is 3
-abbrev pub IsOutcomeFor : Option ClosingStop → Stand → ℕ → (Pair → List ChangeAt → Text) → (ChangeAt → Bool) → Stand → ℕ → Type 0
-IsOutcomeFor None before cycle text news after status = IsLeftAlone before.kept cycle after.kept before.said after.said status ⊎ IsToldRightly before.kept cycle text news after.kept before.said after.said status
-IsOutcomeFor (Some why) before cycle text news after status =
-    MayAccount before.kept cycle text before.said after.said before.kept after.kept
+abbrev pub IsOutcomeFor : Option ClosingStop → Stand → ℕ → Says → Stand → ℕ → Type 0
+IsOutcomeFor None before cycle says after status = IsLeftAlone before.kept cycle after.kept before.said after.said status ⊎ IsToldRightly before.kept cycle says after.kept before.said after.said status
+IsOutcomeFor (Some why) before cycle says after status =
+    MayAccount before.kept cycle says before.said after.said before.kept after.kept
     × (Grows before.said after.said × ((status ≡ 3) × IsReason before.faults after.faults before.said after.said why))
 
-abbrev pub IsOutcome : Stand → ℕ → (Pair → List ChangeAt → Text) → (ChangeAt → Bool) → Outcome → Type 0
-IsOutcome before cycle text news o = IsOutcomeFor o.stop before cycle text news o.after o.status
+abbrev pub IsOutcome : Stand → ℕ → Says → Outcome → Type 0
+IsOutcome before cycle says o = IsOutcomeFor o.stop before cycle says o.after o.status
 
 -- one cycle after the other, from a number on
-abbrev pub AreOutcomes : Stand → ℕ → (Pair → List ChangeAt → Text) → (ChangeAt → Bool) → List Outcome → Stand → Type 0
-AreOutcomes before cycle text news [] after = after ≡ before
-AreOutcomes before cycle text news (o ∷ os) after = IsOutcome before cycle text news o × AreOutcomes o.after (cycle + 1) text news os after
+abbrev pub AreOutcomes : Stand → ℕ → Says → List Outcome → Stand → Type 0
+AreOutcomes before cycle says [] after = after ≡ before
+AreOutcomes before cycle says (o ∷ os) after = IsOutcome before cycle says o × AreOutcomes o.after (cycle + 1) says os after
 
 -- the greatest status, if it is greater than this one
 abbrev pub greatest_from : ℕ → List Outcome → ℕ
@@ -88,8 +90,8 @@ greatest_from status [] = status
 greatest_from status (o ∷ os) = greatest_from (max status o.status) os
 
 -- all cycles from the first number on and below the second, in order, and the greatest status
-pub record AreSaid (before : Stand) (first end : ℕ) (text : Pair → List ChangeAt → Text) (news : ChangeAt → Bool) (after : Stand) (status : ℕ) : Type 0 where
+pub record AreSaid (before : Stand) (first end : ℕ) (says : Says) (after : Stand) (status : ℕ) : Type 0 where
   pub outcomes : List Outcome
-  pub are : AreOutcomes before first text news outcomes after
+  pub are : AreOutcomes before first says outcomes after
   pub all : length outcomes ≡ end - first
   pub greatest : status ≡ greatest_from 0 outcomes

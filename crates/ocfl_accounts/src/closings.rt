@@ -2,7 +2,7 @@
 ghost use Rattle.std.specs.Prelude.{◌≡◌, ◌≤◌, ℕ, Bool, false, IsTrue, IfOk, OnOk, List, [], ⊤};
 ghost use Rattle.ocfl_tree.specs.Place.{Text};
 ghost use Rattle.ocfl_compare.specs.declared.change.ChangeAt.{ChangeAt};
-ghost use Rattle.ocfl_accounts.specs.{Crash.{Follows, IsPut, MayPut, Outcomes, Passes, Same}, Causes.{HasCause}, Changes.{Finds}};
+ghost use Rattle.ocfl_accounts.specs.{Crash.{Follows, IsPut, MayPut, Outcomes, Passes, Same}, Causes.{HasCause}, Changes.{Finds, Says}};
 ghost use Rattle.ocfl_accounts.specs.{Kept.{Kept, account_with, has_account, nothing_kept, with_account}};
 ghost use Rattle.ocfl_accounts.specs.{Sights.{IsSight}, declared.pair.Pair.{Pair as ModelPair}};
 
@@ -53,11 +53,8 @@ pub trait Closings {
     /// How often a call has failed, for another reason than memory.
     ghost faults: { Self → ℕ } = { λ _. 0 };
 
-    /// What is said of the changes of a cycle.
-    ghost text: { ModelPair → List ChangeAt → Text } = { λ _ _. [] };
-
-    /// Whether a change is new or gone, and not known.
-    ghost news: { ChangeAt → Bool } = { λ _. false };
+    /// What may be said of the changes of a cycle, and whether something is new or gone by that.
+    ghost says: { Says } = { λ _ _ _ _ _. ⊤ };
 
     /// Whether the account of a cycle is there.
     fn has_account(&mut self, cycle: u64) -> Result<bool, ClosingStop>
@@ -77,7 +74,7 @@ pub trait Closings {
     /// Finds the changes of a closed cycle. Their list is the account that the next `put` puts. Of a
     /// cycle whose report lost lines it finds none.
     fn find(&mut self, pair: &Pair) -> Result<Found, ClosingStop>
-        ensures finds { IsTrue told → IfOk result (λ it. Finds (seen self.old) pair.now text news
+        ensures finds { IsTrue told → IfOk result (λ it. Finds (seen self.old) pair.now says
             it.text.items it.is_grave (found self.new)) }
         ensures seen { IsTrue told → seen self.new ≡ seen self.old }
         ensures crash { IsTrue told → Passes may_leave moment left_since Same self.old self.new }

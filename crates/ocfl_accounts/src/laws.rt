@@ -12,18 +12,18 @@ use crate::closings::Closings;
 #[tactic(auto, using(crate::proofs::Chains::each_said_from))]
 pub fn each_account_was_said<C: Closings>()
     ensures { IsTrue C.told → (first : Kept) (calls : List (Call C))
-        → AreCalls C.seen C.may_leave C.moment C.left_since C.text (λ k. k ≡ first) calls
+        → AreCalls C.seen C.may_leave C.moment C.left_since C.says (λ k. k ≡ first) calls
         → (k : Kept) → left_by C.moment C.left_since (λ d. d ≡ first) calls k
         → (a : Account) → HasAccount k a
-        → HasAccount first a ⊎ WasSaid C.seen C.text a calls }
+        → HasAccount first a ⊎ WasSaid C.seen C.says a calls }
 {}
 
 /// After a call whose status is not 3 each of its cycles was said in it, or had its account before,
 /// or no report.
 pub fn a_status_below_3_says_that_all_is_said<C: Closings>()
     ensures { (before after : Stand) (first end status : ℕ)
-        → AreSaid before first end C.text C.news after status → status < 3
-        → (cycle : ℕ) → first ≤ cycle → cycle < end → IsDoneIn before C.text after cycle }
+        → AreSaid before first end C.says after status → status < 3
+        → (cycle : ℕ) → first ≤ cycle → cycle < end → IsDoneIn before C.says after cycle }
 {}
 
 /// After a search for the first of 1,000 cycles that was not said, also one that failed, and a call
@@ -32,8 +32,8 @@ pub fn a_status_below_3_says_that_all_is_said<C: Closings>()
 pub fn each_cycle_is_said_or_found_again<C: Closings>()
     ensures { (before after : Stand) (first end status cycle : ℕ)
         → NoneUnsaid before.kept (oldest cycle) first
-        → AreSaid before first end C.text C.news after status
+        → AreSaid before first end C.says after status
         → (next later : ℕ) → NoneUnsaid after.kept (oldest later) next
         → (c : ℕ) → oldest cycle ≤ c → oldest later ≤ c → c < end
-        → IsDoneIn before C.text after c ⊎ ((next ≤ c) × (3 ≤ status)) }
+        → IsDoneIn before C.says after c ⊎ ((next ≤ c) × (3 ≤ status)) }
 {}

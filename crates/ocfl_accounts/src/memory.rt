@@ -2,7 +2,7 @@
 ghost use Rattle.std.specs.Prelude.{◌≡◌, ◌<◌, ◌∷◌, ◌%◌, [], Some, None, true, false, refl, IfOk, IsOkUnless, OnErr, OnOk, length};
 ghost use Rattle.std.specs.Option.{option_map};
 ghost use Rattle.ocfl_accounts.specs.{Causes.{HasCause, IsCause}, Memory.{content_and, is_grave as is_grave_of, kept_of, leaves_now}};
-ghost use Rattle.ocfl_accounts.specs.Memory.{counts_now as is_left_now, left_since as was_left_since, only_now as is_left_only, text_of};
+ghost use Rattle.ocfl_accounts.specs.Memory.{counts_now as is_left_now, left_since as was_left_since, only_now as is_left_only, says as says_of};
 
 use crate::closed::Look;
 use crate::closings::{ClosingStop, Closings, Found};
@@ -212,9 +212,7 @@ impl Closings for MemClosings {
 
     ghost faults = { λ folder. folder.faults };
 
-    ghost text = { text_of };
-
-    ghost news = { is_grave_of };
+    ghost says = { says_of };
 
     ghost stays = { λ told folder. refl };
 

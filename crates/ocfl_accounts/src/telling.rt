@@ -27,12 +27,12 @@ pub fn say_cycle<C: Closings, S: Say>(
     ensures told { IsTrue C.told → IfOk result (λ status.
         IsLeftAlone (C.seen closings.old) cycle (C.seen closings.new)
         (S.said out.old) (S.said out.new) status
-        ⊎ IsToldRightly (C.seen closings.old) cycle C.text C.news (C.seen closings.new)
+        ⊎ IsToldRightly (C.seen closings.old) cycle C.says (C.seen closings.new)
         (S.said out.old) (S.said out.new) status) }
-    ensures may { IsTrue C.told → MayAccount (C.seen closings.old) cycle C.text
+    ensures may { IsTrue C.told → MayAccount (C.seen closings.old) cycle C.says
         (S.said out.old) (S.said out.new) (C.seen closings.old) (C.seen closings.new) }
     ensures crash { IsTrue C.told → Passes C.may_leave C.moment C.left_since
-        (MayAccount (C.seen closings.old) cycle C.text (S.said out.old) (S.said out.new))
+        (MayAccount (C.seen closings.old) cycle C.says (S.said out.old) (S.said out.new))
         closings.old closings.new }
     ensures grew { Grows (S.said out.old) (S.said out.new) }
     ensures cause { IsTrue C.told → HasReason (C.faults closings.old) (C.faults closings.new)
@@ -56,16 +56,16 @@ fn say_closed<C: Closings, S: Say>(
 ) -> Result<u8, ClosingStop>
     ensures told { IsTrue C.told → (C.seen closings.old).sights now.cycle ≡ there now
         → has_account (C.seen closings.old) now.cycle ≡ false → IfOk result (λ status.
-        IsToldRightly (C.seen closings.old) now.cycle C.text C.news (C.seen closings.new)
+        IsToldRightly (C.seen closings.old) now.cycle C.says (C.seen closings.new)
         (S.said out.old) (S.said out.new) status) }
     ensures may { IsTrue C.told → (C.seen closings.old).sights now.cycle ≡ there now
         → has_account (C.seen closings.old) now.cycle ≡ false
-        → MayAccount (C.seen closings.old) now.cycle C.text (S.said out.old) (S.said out.new)
+        → MayAccount (C.seen closings.old) now.cycle C.says (S.said out.old) (S.said out.new)
         (C.seen closings.old) (C.seen closings.new) }
     ensures crash { IsTrue C.told → (C.seen closings.old).sights now.cycle ≡ there now
         → has_account (C.seen closings.old) now.cycle ≡ false
         → Passes C.may_leave C.moment C.left_since
-        (MayAccount (C.seen closings.old) now.cycle C.text (S.said out.old) (S.said out.new))
+        (MayAccount (C.seen closings.old) now.cycle C.says (S.said out.old) (S.said out.new))
         closings.old closings.new }
     ensures grew { Grows (S.said out.old) (S.said out.new) }
     ensures cause { IsTrue C.told → HasReason (C.faults closings.old) (C.faults closings.new)
@@ -109,10 +109,10 @@ pub fn say_cycles<C: Closings, S: Say>(
 ) -> u8
     ensures said { IsTrue C.told → AreSaid
         (stand_of (C.seen closings.old) (C.faults closings.old) (S.said out.old))
-        first end C.text C.news
+        first end C.says
         (stand_of (C.seen closings.new) (C.faults closings.new) (S.said out.new)) result }
     ensures crash { IsTrue C.told → Passes C.may_leave C.moment C.left_since
-        (MayAccounts (C.seen closings.old) C.text first end (S.said out.old) (S.said out.new))
+        (MayAccounts (C.seen closings.old) C.says first end (S.said out.old) (S.said out.new))
         closings.old closings.new }
     ensures grew { Grows (S.said out.old) (S.said out.new) }
 {
@@ -127,12 +127,12 @@ pub fn say_cycles<C: Closings, S: Say>(
 fn say_or_fail<C: Closings, S: Say>(alloc: Global, closings: &mut C, cycle: u64, out: &mut S) -> u8
     ensures said { IsTrue C.told → (stop : Option ModelStop) × IsOutcome
         (stand_of (C.seen closings.old) (C.faults closings.old) (S.said out.old))
-        cycle C.text C.news (outcome_of
+        cycle C.says (outcome_of
         (stand_of (C.seen closings.new) (C.faults closings.new) (S.said out.new)) result stop) }
-    ensures may { IsTrue C.told → MayAccount (C.seen closings.old) cycle C.text
+    ensures may { IsTrue C.told → MayAccount (C.seen closings.old) cycle C.says
         (S.said out.old) (S.said out.new) (C.seen closings.old) (C.seen closings.new) }
     ensures crash { IsTrue C.told → Passes C.may_leave C.moment C.left_since
-        (MayAccount (C.seen closings.old) cycle C.text (S.said out.old) (S.said out.new))
+        (MayAccount (C.seen closings.old) cycle C.says (S.said out.old) (S.said out.new))
         closings.old closings.new }
     ensures grew { Grows (S.said out.old) (S.said out.new) }
 {

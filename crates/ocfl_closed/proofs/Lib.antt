@@ -5,3 +5,4 @@ mod Passing
 mod Pushing
 mod Putting
 mod Reading
+mod Changeless

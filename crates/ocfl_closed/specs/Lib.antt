@@ -2,5 +2,7 @@ pub mod Files
 pub mod Cut
 pub mod Losing
 pub mod Taken
+pub mod Unchanged
+pub mod Words
 -- What private functions say: a reader of the public contracts needs none of it.
 pub mod Internal

@@ -1,36 +1,35 @@
 -- What was taken of the changes of a closed cycle.
-use Rattle.std.specs.Prelude.{◌≡◌, ◌||◌, List, ◌++◌, Bool, true, false, not, Option, IfSome}
-use Rattle.std.specs.{List.{list_any}, Option.{option_map}, Io.KnownBytes.{Appends}}
+use Rattle.std.specs.Prelude.{◌≡◌, ◌||◌, List, ◌++◌, All, Bool, true, Option, Some}
+use Rattle.std.specs.{List.{list_any}, Io.KnownBytes.{Appends}}
 use Rattle.ocfl_tree.specs.Place.{Text}
-use Rattle.ocfl_compare.specs.Gone.{gone_text}
-use Rattle.ocfl_compare.specs.declared.change.{Change.{Change}, ChangeAt.{ChangeAt}}
-use Rattle.ocfl_compare.specs.declared.change.Change.TheVariants.{Gone, Undeclared, FileGone, Unlooked, Found, Repaired, Missing}
+use Rattle.ocfl_compare.specs.{Gone.{gone_text}, Seen.{Seen, changes_in}}
+use Rattle.ocfl_messages.specs.declared.known.KnownEntry.{KnownEntry}
+use Rattle.ocfl_words.specs.Counted.{AreCounted, Noted, changes_of, counted, is_known_by, is_news}
+use Rattle.ocfl_words.specs.declared.changes.Changes.{Changes}
 
--- something is gone, or a finding is new that is not known
-abbrev pub is_news : (ChangeAt → Bool) → ChangeAt → Bool
-is_news known c = by c.change
-  where
-    by : Change → Bool
-    by Gone = true
-    by Undeclared = true
-    by FileGone = true
-    by Unlooked = false
-    by (Found code) = not (known c)
-    by (Repaired code) = false
-    by Missing = true
+-- a finding that is known by its code and its place is noted as one that is known
+abbrev pub IsMarked : List KnownEntry → Noted → Type 0
+IsMarked known n = is_known_by known n.at ≡ true → n.is_known ≡ true
 
--- the bytes of the list of what is gone, the changes of which words are made, and whether one of them
--- was new or gone
+-- how taking stands: the bytes of the list of what is gone; which findings are known; what is counted
+-- of the comparison that is under way, of that with the report before and of that with the last whole
+-- one; and whether a change was new or gone
 pub record Stand : Type 0 where
   pub list : Option Text
-  pub taken : Option (List ChangeAt)
+  pub known : List KnownEntry
+  pub noting : Changes
+  pub since : Changes
+  pub whole : Changes
   pub is_grave : Bool
 
-abbrev pub stand : Option Text → Option (List ChangeAt) → Bool → Stand
-stand list taken is_grave = record { list = list; taken = taken; is_grave = is_grave }
-
--- how it stands before and after these changes were taken
-pub record HasTaken (known : ChangeAt → Bool) (old : Stand) (changes : List ChangeAt) (new : Stand) : Type 0 where
-  pub list : Appends old.list new.list (gone_text changes)
-  pub taken : new.taken ≡ option_map (λ cs. cs ++ changes) old.taken
-  pub grave : IfSome old.taken (λ cs. new.is_grave ≡ (old.is_grave || list_any (is_news known) changes))
+-- how it stands before and after these lines were seen and these changes taken
+pub record HasTaken (old : Stand) (seen : List Seen) (new : Stand) : Type 0 where
+  pub noted : List Noted
+  pub are : changes_of noted ≡ changes_in seen
+  pub marked : All (IsMarked old.known) noted
+  pub list : Appends old.list new.list (gone_text (changes_in seen))
+  pub counted_on : (ns : List Noted) → AreCounted old.noting (counted ns) → AreCounted new.noting (counted (ns ++ noted))
+  pub grave : new.is_grave ≡ (old.is_grave || list_any is_news noted)
+  pub known : new.known ≡ old.known
+  pub since : new.since ≡ old.since
+  pub whole : new.whole ≡ old.whole

@@ -5,11 +5,13 @@ ghost use Rattle.ocfl_tree.specs.Place.{Text};
 ghost use Rattle.ocfl_state.specs.Calls.{IsReadOf, bytes_of};
 ghost use Rattle.ocfl_accounts.specs.{Causes.{HasCause, IsCause}, Kept.{is_some}};
 ghost use Rattle.ocfl_closed.specs.{Cut.{AreNamed, Calm, ClosedState, IsClosedDisk, Names, Still, untold}, Files.{report_named}};
+ghost use Rattle.ocfl_closed.specs.Unchanged.{IsUnchangedSince};
 
+use crate::account::{Account, Paths};
 use ocfl_accounts::{ClosingStop, Pair};
 use ocfl_compare::CompareStop;
 use ocfl_tree::Place;
-use std::io::{BufRead, Write};
+use std::io::{self, BufRead, Write};
 
 /// What closings ask of the system, by the numbers of cycles. `Failed` is answered if a call failed,
 /// and `Memory` if memory was refused.
@@ -25,6 +27,9 @@ pub trait ClosedDisk {
     /// The list of what is gone, while it is written.
     type List: Write + Drop;
 
+    /// An open list of what is gone.
+    type Rows: BufRead + Drop;
+
     /// Whether the clauses say what is on the disk. Of one that does not tell, they say little.
     ghost told: { Bool } = { false };
 
@@ -39,6 +44,20 @@ pub trait ClosedDisk {
         ensures still { IsTrue told → Still (state self.old) (state self.new) }
         ensures value { IsTrue told → IfOk result (λ answer.
             answer ≡ is_some ((state self.old).files.lists cycle)) }
+        ensures cause { IsTrue told
+            → HasCause (state self.old).faults (state self.new).faults result };
+
+    /// Opens the list of what is gone at the end of a cycle. `None` if there is none.
+    fn open_list(&mut self, cycle: u64) -> Result<Option<Self::Rows>, ClosingStop>
+        ensures still { IsTrue told → Still (state self.old) (state self.new) }
+        ensures value { IsTrue told → IfOk result (λ found. option_map Self.Rows.remaining found
+            ≡ option_map Some ((state self.old).files.lists cycle)) }
+        ensures cause { IsTrue told
+            → HasCause (state self.old).faults (state self.new).faults result };
+
+    /// How the files of the closed cycle of a pair are called.
+    fn find_paths(&mut self, pair: &Pair) -> Result<Paths, ClosingStop>
+        ensures still { IsTrue told → Still (state self.old) (state self.new) }
         ensures cause { IsTrue told
             → HasCause (state self.old).faults (state self.new).faults result };
 
@@ -86,7 +105,8 @@ pub trait ClosedDisk {
         ensures cause { IsTrue told → IsCause (state self.old).faults (state self.new).faults result };
 
     /// Ends the reading of the report of a pair and of that of a cycle before, to their ends. `Failed`
-    /// if one that was checked is not as it was closed.
+    /// if one that was checked is not as it was closed: the one before is, and that of the pair if it
+    /// is compared with its report before.
     fn end_readers(
         &mut self,
         pair: &Pair,
@@ -94,6 +114,8 @@ pub trait ClosedDisk {
         earlier: Self::Reader,
         now: Self::Reader,
     ) -> Result<(), ClosingStop>
+        ensures unchanged { IsTrue told
+            → OnOk result (IsUnchangedSince (state self.old).files pair.now before) }
         ensures still { IsTrue told → Still (state self.old) (state self.new) }
         ensures cause { IsTrue told
             → HasCause (state self.old).faults (state self.new).faults result };
@@ -110,8 +132,20 @@ pub trait ClosedDisk {
         ensures still { IsTrue told → Still (state self.old) (state self.new) }
         ensures cause { IsTrue told → IsCause (state self.old).faults (state self.new).faults result };
 
-    /// Keeps why the objects that must be there were not looked for in the report of a pair.
-    fn refuse_search(&mut self, pair: &Pair, stop: CompareStop, report: Self::Reader) -> ClosingStop
+    /// Keeps why objects were not looked for in the report of a cycle, which is compared with that
+    /// of one before; 0 for none.
+    fn refuse_search(
+        &mut self,
+        cycle: u64,
+        before: u64,
+        stop: CompareStop,
+        report: Self::Reader,
+    ) -> ClosingStop
+        ensures still { IsTrue told → Still (state self.old) (state self.new) }
+        ensures cause { IsTrue told → IsCause (state self.old).faults (state self.new).faults result };
+
+    /// Keeps why the lines of the report of a cycle were not counted.
+    fn refuse_lines(&mut self, cycle: u64, error: io::Error) -> ClosingStop
         ensures still { IsTrue told → Still (state self.old) (state self.new) }
         ensures cause { IsTrue told → IsCause (state self.old).faults (state self.new).faults result };
 
@@ -184,8 +218,8 @@ pub trait ClosedDisk {
         ensures calm { IsTrue told → Calm (state self.old) (state self.new) }
         ensures faults { IsTrue told → (state self.new).faults ≡ (state self.old).faults };
 
-    /// Appends the line on what was found last of a cycle to the log.
-    fn log(&mut self, pair: &Pair) -> Result<(), ClosingStop>
+    /// Appends the line on what was found of a cycle to the log.
+    fn log(&mut self, pair: &Pair, account: &Account) -> Result<(), ClosingStop>
         ensures calm { IsTrue told → Calm (state self.old) (state self.new) }
         ensures cause { IsTrue told
             → HasCause (state self.old).faults (state self.new).faults result };

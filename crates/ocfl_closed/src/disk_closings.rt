@@ -1,43 +1,64 @@
 //! Closed reports on a disk, and their accounts.
 ghost use Rattle.std.specs.Prelude.{◌≡◌, ◌⊎◌, IsTrue, OnOk};
 ghost use Rattle.ocfl_accounts.specs.{Causes.{HasCause}, Kept.{account_with}, Crash.{Follows, IsPut, MayPut}};
-ghost use Rattle.ocfl_closed.specs.{Cut.{Passes, with_listed}, Files.{kept_of}, Taken.{is_news}};
+ghost use Rattle.ocfl_closed.specs.{Cut.{Calm, Passes, with_listed}, Files.{kept_of}, Words.{said_of}};
 
+use crate::account::Account;
 use crate::disk::ClosedDisk;
-use crate::finding::find_changes;
+use crate::finding::{Told, find_changes};
 use crate::looking::look_at;
-use crate::words::SayChanges;
+use crate::words::SaidWith;
 use ocfl_accounts::{ClosingStop, Closings, Found, Look, Pair};
 use std::alloc::Global;
 
 /// The closed reports of a state folder on a disk. The account of a cycle is its list of what is
 /// gone.
-pub struct DiskClosings<D> {
+pub struct DiskClosings<'n, D> {
     alloc: Global,
     pub disk: D,
+    /// What is said of them is made with this.
+    with: SaidWith<'n>,
     /// The cycle that the night closed; 0 if it closed none.
     closed: u64,
+    /// What was found last, and is not logged yet.
+    account: Option<Account>,
 }
 
-impl<D: Drop> Drop for DiskClosings<D> {
+impl<D: Drop> Drop for DiskClosings<'_, D> {
     fn drop(self) {
         let DiskClosings {
             alloc: _alloc,
             disk: _disk,
+            with: _with,
             closed: _closed,
+            account: _account,
         } = self;
     }
 }
 
-impl<D: SayChanges> DiskClosings<D> {
+impl<'n, D: ClosedDisk> DiskClosings<'n, D> {
     /// Those that a disk shows, of which the night closed this cycle; 0 if it closed none.
-    pub fn over(alloc: Global, disk: D, closed: u64) -> DiskClosings<D>
+    pub fn over(alloc: Global, disk: D, with: SaidWith<'n>, closed: u64) -> DiskClosings<'n, D>
         ensures { result.disk ≡ disk }
     {
         DiskClosings {
             alloc,
             disk,
+            with,
             closed,
+            account: None,
+        }
+    }
+
+    /// Logs what was found last.
+    fn log(&mut self, pair: &Pair) -> Result<(), ClosingStop>
+        ensures calm { IsTrue D.told → Calm (D.state self.old.disk) (D.state self.new.disk) }
+        ensures cause { IsTrue D.told
+            → HasCause (D.state self.old.disk).faults (D.state self.new.disk).faults result }
+    {
+        match self.account.take() {
+            Some(account) => self.disk.log(pair, &account),
+            None => Ok(()),
         }
     }
 }
@@ -63,7 +84,7 @@ fn put_list<D: ClosedDisk>(disk: &mut D, cycle: u64) -> Result<(), ClosingStop>
     disk.sync_folder()
 }
 
-impl<D: SayChanges> Closings for DiskClosings<D> {
+impl<D: ClosedDisk> Closings for DiskClosings<'_, D> {
     ghost told = { D.told };
 
     ghost seen = { λ closings. kept_of (D.state closings.disk).files };
@@ -78,9 +99,7 @@ impl<D: SayChanges> Closings for DiskClosings<D> {
 
     ghost faults = { λ closings. (D.state closings.disk).faults };
 
-    ghost text = { D.text };
-
-    ghost news = { is_news D.Words.known };
+    ghost says = { said_of };
 
     ghost stays = { λ told closings. (D.is_disk told closings.disk).stays };
 
@@ -97,12 +116,14 @@ impl<D: SayChanges> Closings for DiskClosings<D> {
     }
 
     fn find(&mut self, pair: &Pair) -> Result<Found, ClosingStop> {
-        find_changes(self.alloc, &mut self.disk, pair)
+        let Told { found, account } = find_changes(self.alloc, &mut self.disk, &self.with, pair)?;
+        self.account = Some(account);
+        Ok(found)
     }
 
     fn put(&mut self, pair: &Pair) -> Result<(), ClosingStop> {
         put_list(&mut self.disk, pair.closed.cycle())?;
-        self.disk.log(pair)
+        self.log(pair)
     }
 
     fn drop_found(&mut self, pair: &Pair) -> Result<(), ClosingStop> {
@@ -110,7 +131,7 @@ impl<D: SayChanges> Closings for DiskClosings<D> {
         if pair.closed.cycle() != self.closed {
             return Ok(());
         }
-        self.disk.log(pair)
+        self.log(pair)
     }
 
     fn fail(&mut self, stop: ClosingStop) {

@@ -1,60 +1,84 @@
 //! What changed in a closed cycle, and the list of what is gone.
-ghost use Rattle.std.specs.Prelude.{◌≡◌, ◌++◌, IsTrue, IfOk, IsOkUnless, List, OnOk, Some};
+ghost use Rattle.std.specs.Prelude.{◌≡◌, ◌++◌, [], true, IsTrue, IfOk, IsOkUnless, OnOk, Some};
 ghost use Rattle.ocfl_tree.specs.Place.{Text};
 ghost use Rattle.ocfl_compare.specs.{Compared.{IsCompared}, Expected.{IsSearched}};
-ghost use Rattle.ocfl_compare.specs.declared.change.ChangeAt.{ChangeAt};
 ghost use Rattle.ocfl_accounts.specs.Causes.{HasCause};
-ghost use Rattle.ocfl_accounts.specs.Changes.{AreChanges, AreFound, Finds, IsMissing, IsSince, IsSinceWhole};
-ghost use Rattle.ocfl_closed.specs.{Cut.{Calm, Still}, Files.{kept_of}, Internal.{Took}, Taken.{is_news}};
+ghost use Rattle.ocfl_accounts.specs.Changes.{Finds, IsMissing, IsSince, IsSinceWhole};
+ghost use Rattle.ocfl_words.specs.Counted.{AreCounted, Counted, counted, joined};
+ghost use Rattle.ocfl_closed.specs.{Cut.{Calm, Still}, Files.{kept_of}, Taken.{HasTaken}};
+ghost use Rattle.ocfl_closed.specs.Unchanged.{AreAllUnchanged, AreUnchanged, IsBeforeUnchanged};
+ghost use Rattle.ocfl_closed.specs.Unchanged.{IsUnchangedSince, IsWholeUnchanged};
+ghost use Rattle.ocfl_closed.specs.Unchanged.{is_before as is_before_by, is_unchanged};
+ghost use Rattle.ocfl_closed.specs.Words.{AreOf, AreParts, HasText, beside_of, runs_in};
+ghost use Rattle.ocfl_closed.specs.{Words.{said_beside}, Internal.{Took, AllTaken}};
+ghost use Rattle.ocfl_closed.specs.Internal.Stands.{stand_of};
 
+use crate::account::{Account, compared, text_of};
+use crate::accounting::account_of;
 use crate::disk::ClosedDisk;
 use crate::taking::Taking;
 use crate::within::Within;
-use crate::words::{SayChanges, Since, TakeWords};
+use crate::words::{SaidWith, Words};
 use ocfl_accounts::{ClosedCycle, ClosingStop, Found, Pair};
 use ocfl_compare::{CompareStop, GoneList, TakeChange, compare, find_expected};
 use ocfl_tree::Place;
+use ocfl_words::count_places;
 use std::alloc::{AllocError, Global};
+
+/// What was found of a closed cycle, and its parts.
+#[derive(Drop)]
+pub struct Told {
+    pub found: Found,
+    pub account: Account,
+}
 
 /// Finds the changes of a closed cycle: since the report before, outside of what either left out;
 /// in what that one alone left out since the last whole one; and which objects that must be there
-/// are missing. Makes the list of what is gone by them. Of a cycle whose report lost lines it finds
-/// none.
-#[tactic(auto, using(crate::proofs::Findings::finds_of))]
-pub fn find_changes<D: SayChanges>(
+/// are missing. Makes the list of what is gone by them, and says them. Of a cycle whose report lost
+/// lines it finds none. A report that was changed since it was closed is not compared.
+pub fn find_changes<D: ClosedDisk>(
     alloc: Global,
     disk: &mut D,
+    with: &SaidWith<'_>,
     pair: &Pair,
-) -> Result<Found, ClosingStop>
+) -> Result<Told, ClosingStop>
     ensures finds { IsTrue D.told → IfOk result (λ it.
-        Finds (kept_of (D.state disk.old).files) pair.now D.text (is_news D.Words.known)
-        it.text.items it.is_grave (D.state disk.new).beside) }
+        Finds (kept_of (D.state disk.old).files) pair.now
+        (said_beside (beside_of with.now (runs_in (D.state disk.old).files pair.now)))
+        it.found.text.items it.found.is_grave (D.state disk.new).beside) }
+    ensures unchanged { IsTrue D.told
+        → OnOk result (AreUnchanged (D.state disk.old).files pair.now) }
     ensures calm { IsTrue D.told → Calm (D.state disk.old) (D.state disk.new) }
     ensures cause { IsTrue D.told
         → HasCause (D.state disk.old).faults (D.state disk.new).faults result }
 {
     let list = disk.make_list(pair.closed.cycle())?;
-    let words = disk.begin_words(pair)?;
     let taking = Taking {
         list: GoneList::new(alloc, list),
-        words,
+        words: Words::new(alloc, with, pair),
         is_grave: false,
     };
     let taking = take_changes(alloc, disk, pair, taking)?;
-    end_changes(disk, pair, taking)
+    let told = end_changes(alloc, disk, with, pair, taking)?;
+    Ok(told)
 }
 
 /// Ends the list of what is gone, and makes the text of the changes that were taken.
-fn end_changes<D: SayChanges>(
+fn end_changes<D: ClosedDisk>(
+    alloc: Global,
     disk: &mut D,
+    with: &SaidWith<'_>,
     pair: &Pair,
-    taking: Taking<D::List, D::Words>,
-) -> Result<Found, ClosingStop>
+    taking: Taking<'_, D::List>,
+) -> Result<Told, ClosingStop>
     ensures list { IsTrue D.told → OnOk result ((bytes : Text)
-        → D.List.contents taking.list.out ≡ Some bytes → (D.state disk.new).beside ≡ bytes) }
-    ensures text { IsTrue D.told → IfOk result (λ it. (changes : List ChangeAt)
-        → D.Words.taken taking.words ≡ Some changes → it.text.items ≡ D.text pair.now changes) }
-    ensures grave { IfOk result (λ it. it.is_grave ≡ taking.is_grave) }
+        → D.List.contents taking.entry.list.out ≡ Some bytes → (D.state disk.new).beside ≡ bytes) }
+    ensures text { IsTrue D.told → IfOk result (λ it. (v w x : Counted)
+        → AreCounted taking.entry.words.since.changes v → AreCounted taking.entry.words.noting.changes w
+        → AreCounted taking.entry.words.whole.changes x → HasText
+        (beside_of with.now (runs_in (D.state disk.old).files pair.now)) pair.now
+        (joined (joined v w) x) it.found.text.items) }
+    ensures grave { IfOk result (λ it. it.found.is_grave ≡ taking.entry.is_grave) }
     ensures calm { IsTrue D.told → Calm (D.state disk.old) (D.state disk.new) }
     ensures cause { IsTrue D.told
         → HasCause (D.state disk.old).faults (D.state disk.new).faults result }
@@ -65,21 +89,33 @@ fn end_changes<D: SayChanges>(
         is_grave,
     } = taking;
     disk.end_list(&list.out)?;
-    let text = disk.end_words(pair, words)?;
-    Ok(Found { text, is_grave })
+    let account = account_of(alloc, disk, with, pair, words)?;
+    match text_of(alloc, with, pair, &account) {
+        Ok(text) => Ok(Told {
+            found: Found { text, is_grave },
+            account,
+        }),
+        Err(_) => Err(ClosingStop::Memory),
+    }
 }
 
 /// Takes the changes of a closed cycle; none of one whose report lost lines.
-#[tactic(auto, using(crate::proofs::Findings::found_of_kept))]
-fn take_changes<D: SayChanges>(
+#[tactic(auto, using(crate::proofs::Findings::taken_of_kept))]
+fn take_changes<'n, D: ClosedDisk>(
     alloc: Global,
     disk: &mut D,
     pair: &Pair,
-    taking: Taking<D::List, D::Words>,
-) -> Result<Taking<D::List, D::Words>, ClosingStop>
-    ensures taken { IsTrue D.told → IfOk result (λ after. Took
-        (AreChanges (kept_of (D.state disk.old).files) pair.now)
-        (λ changes. ⟦<Taking<D::List, D::Words> as TakeChange>⟧.takes taking changes after)) }
+    taking: Taking<'n, D::List>,
+) -> Result<Taking<'n, D::List>, ClosingStop>
+    requires since { AreCounted taking.words.since.changes (counted []) }
+    requires whole { AreCounted taking.words.whole.changes (counted []) }
+    requires noting { AreCounted taking.words.noting.changes (counted []) }
+    ensures taken { IsTrue D.told → IfOk result (λ after. AllTaken
+        (AreParts (kept_of (D.state disk.old).files) pair.now)
+        (stand_of (D.List.contents taking.entry.list.out) taking.entry.words taking.entry.is_grave)
+        (stand_of (D.List.contents after.list.out) after.words after.is_grave)) }
+    ensures unchanged { IsTrue D.told
+        → OnOk result (AreUnchanged (D.state disk.old).files pair.now) }
     ensures still { IsTrue D.told → Still (D.state disk.old) (D.state disk.new) }
     ensures cause { IsTrue D.told
         → HasCause (D.state disk.old).faults (D.state disk.new).faults result }
@@ -91,25 +127,28 @@ fn take_changes<D: SayChanges>(
 }
 
 /// Takes all changes of a closed cycle whose report lost no lines.
-fn take_all<D: SayChanges>(
+fn take_all<'n, D: ClosedDisk>(
     alloc: Global,
     disk: &mut D,
     pair: &Pair,
-    taking: Taking<D::List, D::Words>,
-) -> Result<Taking<D::List, D::Words>, ClosingStop>
-    ensures taken { IsTrue D.told → IfOk result (λ after. Took
-        (AreFound (kept_of (D.state disk.old).files) pair.now)
-        (λ changes. ⟦<Taking<D::List, D::Words> as TakeChange>⟧.takes taking changes after)) }
+    taking: Taking<'n, D::List>,
+) -> Result<Taking<'n, D::List>, ClosingStop>
+    requires noting { AreCounted taking.words.noting.changes (counted []) }
+    ensures taken { IsTrue D.told → IfOk result (λ after. AllTaken
+        (AreOf (kept_of (D.state disk.old).files) pair.now)
+        (stand_of (D.List.contents taking.entry.list.out) taking.entry.words taking.entry.is_grave)
+        (stand_of (D.List.contents after.list.out) after.words after.is_grave)) }
+    ensures unchanged { IsTrue D.told
+        → OnOk result (AreAllUnchanged (D.state disk.old).files pair.now) }
     ensures still { IsTrue D.told → Still (D.state disk.old) (D.state disk.new) }
     ensures cause { IsTrue D.told
         → HasCause (D.state disk.old).faults (D.state disk.new).faults result }
 {
     let mut taking = taking;
-    taking.words.turn(Since::Before);
     take_since(alloc, disk, pair, &mut taking)?;
-    taking.words.turn(Since::Whole);
+    taking.words.end_since();
     let mut taking = take_since_whole(alloc, disk, pair, taking)?;
-    taking.words.turn(Since::List);
+    taking.words.end_whole();
     take_missing(alloc, disk, pair, &mut taking)?;
     Ok(taking)
 }
@@ -123,7 +162,9 @@ fn take_since<D: ClosedDisk, T: TakeChange>(
 ) -> Result<(), ClosingStop>
     ensures taken { IsTrue D.told → OnOk result (Took
         (IsSince (kept_of (D.state disk.old).files) pair.now.closed pair.now.before)
-        (λ changes. T.takes taker.old changes taker.new)) }
+        (λ seen. T.takes taker.old seen taker.new)) }
+    ensures unchanged { IsTrue D.told
+        → OnOk result (IsBeforeUnchanged (D.state disk.old).files pair.now) }
     ensures still { IsTrue D.told → Still (D.state disk.old) (D.state disk.new) }
     ensures cause { IsTrue D.told
         → HasCause (D.state disk.old).faults (D.state disk.new).faults result }
@@ -145,7 +186,9 @@ fn compare_before<D: ClosedDisk, T: TakeChange>(
 ) -> Result<(), ClosingStop>
     ensures taken { IsTrue D.told → OnOk result (Took
         (IsSince (kept_of (D.state disk.old).files) pair.now.closed (Some before.now))
-        (λ changes. T.takes taker.old changes taker.new)) }
+        (λ seen. T.takes taker.old seen taker.new)) }
+    ensures unchanged { IsTrue D.told
+        → OnOk result (IsUnchangedSince (D.state disk.old).files pair.now before.now.cycle) }
     ensures still { IsTrue D.told → Still (D.state disk.old) (D.state disk.new) }
     ensures cause { IsTrue D.told
         → HasCause (D.state disk.old).faults (D.state disk.new).faults result }
@@ -155,7 +198,7 @@ fn compare_before<D: ClosedDisk, T: TakeChange>(
 }
 
 /// The places that two reports left out.
-fn left_by_both(
+pub(crate) fn left_by_both(
     alloc: Global,
     now: &ClosedCycle,
     before: &ClosedCycle,
@@ -198,7 +241,9 @@ fn take_since_whole<D: ClosedDisk, T: TakeChange + Drop>(
 ) -> Result<T, ClosingStop>
     ensures taken { IsTrue D.told → IfOk result (λ after. Took
         (IsSinceWhole (kept_of (D.state disk.old).files) pair.now.closed pair.now.again.items
-        pair.now.whole) (λ changes. T.takes taker changes after)) }
+        pair.now.whole) (λ seen. T.takes taker seen after)) }
+    ensures unchanged { IsTrue D.told
+        → OnOk result (IsWholeUnchanged (D.state disk.old).files pair.now.whole) }
     ensures still { IsTrue D.told → Still (D.state disk.old) (D.state disk.new) }
     ensures cause { IsTrue D.told
         → HasCause (D.state disk.old).faults (D.state disk.new).faults result }
@@ -220,7 +265,9 @@ fn compare_whole<D: ClosedDisk, T: TakeChange + Drop>(
 ) -> Result<T, ClosingStop>
     ensures taken { IsTrue D.told → IfOk result (λ after. Took
         (IsSinceWhole (kept_of (D.state disk.old).files) pair.now.closed pair.now.again.items
-        (Some whole.now)) (λ changes. T.takes taker changes after)) }
+        (Some whole.now)) (λ seen. T.takes taker seen after)) }
+    ensures unchanged { IsTrue D.told → OnOk result
+        (is_unchanged (D.state disk.old).files whole.now.cycle ≡ true) }
     ensures still { IsTrue D.told → Still (D.state disk.old) (D.state disk.new) }
     ensures cause { IsTrue D.told
         → HasCause (D.state disk.old).faults (D.state disk.new).faults result }
@@ -240,16 +287,18 @@ fn compare_whole<D: ClosedDisk, T: TakeChange + Drop>(
 
 /// Takes which of the objects that must be there are missing.
 #[tactic(auto, using(crate::proofs::Findings::some_listed))]
-fn take_missing<D: SayChanges>(
+fn take_missing<D: ClosedDisk>(
     alloc: Global,
     disk: &mut D,
     pair: &Pair,
-    taking: &mut Taking<D::List, D::Words>,
+    taking: &mut Taking<'_, D::List>,
 ) -> Result<(), ClosingStop>
     ensures taken { IsTrue D.told → OnOk result (Took
         (IsMissing (kept_of (D.state disk.old).files) pair.now.closed
-        (D.state disk.old).files.listed) (λ changes.
-        ⟦<Taking<D::List, D::Words> as TakeChange>⟧.takes taking.old changes taking.new)) }
+        (D.state disk.old).files.listed) (λ seen. HasTaken
+        (stand_of (D.List.contents taking.old.list.out) taking.old.words taking.old.is_grave)
+        seen
+        (stand_of (D.List.contents taking.new.list.out) taking.new.words taking.new.is_grave))) }
     ensures still { IsTrue D.told → Still (D.state disk.old) (D.state disk.new) }
     ensures cause { IsTrue D.told
         → HasCause (D.state disk.old).faults (D.state disk.new).faults result }
@@ -262,24 +311,26 @@ fn take_missing<D: SayChanges>(
 
 /// Takes which of these objects are missing.
 #[tactic(auto, using(crate::proofs::Findings::missing_of))]
-fn take_missing_of<D: SayChanges>(
+fn take_missing_of<D: ClosedDisk>(
     alloc: Global,
     disk: &mut D,
     pair: &Pair,
     listed: Vec<Place>,
-    taking: &mut Taking<D::List, D::Words>,
+    taking: &mut Taking<'_, D::List>,
 ) -> Result<(), ClosingStop>
     ensures taken { IsTrue D.told → OnOk result (Took
         (IsMissing (kept_of (D.state disk.old).files) pair.now.closed (Some listed.items))
-        (λ changes.
-        ⟦<Taking<D::List, D::Words> as TakeChange>⟧.takes taking.old changes taking.new)) }
+        (λ seen. HasTaken
+        (stand_of (D.List.contents taking.old.list.out) taking.old.words taking.old.is_grave)
+        seen
+        (stand_of (D.List.contents taking.new.list.out) taking.new.words taking.new.is_grave))) }
     ensures still { IsTrue D.told → Still (D.state disk.old) (D.state disk.new) }
     ensures cause { IsTrue D.told
         → HasCause (D.state disk.old).faults (D.state disk.new).faults result }
 {
     let mut listed = listed;
     search(alloc, disk, pair, &mut listed, taking)?;
-    taking.words.see_listed(&listed);
+    taking.words.listed = count_places(&listed);
     Ok(())
 }
 
@@ -293,7 +344,7 @@ fn search<D: ClosedDisk, T: TakeChange>(
 ) -> Result<(), ClosingStop>
     ensures taken { IsTrue D.told → OnOk result (IsSearched pair.now.closed.left listed.old.items
         ((kept_of (D.state disk.old).files).reports pair.now.closed.cycle)
-        (λ changes. T.takes taker.old changes taker.new)) }
+        (λ seen. T.takes taker.old seen taker.new)) }
     ensures still { IsTrue D.told → Still (D.state disk.old) (D.state disk.new) }
     ensures cause { IsTrue D.told
         → HasCause (D.state disk.old).faults (D.state disk.new).faults result }
@@ -301,7 +352,7 @@ fn search<D: ClosedDisk, T: TakeChange>(
     let mut report = open_reader(disk, pair.closed.cycle(), false)?;
     match find_expected(alloc, listed, &mut report, pair.closed.left(), taker) {
         Ok(()) => Ok(()),
-        Err(stop) => Err(disk.refuse_search(pair, stop, report)),
+        Err(stop) => { Err(disk.refuse_search(pair.closed.cycle(), compared(pair), stop, report)) }
     }
 }
 
@@ -318,7 +369,9 @@ fn compare_with<D: ClosedDisk, T: TakeChange>(
     ensures taken { IsTrue D.told → OnOk result (IsCompared left.now
         ((kept_of (D.state disk.old).files).reports before)
         ((kept_of (D.state disk.old).files).reports pair.now.closed.cycle)
-        (λ changes. T.takes taker.old changes taker.new)) }
+        (λ seen. T.takes taker.old seen taker.new)) }
+    ensures unchanged { IsTrue D.told
+        → OnOk result (IsUnchangedSince (D.state disk.old).files pair.now before) }
     ensures still { IsTrue D.told → Still (D.state disk.old) (D.state disk.new) }
     ensures cause { IsTrue D.told
         → HasCause (D.state disk.old).faults (D.state disk.new).faults result }
@@ -332,7 +385,9 @@ fn compare_with<D: ClosedDisk, T: TakeChange>(
 }
 
 /// Whether the report before of a pair is that of a cycle.
-fn is_before(pair: &Pair, cycle: u64) -> bool {
+fn is_before(pair: &Pair, cycle: u64) -> bool
+    ensures { result ≡ is_before_by pair.now cycle }
+{
     match &pair.before {
         Some(before) => before.cycle() == cycle,
         None => false,
@@ -341,7 +396,7 @@ fn is_before(pair: &Pair, cycle: u64) -> bool {
 
 /// Opens the closed report of a cycle to read all of it: the whole one, if there is one. With
 /// `checks` it is compared with what was kept of its closing while it is read.
-fn open_reader<D: ClosedDisk>(
+pub(crate) fn open_reader<D: ClosedDisk>(
     disk: &mut D,
     cycle: u64,
     checks: bool,

@@ -2,6 +2,9 @@
 //! accounts, over the calls of the system that are made.
 #![tactic(auto)]
 
+mod account;
+mod accounting;
+mod back;
 mod disk;
 mod disk_closings;
 mod finding;
@@ -12,8 +15,9 @@ mod taking;
 mod within;
 mod words;
 
+pub use account::{Account, CycleMade, Paths, compared, compared_whole, count_of};
 pub use disk::ClosedDisk;
 pub use disk_closings::DiskClosings;
-pub use finding::find_changes;
+pub use finding::{Told, find_changes};
 pub use looking::look_at;
-pub use words::{SayChanges, Since, TakeWords};
+pub use words::SaidWith;

@@ -87,7 +87,7 @@ fn look_for_away<D: ClosedDisk>(
 
 /// The checkpoint with which the report of a cycle was closed. `None` if it was not kept, or what
 /// was kept is no checkpoint any more.
-fn read_kept<D: ClosedDisk>(
+pub(crate) fn read_kept<D: ClosedDisk>(
     alloc: Global,
     disk: &mut D,
     cycle: u64,

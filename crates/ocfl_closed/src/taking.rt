@@ -1,31 +1,34 @@
 //! Taking the changes of a closed cycle.
-ghost use Rattle.std.specs.Prelude.{◌≡◌, ◌||◌, []};
+ghost use Rattle.std.specs.Prelude.{◌≡◌, ◌||◌};
 ghost use Rattle.ocfl_compare.specs.Changes.{change_at};
-ghost use Rattle.ocfl_closed.specs.Taken.{HasTaken, is_news as is_news_by, stand};
-ghost use Rattle.ocfl_closed.specs.Internal.Takes.{takes_none, takes_then};
+ghost use Rattle.ocfl_words.specs.Counted.{is_news as is_news_by, noted};
+ghost use Rattle.ocfl_closed.specs.Taken.{HasTaken};
+ghost use Rattle.ocfl_closed.specs.Internal.{Stands.{stand_of}, Takes.{takes_none, takes_then}};
+ghost use Rattle.ocfl_tree.specs.Place.{Place as ModelPlace};
 
-use crate::words::TakeWords;
+use crate::words::Words;
 use ocfl_compare::{Change, GoneList, Side, TakeChange, TakeStop};
 use ocfl_report::Line;
 use ocfl_tree::Place;
 use std::io::Write;
 
-/// Takes changes: writes a row for each that makes something gone, hands each to what makes words of
-/// them, and notes whether one is new or gone.
+/// Takes changes: writes a row for each that makes something gone, counts and notes each, and notes
+/// whether one is new or gone.
 #[derive(Drop)]
-pub(crate) struct Taking<L: Write + Drop, W: TakeWords + Drop> {
+pub(crate) struct Taking<'n, L: Write + Drop> {
     pub(crate) list: GoneList<L>,
-    pub(crate) words: W,
+    pub(crate) words: Words<'n>,
     pub(crate) is_grave: bool,
 }
 
-impl<L: Write + Drop, W: TakeWords + Drop> TakeChange for Taking<L, W> {
-    ghost takes = { λ old changes new. HasTaken W.known
-        (stand (L.contents old.list.out) (W.taken old.words) old.is_grave) changes
-        (stand (L.contents new.list.out) (W.taken new.words) new.is_grave) };
+impl<L: Write + Drop> TakeChange for Taking<'_, L> {
+    ghost takes = { λ old seen new. HasTaken
+        (stand_of (L.contents old.list.out) old.words old.is_grave) seen
+        (stand_of (L.contents new.list.out) new.words new.is_grave) };
 
     fn see(&mut self, side: Side, line: &Line) -> Result<(), TakeStop> {
-        self.words.see(side, line)
+        self.words.see(side, line)?;
+        Ok(())
     }
 
     fn take(&mut self, place: &Place, change: Change) -> Result<(), TakeStop> {
@@ -35,18 +38,17 @@ impl<L: Write + Drop, W: TakeWords + Drop> TakeChange for Taking<L, W> {
         Ok(())
     }
 
-    ghost nothing = { λ t. takes_none W.known
-        (stand (L.contents t.list.out) (W.taken t.words) t.is_grave) };
+    ghost nothing = { λ t. takes_none (stand_of (L.contents t.list.out) t.words t.is_grave) };
 
-    ghost joined = { λ t u v first then p q. takes_then W.known
-        (stand (L.contents t.list.out) (W.taken t.words) t.is_grave)
-        (stand (L.contents u.list.out) (W.taken u.words) u.is_grave)
-        (stand (L.contents v.list.out) (W.taken v.words) v.is_grave) first then p q };
+    ghost joined = { λ t u v first then p q. takes_then
+        (stand_of (L.contents t.list.out) t.words t.is_grave)
+        (stand_of (L.contents u.list.out) u.words u.is_grave)
+        (stand_of (L.contents v.list.out) v.words v.is_grave) first then p q };
 }
 
 /// Whether something is gone by a change, or a finding is new that is not known.
 fn is_news(change: Change, is_known: bool) -> bool
-    ensures { result ≡ is_news_by (λ c. is_known) (change_at [] change) }
+    ensures { (p : ModelPlace) → result ≡ is_news_by (noted (change_at p change) is_known) }
 {
     match change {
         Change::Gone | Change::Undeclared | Change::FileGone | Change::Missing => true,

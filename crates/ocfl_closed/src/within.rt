@@ -1,7 +1,7 @@
 //! Taking the changes of some places alone.
-ghost use Rattle.std.specs.Prelude.{◌≡◌, filter, refl};
+ghost use Rattle.std.specs.Prelude.{◌≡◌, refl};
 ghost use Rattle.ocfl_compare.specs.Changes.{is_left};
-ghost use Rattle.ocfl_closed.specs.Internal.Takes.{within_then};
+ghost use Rattle.ocfl_closed.specs.Internal.Takes.{within, within_then};
 
 use ocfl_compare::{Change, Side, TakeChange, TakeStop};
 use ocfl_report::Line;
@@ -15,8 +15,8 @@ pub(crate) struct Within<T: TakeChange + Drop> {
 }
 
 impl<T: TakeChange + Drop> TakeChange for Within<T> {
-    ghost takes = { λ old changes new. (new.places.items ≡ old.places.items)
-        × T.takes old.taker (filter (λ c. is_left old.places.items c.place) changes) new.taker };
+    ghost takes = { λ old seen new. (new.places.items ≡ old.places.items)
+        × T.takes old.taker (within old.places.items seen) new.taker };
 
     fn see(&mut self, side: Side, line: &Line) -> Result<(), TakeStop> {
         self.taker.see(side, line)

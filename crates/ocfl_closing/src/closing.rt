@@ -5,11 +5,14 @@
 
 ghost use Rattle.std.proofs.lemmas.Bool.{false≢true};
 
-use crate::account::{Account, Paths, compared, compared_whole, paths_of, text_of};
-use crate::comparing::{checked_reader, gone_report, refuse_changed_pair, refuse_read, uncompared};
-use crate::words::{Words, account_of};
+use crate::comparing::{
+    checked_reader, gone_report, refuse_changed_pair, refuse_read, uncompared, uncounted,
+};
+use crate::naming::paths_of;
 use ocfl_accounts::{ClosingStop, Pair, find_unsaid, say_cycles};
-use ocfl_closed::{ClosedDisk, DiskClosings, SayChanges};
+use ocfl_closed::{
+    Account, ClosedDisk, DiskClosings, Paths, SaidWith, compared, compared_whole, count_of,
+};
 use ocfl_compare::CompareStop;
 use ocfl_disk::StateFile;
 use ocfl_files::failing::{Failure, say_failure};
@@ -28,8 +31,7 @@ use ocfl_say::Speaking;
 use ocfl_tree::Place;
 use std::alloc::{AllocError, Global};
 use std::fs::File;
-use std::io::{self, BufReader, Write};
-use std::mem;
+use std::io::{self, BufReader, ErrorKind, Write};
 use std::os::unix::fs::FileExt;
 use std::time::Clock;
 
@@ -39,8 +41,8 @@ fn closing_line(
     time: u64,
     night: u64,
     pair: &Pair,
-    paths: &Paths,
     account: &Account,
+    list: &str,
 ) -> Result<String, AllocError> {
     let changes = &account.changes;
     let (compared, made) = (compared(pair), account.made);
@@ -48,7 +50,7 @@ fn closing_line(
         time,
         night,
         cycle: pair.closed.cycle(),
-        report: paths.report.as_str(),
+        report: account.paths.report.as_str(),
         whole: pair.closed.is_whole(),
         findings: account.findings.count,
         lines: made.lines,
@@ -62,18 +64,18 @@ fn closing_line(
         } else {
             ""
         },
-        appeared: account.appeared(),
-        known: account.known(),
+        appeared: changes.appeared_count,
+        known: changes.known_count,
         repaired: changes.repaired_count,
-        back: account.back_count(),
+        back: count_of(&account.back),
         gone: changes.gone_count(),
         objects: changes.objects.count,
         files: changes.files.count,
         unlooked: changes.unlooked,
         expected: changes.expected.count,
         listed: account.listed,
-        list: account.list.as_str(),
-        left: u64::try_from(pair.closed.left().len()).unwrap_or(u64::MAX),
+        list,
+        left: count_of(pair.closed.left()),
     };
     log_line(alloc, &LogRow::Closing(row))
 }
@@ -107,15 +109,26 @@ pub struct ToldBy<'n> {
     pub closed: u64,
 }
 
-impl ToldBy<'_> {
+impl<'n> ToldBy<'n> {
+    /// What is said is made with this.
+    fn with(&self) -> SaidWith<'n> {
+        SaidWith {
+            root: self.about.names.root,
+            state: self.about.names.state,
+            is_part: self.about.names.part.is_some(),
+            known: self.about.known,
+            said: self.said,
+        }
+    }
+
     /// Appends a line on the closing to the log.
     fn log_closing<R: Room + Clock, F: Folder>(
         &self,
         rt: &R,
         folder: &mut F,
         pair: &Pair,
-        paths: &Paths,
         account: &Account,
+        list: &str,
     ) -> Result<(), Failure> {
         let alloc = rt.global();
         let line = closing_line(
@@ -123,8 +136,8 @@ impl ToldBy<'_> {
             seconds_now(rt),
             self.about.began,
             pair,
-            paths,
             account,
+            list,
         )?;
         match folder.add_to_log(line.as_bytes()) {
             Ok(()) => Ok(()),
@@ -162,13 +175,6 @@ fn sync_opened<R: Room>(rt: &R, path: &str) -> io::Result<()> {
     opened.sync_all()
 }
 
-/// What was found of a cycle, and is not put yet.
-#[derive(Drop)]
-struct Pending {
-    paths: Paths,
-    account: Account,
-}
-
 /// The closed reports of a state folder, and what its closings are told with.
 struct Telling<'t, 'n, R, F> {
     rt: &'t R,
@@ -178,8 +184,6 @@ struct Telling<'t, 'n, R, F> {
     new_list: Option<String>,
     /// The digest of the bytes of the list of the objects that must be there; empty if none was read.
     listed: String,
-    /// What was found last.
-    pending: Option<Pending>,
     /// Why the last call failed that did.
     failure: Option<Failure>,
 }
@@ -193,13 +197,12 @@ impl<R, F> Drop for Telling<'_, '_, R, F> {
             told: _told,
             new_list: _new_list,
             listed: _listed,
-            pending: _pending,
             failure: _failure,
         } = self;
     }
 }
 
-impl<'n, R: Room + Clock, F: Folder> Telling<'_, 'n, R, F> {
+impl<R: Room + Clock, F: Folder> Telling<'_, '_, R, F> {
     /// Keeps why a call failed.
     fn keep<T>(&mut self, answer: Result<T, Failure>) -> Result<T, ClosingStop> {
         match answer {
@@ -242,15 +245,14 @@ impl<'n, R: Room + Clock, F: Folder> Telling<'_, 'n, R, F> {
         Ok(Some(places))
     }
 
-    /// The text that is said of a closed cycle.
-    fn say_found(&mut self, pair: &Pair, words: Words<'n>) -> Result<Vec<u8>, Failure> {
-        let (alloc, names) = (self.rt.global(), self.told.about.names);
-        let mut account = account_of(self.rt, self.folder, names.state, pair, words)?;
-        account.list = mem::replace(&mut self.listed, String::new(alloc));
-        let paths = paths_of(alloc, names.state, pair)?;
-        let text = text_of(alloc, names, pair, &paths, &account)?;
-        self.pending = Some(Pending { paths, account });
-        Ok(text)
+    /// Opens the list of what is gone at the end of a cycle.
+    fn open_rows(&self, cycle: u64) -> io::Result<Option<BufReader<File>>> {
+        let alloc = self.rt.global();
+        let path = list_path(alloc, self.told.about.names.state, cycle)?;
+        match self.rt.find_file(path.as_str())? {
+            Some(list) => Ok(Some(BufReader::new(alloc, list)?)),
+            None => Ok(None),
+        }
     }
 
     /// Opens a closed report to read all of it.
@@ -304,15 +306,6 @@ impl<'n, R: Room + Clock, F: Folder> Telling<'_, 'n, R, F> {
         sync_at(self.rt, folder.as_str())
     }
 
-    /// Logs what was found last.
-    fn log_pending(&mut self, pair: &Pair) -> Result<(), Failure> {
-        let Some(Pending { paths, account }) = self.pending.take() else {
-            return Ok(());
-        };
-        self.told
-            .log_closing(self.rt, self.folder, pair, &paths, &account)
-    }
-
     /// Why a closing was not said.
     fn failure_of(&mut self, stop: ClosingStop) -> Failure {
         let alloc = self.rt.global();
@@ -330,6 +323,8 @@ impl<R: Room + Clock + Eprint, F: Folder> ClosedDisk for Telling<'_, '_, R, F> {
     type Reader = BufReader<Checking>;
 
     type List = File;
+
+    type Rows = BufReader<File>;
 
     ghost short = { λ told report. absurd (false≢true told) };
 
@@ -373,6 +368,21 @@ impl<R: Room + Clock + Eprint, F: Folder> ClosedDisk for Telling<'_, '_, R, F> {
         self.keep(found)
     }
 
+    fn open_list(&mut self, cycle: u64) -> Result<Option<BufReader<File>>, ClosingStop> {
+        match self.open_rows(cycle) {
+            Ok(found) => Ok(found),
+            Err(error) if error.kind() == ErrorKind::OutOfMemory => Err(ClosingStop::Memory),
+            Err(_) => Err(ClosingStop::Failed),
+        }
+    }
+
+    fn find_paths(&mut self, pair: &Pair) -> Result<Paths, ClosingStop> {
+        match paths_of(self.rt.global(), self.told.about.names.state, pair) {
+            Ok(paths) => Ok(paths),
+            Err(_) => Err(ClosingStop::Memory),
+        }
+    }
+
     fn miss_report(&mut self, cycle: u64) -> ClosingStop {
         let state = self.told.about.names.state;
         self.failure = Some(gone_report(self.rt.global(), state, cycle));
@@ -412,12 +422,19 @@ impl<R: Room + Clock + Eprint, F: Folder> ClosedDisk for Telling<'_, '_, R, F> {
 
     fn refuse_search(
         &mut self,
-        pair: &Pair,
+        cycle: u64,
+        before: u64,
         stop: CompareStop,
         report: BufReader<Checking>,
     ) -> ClosingStop {
-        let (cycle, error) = (pair.closed.cycle(), report.get_ref().error());
-        self.failure = Some(uncompared(self.rt.global(), cycle, compared(pair), stop, error));
+        let error = report.get_ref().error();
+        self.failure = Some(uncompared(self.rt.global(), cycle, before, stop, error));
+        ClosingStop::Failed
+    }
+
+    fn refuse_lines(&mut self, cycle: u64, error: io::Error) -> ClosingStop {
+        let state = self.told.about.names.state;
+        self.failure = Some(uncounted(self.rt.global(), state, cycle, error));
         ClosingStop::Failed
     }
 
@@ -475,28 +492,17 @@ impl<R: Room + Clock + Eprint, F: Folder> ClosedDisk for Telling<'_, '_, R, F> {
         }
     }
 
-    fn log(&mut self, pair: &Pair) -> Result<(), ClosingStop> {
-        let logged = self.log_pending(pair);
+    fn log(&mut self, pair: &Pair, account: &Account) -> Result<(), ClosingStop> {
+        let list = self.listed.as_str();
+        let logged = self
+            .told
+            .log_closing(self.rt, self.folder, pair, account, list);
         self.keep(logged)
     }
 
     fn fail(&mut self, stop: ClosingStop) {
         let failure = self.failure_of(stop);
         let _ = say_failure(self.rt, &failure);
-    }
-}
-
-impl<'n, R: Room + Clock + Eprint, F: Folder> SayChanges for Telling<'_, 'n, R, F> {
-    type Words = Words<'n>;
-
-    fn begin_words(&mut self, pair: &Pair) -> Result<Words<'n>, ClosingStop> {
-        let told = self.told;
-        Ok(Words::new(self.rt.global(), told.about, told.said, pair))
-    }
-
-    fn end_words(&mut self, pair: &Pair, words: Words<'n>) -> Result<Vec<u8>, ClosingStop> {
-        let said = self.say_found(pair, words);
-        self.keep(said)
     }
 }
 
@@ -515,10 +521,9 @@ where
         told,
         new_list: None,
         listed: String::new(rt.global()),
-        pending: None,
         failure: None,
     };
-    let mut closings = DiskClosings::over(rt.global(), telling, told.closed);
+    let mut closings = DiskClosings::over(rt.global(), telling, told.with(), told.closed);
     let mut first = told.before;
     // A cycle that could not be looked at is the first: then it is said, or why it is not.
     let _ = find_unsaid(&mut closings, &mut first);

@@ -34,19 +34,6 @@ impl Listed {
     }
 }
 
-/// How many objects a list has that is sorted: one that is there twice counts once.
-pub fn count_places(places: &[Place]) -> u64 {
-    let mut count: u64 = 0;
-    let mut last: Option<&Place> = None;
-    for place in places {
-        if last != Some(place) {
-            count = count.saturating_add(1);
-        }
-        last = Some(place);
-    }
-    count
-}
-
 /// Why the objects that must be there are not known: the reader's words if it failed.
 fn why_unlisted(
     alloc: Global,

@@ -32,6 +32,8 @@ mod speaking;
 mod split;
 mod state;
 mod status;
+mod tasks;
 mod telling;
 mod tree;
 mod walk;
+mod words;

@@ -3,15 +3,15 @@ ghost use Rattle.std.proofs.lemmas.Bool.{false≢true};
 
 use crate::tests::common::store::place_of;
 use ocfl_accounts::{ClosedCycle, ClosingStop, Closings, Look, Pair};
-use ocfl_closed::{ClosedDisk, DiskClosings, SayChanges, Since, TakeWords, look_at};
-use ocfl_compare::{Change, CompareStop, Side, TakeStop};
+use ocfl_closed::{Account, ClosedDisk, DiskClosings, Paths, SaidWith, look_at};
+use ocfl_compare::CompareStop;
 use ocfl_cursor::{Cursor as AuditCursor, State};
-use ocfl_report::Line;
+use ocfl_messages::Known;
 use ocfl_state::{Checkpoint, Left, Phase, ReportMark, RootIdentity, TopNames, encode_checkpoint};
 use ocfl_tree::Place;
 use sha2::{Digest, Sha256};
 use std::alloc::Global;
-use std::io::Cursor;
+use std::io::{self, Cursor};
 use std::test::Fail;
 
 /// The report of a cycle.
@@ -75,6 +75,8 @@ impl ClosedDisk for OneCycle {
 
     type List = Vec<u8>;
 
+    type Rows = Cursor<Vec<u8>>;
+
     ghost short = { λ told report. absurd (false≢true told) };
 
     ghost is_disk = { λ told disk. absurd (false≢true told) };
@@ -107,14 +109,16 @@ impl ClosedDisk for OneCycle {
         Ok(count)
     }
 
-    /// No report is read as a whole.
     fn open_reader(
         &mut self,
-        _cycle: u64,
-        _whole: bool,
+        cycle: u64,
+        whole: bool,
         _checks: bool,
     ) -> Result<Option<Cursor<Vec<u8>>>, ClosingStop> {
-        Ok(None)
+        match self.open_report(cycle, whole)? {
+            Some(report) => Ok(Some(Cursor::new(report))),
+            None => Ok(None),
+        }
     }
 
     fn miss_report(&mut self, _cycle: u64) -> ClosingStop {
@@ -142,9 +146,26 @@ impl ClosedDisk for OneCycle {
         ClosingStop::Failed
     }
 
+    fn open_list(&mut self, _cycle: u64) -> Result<Option<Cursor<Vec<u8>>>, ClosingStop> {
+        Ok(None)
+    }
+
+    fn find_paths(&mut self, _pair: &Pair) -> Result<Paths, ClosingStop> {
+        Ok(Paths {
+            report: String::new(self.alloc),
+            earlier: String::new(self.alloc),
+            list: String::new(self.alloc),
+        })
+    }
+
+    fn refuse_lines(&mut self, _cycle: u64, _error: io::Error) -> ClosingStop {
+        ClosingStop::Failed
+    }
+
     fn refuse_search(
         &mut self,
-        _pair: &Pair,
+        _cycle: u64,
+        _before: u64,
         _stop: CompareStop,
         _report: Cursor<Vec<u8>>,
     ) -> ClosingStop {
@@ -156,6 +177,7 @@ impl ClosedDisk for OneCycle {
     }
 
     fn make_list(&mut self, _cycle: u64) -> Result<Vec<u8>, ClosingStop> {
+        self.note("find;")?;
         Ok(Vec::new(self.alloc))
     }
 
@@ -197,43 +219,12 @@ impl ClosedDisk for OneCycle {
         let _ = self.note("remove;");
     }
 
-    fn log(&mut self, _pair: &Pair) -> Result<(), ClosingStop> {
+    fn log(&mut self, _pair: &Pair, _account: &Account) -> Result<(), ClosingStop> {
         self.note("log;")
     }
 
     fn fail(&mut self, _stop: ClosingStop) {
         let _ = self.note("fail;");
-    }
-}
-
-/// Makes no words.
-#[derive(Drop)]
-struct NoWords;
-
-impl TakeWords for NoWords {
-    fn turn(&mut self, _to: Since) {}
-
-    fn see(&mut self, _side: Side, _line: &Line) -> Result<(), TakeStop> {
-        Ok(())
-    }
-
-    fn see_listed(&mut self, _places: &[Place]) {}
-
-    fn take(&mut self, _place: &Place, _change: Change) -> Result<bool, TakeStop> {
-        Ok(false)
-    }
-}
-
-impl SayChanges for OneCycle {
-    type Words = NoWords;
-
-    fn begin_words(&mut self, _pair: &Pair) -> Result<NoWords, ClosingStop> {
-        self.note("find;")?;
-        Ok(NoWords)
-    }
-
-    fn end_words(&mut self, _pair: &Pair, _words: NoWords) -> Result<Vec<u8>, ClosingStop> {
-        Ok(Vec::new(self.alloc))
     }
 }
 
@@ -390,7 +381,8 @@ fn a_cycle_is_seen_by_its_files(rt: HostRuntime) -> Result<(), Fail> {
         disk.kept = bytes_of(alloc, *kept)?;
         let look = look_at(alloc, &mut disk, 3)?;
         assert_eq!(rt; seen(look), (*sight, *left), "{index}");
-        let mut closings = DiskClosings::over(alloc, disk, 0);
+        let known = Known::new(alloc);
+        let mut closings = DiskClosings::over(alloc, disk, with(&known), 0);
         assert_eq!(rt; seen(closings.look(3)?), (*sight, *left), "{index}");
     }
     Ok(())
@@ -408,13 +400,24 @@ fn pair_of(alloc: Global, cycle: u64) -> Pair {
     }
 }
 
-/// The calls that were made if that one of them fails.
+/// What is said is made with this.
+fn with(known: &Known) -> SaidWith<'_> {
+    SaidWith {
+        root: "/r",
+        state: "/s",
+        is_part: false,
+        known,
+        said: &[],
+    }
+}
+
+/// The calls that were made once something was found, and that one of them fails.
 const PUT: [&str; 5] = [
-    "sync;rename;sync folder;log;",
-    "sync;",
-    "sync;rename;",
-    "sync;rename;sync folder;",
-    "sync;rename;sync folder;log;",
+    "find;sync;rename;sync folder;log;",
+    "find;sync;",
+    "find;sync;rename;",
+    "find;sync;rename;sync folder;",
+    "find;sync;rename;sync folder;log;",
 ];
 
 #[test]
@@ -422,8 +425,11 @@ fn a_list_is_on_the_disk_before_it_has_its_name(rt: HostRuntime) -> Result<(), F
     let alloc = rt.alloc();
     for (fails, calls) in PUT.iter().enumerate() {
         let mut disk = OneCycle::new(alloc);
-        disk.fails = fails;
-        let mut closings = DiskClosings::over(alloc, disk, 3);
+        disk.whole = true;
+        disk.fails = if fails > 0 { fails + 1 } else { 0 };
+        let known = Known::new(alloc);
+        let mut closings = DiskClosings::over(alloc, disk, with(&known), 3);
+        closings.find(&pair_of(alloc, 3))?;
         let put = closings.put(&pair_of(alloc, 3));
         assert_eq!(rt; put.is_ok(), fails == 0, "{fails}");
         assert_eq!(rt; closings.disk.calls.as_str(), *calls, "{fails}");
@@ -434,16 +440,19 @@ fn a_list_is_on_the_disk_before_it_has_its_name(rt: HostRuntime) -> Result<(), F
 #[test]
 fn a_list_that_is_not_put_is_removed(rt: HostRuntime) -> Result<(), Fail> {
     let alloc = rt.alloc();
-    for (closed, calls) in [(3, "remove;log;"), (2, "remove;")] {
-        let mut closings = DiskClosings::over(alloc, OneCycle::new(alloc), closed);
+    for (closed, calls) in [(3, "find;remove;log;"), (2, "find;remove;")] {
+        let mut disk = OneCycle::new(alloc);
+        disk.whole = true;
+        let known = Known::new(alloc);
+        let mut closings = DiskClosings::over(alloc, disk, with(&known), closed);
         assert_eq!(rt; closings.has_account(3), Ok(false));
         assert_eq!(rt; closings.has_account(2), Ok(true));
-        closings.drop_found(&pair_of(alloc, 3))?;
-        assert_eq!(rt; closings.disk.calls.as_str(), calls);
         let found = closings.find(&pair_of(alloc, 3))?;
         assert!(rt; !found.is_grave);
+        closings.drop_found(&pair_of(alloc, 3))?;
+        assert_eq!(rt; closings.disk.calls.as_str(), calls);
         closings.fail(ClosingStop::Failed);
-        assert!(rt; closings.disk.calls.as_str().ends_with("find;fail;"));
+        assert!(rt; closings.disk.calls.as_str().ends_with("fail;"));
     }
     Ok(())
 }

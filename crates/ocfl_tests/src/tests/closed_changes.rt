@@ -2,13 +2,14 @@
 ghost use Rattle.std.proofs.lemmas.Bool.{false≢true};
 
 use crate::tests::common::store::place_of;
-use ocfl_accounts::{ClosedCycle, ClosingStop, Found, Pair};
-use ocfl_closed::{ClosedDisk, SayChanges, Since, TakeWords, find_changes};
-use ocfl_compare::{Change, CompareStop, Side, TakeStop};
-use ocfl_report::{DisplayPlace, Line, read_place};
+use ocfl_accounts::{ClosedCycle, ClosingStop, Pair};
+use ocfl_closed::{Account, ClosedDisk, Paths, SaidWith, Told, find_changes};
+use ocfl_compare::CompareStop;
+use ocfl_messages::{Known, KnownEntry, Reach};
+use ocfl_report::{Code, Line, read_place};
 use ocfl_tree::Place;
 use std::alloc::{AllocError, Global};
-use std::io::Cursor;
+use std::io::{self, Cursor};
 use std::test::Fail;
 
 /// The reports of cycles: the cycle, whether the report is whole, and its lines.
@@ -19,8 +20,8 @@ struct ReportsOn {
     alloc: Global,
     reports: Reports,
     listed: Option<&'static [&'static str]>,
-    /// The place at which a finding is known.
-    known: &'static str,
+    /// The list of what is gone at the end of cycle 1.
+    rows: &'static str,
     /// What was called.
     calls: String,
     list: Vec<u8>,
@@ -32,7 +33,7 @@ impl Drop for ReportsOn {
             alloc: _alloc,
             reports: _reports,
             listed: _listed,
-            known: _known,
+            rows: _rows,
             calls: _calls,
             list: _list,
         } = self;
@@ -72,12 +73,30 @@ impl ClosedDisk for ReportsOn {
 
     type List = Vec<u8>;
 
+    type Rows = Cursor<Vec<u8>>;
+
     ghost short = { λ told report. absurd (false≢true told) };
 
     ghost is_disk = { λ told disk. absurd (false≢true told) };
 
     fn has_list(&mut self, _cycle: u64) -> Result<bool, ClosingStop> {
         Ok(false)
+    }
+
+    fn open_list(&mut self, cycle: u64) -> Result<Option<Cursor<Vec<u8>>>, ClosingStop> {
+        if cycle != 1 {
+            return Ok(None);
+        }
+        let bytes = kept(Vec::from_slice(self.alloc, self.rows.as_bytes()))?;
+        Ok(Some(Cursor::new(bytes)))
+    }
+
+    fn find_paths(&mut self, _pair: &Pair) -> Result<Paths, ClosingStop> {
+        Ok(Paths {
+            report: kept(String::from_str(self.alloc, "/s/now"))?,
+            earlier: kept(String::from_str(self.alloc, "/s/before"))?,
+            list: kept(String::from_str(self.alloc, "/s/gone"))?,
+        })
     }
 
     fn open_report(&mut self, _cycle: u64, _whole: bool) -> Result<Option<()>, ClosingStop> {
@@ -136,11 +155,16 @@ impl ClosedDisk for ReportsOn {
 
     fn refuse_search(
         &mut self,
-        _pair: &Pair,
+        _cycle: u64,
+        _before: u64,
         stop: CompareStop,
         _report: Cursor<Vec<u8>>,
     ) -> ClosingStop {
         self.note(format!(in self.alloc; "{stop};"))
+    }
+
+    fn refuse_lines(&mut self, cycle: u64, error: io::Error) -> ClosingStop {
+        self.note(format!(in self.alloc; "{cycle}: {error};"))
     }
 
     fn read_listed(&mut self) -> Result<Option<Vec<Place>>, ClosingStop> {
@@ -192,77 +216,11 @@ impl ClosedDisk for ReportsOn {
 
     fn remove_list(&mut self) {}
 
-    fn log(&mut self, _pair: &Pair) -> Result<(), ClosingStop> {
+    fn log(&mut self, _pair: &Pair, _account: &Account) -> Result<(), ClosingStop> {
         Ok(())
     }
 
     fn fail(&mut self, _stop: ClosingStop) {}
-}
-
-/// The places of the changes, and how many lines were seen and objects must be there.
-struct Said {
-    alloc: Global,
-    known: &'static str,
-    text: String,
-    lines: usize,
-}
-
-impl Drop for Said {
-    fn drop(self) {
-        let Said {
-            alloc: _alloc,
-            known: _known,
-            text: _text,
-            lines: _lines,
-        } = self;
-    }
-}
-
-impl TakeWords for Said {
-    fn turn(&mut self, to: Since) {
-        let _ = self.text.push_str(match to {
-            Since::Before => "before:",
-            Since::Whole => " whole:",
-            Since::List => " list:",
-        });
-    }
-
-    fn see(&mut self, _side: Side, _line: &Line) -> Result<(), TakeStop> {
-        self.lines += 1;
-        Ok(())
-    }
-
-    fn see_listed(&mut self, places: &[Place]) {
-        self.lines += 100 * places.len();
-    }
-
-    fn take(&mut self, place: &Place, change: Change) -> Result<bool, TakeStop> {
-        let row = format!(in self.alloc; " {}", DisplayPlace(place))?;
-        self.text.push_str(row.as_str())?;
-        let Ok(known) = read_place(self.alloc, self.known.as_bytes()) else {
-            return Err(TakeStop::Failed);
-        };
-        Ok(matches!(change, Change::Found(_)) && *place == known)
-    }
-}
-
-impl SayChanges for ReportsOn {
-    type Words = Said;
-
-    fn begin_words(&mut self, _pair: &Pair) -> Result<Said, ClosingStop> {
-        Ok(Said {
-            alloc: self.alloc,
-            known: self.known,
-            text: String::new(self.alloc),
-            lines: 0,
-        })
-    }
-
-    fn end_words(&mut self, _pair: &Pair, words: Said) -> Result<Vec<u8>, ClosingStop> {
-        let (text, lines) = (words.text.as_str(), words.lines);
-        let said = kept(format!(in self.alloc; "{text} ({lines})"))?;
-        kept(Vec::from_slice(self.alloc, said.as_bytes()))
-    }
 }
 
 /// The left places of a cycle, and the places again, as a pair has them.
@@ -330,166 +288,241 @@ const ONE: &str = "ok\t.\t-\nok\tp\t-\n";
 /// That with a finding at `q`.
 const FOUND: &str = "ok\t.\t-\nok\to\t-\nok\tp\t-\nok\tp/v1/content/a\t0\nE101\tq\tx\n";
 
-/// Which reports there are, which objects must be there, the place at which findings are known and
-/// what is compared; and the calls, the list, the words and whether something is grave.
-type Row = (
-    Reports,
-    Option<&'static [&'static str]>,
-    &'static str,
-    Compared,
-    [&'static str; 3],
-    bool,
-);
+/// A closed cycle: which reports there are, which objects must be there, the list of what is gone at
+/// the end of cycle 1, the place at which findings of E101 are known, and what is compared; and the
+/// calls, the list, how the text begins and whether something is grave.
+#[derive(Drop)]
+struct Row {
+    reports: Reports,
+    listed: Option<&'static [&'static str]>,
+    rows: &'static str,
+    known: &'static str,
+    compared: Compared,
+    calls: &'static str,
+    list: &'static str,
+    text: &'static str,
+    is_grave: bool,
+}
 
-const ROWS: [Row; 9] = [
-    (
-        &[(2, true, THREE), (3, true, ONE)],
-        None,
-        "z",
-        SINCE_2,
-        [
-            "list 3;checked 2;checked 3;since 2;",
-            "object\to\nfile\tp/v1/content/a\nobject\tq\n",
-            "before: o p/v1/content/a q whole: list: (7)",
-        ],
-        true,
-    ),
-    (
-        &[
+const ROWS: [Row; 11] = [
+    Row {
+        reports: &[(2, true, THREE), (3, true, ONE)],
+        listed: None,
+        rows: "",
+        known: "z",
+        compared: SINCE_2,
+        calls: "list 3;checked 2;checked 3;since 2;",
+        list: "object\to\nfile\tp/v1/content/a\nobject\tq\n",
+        text: "Cycle 3 ended: 0 of 0 files right, 1 object, 0 bytes.\n\
+               Nothing new, 3 objects and files gone since cycle 2.\n\
+               3 objects and files are gone or missing in cycle 3:\n\
+               object\to\nobject\tq\nfile\tp/v1/content/a\n",
+        is_grave: true,
+    },
+    Row {
+        reports: &[
             (2, true, THREE),
             (2, false, ONE),
             (3, true, ONE),
             (3, false, THREE),
         ],
-        None,
-        "z",
-        SINCE_2,
-        [
-            "list 3;checked 2;checked 3;since 2;",
-            "object\to\nfile\tp/v1/content/a\nobject\tq\n",
-            "before: o p/v1/content/a q whole: list: (7)",
-        ],
-        true,
-    ),
-    (
-        &[(2, true, THREE), (3, true, FOUND)],
-        None,
-        "q",
-        SINCE_2,
-        [
-            "list 3;checked 2;checked 3;since 2;",
-            "",
-            "before: q whole: list: (10)",
-        ],
-        false,
-    ),
-    (
-        &[(2, true, THREE), (3, true, FOUND)],
-        None,
-        "p",
-        SINCE_2,
-        [
-            "list 3;checked 2;checked 3;since 2;",
-            "",
-            "before: q whole: list: (10)",
-        ],
-        true,
-    ),
-    (
-        &[(2, false, THREE), (3, false, ONE)],
-        None,
-        "z",
-        Compared {
+        listed: None,
+        rows: "",
+        known: "z",
+        compared: SINCE_2,
+        calls: "list 3;checked 2;checked 3;since 2;",
+        list: "object\to\nfile\tp/v1/content/a\nobject\tq\n",
+        text: "Cycle 3 ended: 0 of 0 files right, 1 object, 0 bytes.\n\
+               Nothing new, 3 objects and files gone since cycle 2.\n\
+               3 objects and files are gone or missing in cycle 3:\n\
+               object\to\nobject\tq\nfile\tp/v1/content/a\n",
+        is_grave: true,
+    },
+    Row {
+        reports: &[(2, true, THREE), (3, true, FOUND)],
+        listed: None,
+        rows: "",
+        known: "q",
+        compared: SINCE_2,
+        calls: "list 3;checked 2;checked 3;since 2;",
+        list: "",
+        text: "Cycle 3 ended: 1 of 1 file right, 3 objects, 0 bytes.\n\
+               Nothing new, nothing gone since cycle 2.\n",
+        is_grave: false,
+    },
+    Row {
+        reports: &[(2, true, THREE), (3, true, FOUND)],
+        listed: None,
+        rows: "",
+        known: "p",
+        compared: SINCE_2,
+        calls: "list 3;checked 2;checked 3;since 2;",
+        list: "",
+        text: "Cycle 3 ended: 1 of 1 file right, 3 objects, 0 bytes.\n\
+               1 new finding, nothing gone since cycle 2.\n\
+               1 finding of cycle 3 is new since cycle 2:\n",
+        is_grave: true,
+    },
+    Row {
+        reports: &[(2, true, FOUND), (3, true, THREE)],
+        listed: None,
+        rows: "",
+        known: "p",
+        compared: SINCE_2,
+        calls: "list 3;checked 2;checked 3;since 2;",
+        list: "",
+        text: "Cycle 3 ended: 1 of 1 file right, 3 objects, 0 bytes.\n\
+               Nothing new, nothing gone since cycle 2.\n\
+               1 finding of cycle 2 is repaired in cycle 3:\n",
+        is_grave: false,
+    },
+    Row {
+        reports: &[(2, true, ONE), (3, true, THREE)],
+        listed: None,
+        rows: "object\to\nfile\tp/v1/content/a\nundeclared\tq\nobject\tr\n",
+        known: "p",
+        compared: SINCE_2,
+        calls: "list 3;checked 2;checked 3;since 2;2;3;",
+        list: "",
+        text: "Cycle 3 ended: 1 of 1 file right, 3 objects, 0 bytes.\n\
+               Nothing new, nothing gone since cycle 2.\n\
+               2 objects are back in cycle 3:\nobject\to\nobject\tq\n",
+        is_grave: false,
+    },
+    Row {
+        reports: &[(2, false, THREE), (3, false, ONE)],
+        listed: None,
+        rows: "",
+        known: "z",
+        compared: Compared {
             left: &["p"],
             before: 2,
             left_before: &["q"],
             whole: 0,
             lost: false,
         },
-        [
-            "list 3;checked 2;checked 3;since 2;",
-            "object\to\n",
-            "before: o whole: list: (7)",
-        ],
-        true,
-    ),
-    (
-        &[
+        calls: "list 3;checked 2;checked 3;since 2;",
+        list: "object\to\n",
+        text: "Cycle 3 ended, but its report is incomplete: /s/now\n\
+               In it: 0 of 0 files right, 1 object, 0 bytes.\n\
+               Nothing new, 1 object or file gone since cycle 2.\n\
+               1 object or file is gone or missing in cycle 3:\nobject\to\n",
+        is_grave: true,
+    },
+    Row {
+        reports: &[
             (1, true, THREE),
             (2, false, "ok\t.\t-\nok\tp\t-\n"),
             (3, true, ONE),
         ],
-        None,
-        "z",
-        Compared {
+        listed: None,
+        rows: "",
+        known: "z",
+        compared: Compared {
             left: &[],
             before: 2,
             left_before: &["q"],
             whole: 1,
             lost: false,
         },
-        [
-            "list 3;checked 2;checked 3;since 2;checked 1;3;since 1;",
-            "object\tq\n",
-            "before: whole: q list: (11)",
-        ],
-        true,
-    ),
-    (
-        &[(3, true, ONE)],
-        Some(&["q", "p", "n", "q"]),
-        "z",
-        Compared {
+        calls: "list 3;checked 2;checked 3;since 2;checked 1;3;since 1;3;",
+        list: "object\tq\n",
+        text: "Cycle 3 ended: 0 of 0 files right, 1 object, 0 bytes.\n\
+               Nothing new, 1 object or file gone since cycle 2.\n\
+               1 object or file is gone or missing in cycle 3:\nobject\tq\n",
+        is_grave: true,
+    },
+    Row {
+        reports: &[(3, true, ONE)],
+        listed: Some(&["q", "p", "n", "q"]),
+        rows: "",
+        known: "z",
+        compared: Compared {
             left: &[],
             before: 0,
             left_before: &[],
             whole: 0,
             lost: false,
         },
-        [
-            "list 3;3;",
-            "expected\tn\nexpected\tq\n",
-            "before: whole: list: n q (400)",
-        ],
-        true,
-    ),
-    (
-        &[(2, true, THREE), (3, true, THREE)],
-        Some(&["p"]),
-        "z",
-        SINCE_2,
-        [
-            "list 3;checked 2;checked 3;since 2;3;",
-            "",
-            "before: whole: list: (110)",
-        ],
-        false,
-    ),
-    (
-        &[(2, true, THREE), (3, true, ONE)],
-        Some(&["q"]),
-        "z",
-        Compared {
+        calls: "list 3;3;3;",
+        list: "expected\tn\nexpected\tq\n",
+        text: "Cycle 3 ended: 0 of 0 files right, 1 object, 0 bytes.\n\
+               Not compared.\n\
+               What is new or gone since the last report is not known: \
+               lines of each report before it were lost\n\
+               2 objects and files are gone or missing in cycle 3:\n\
+               expected\tn\nexpected\tq\n",
+        is_grave: true,
+    },
+    Row {
+        reports: &[(2, true, THREE), (3, true, THREE)],
+        listed: Some(&["p"]),
+        rows: "",
+        known: "z",
+        compared: SINCE_2,
+        calls: "list 3;checked 2;checked 3;since 2;3;",
+        list: "",
+        text: "Cycle 3 ended: 1 of 1 file right, 3 objects, 0 bytes.\n\
+               Nothing new, nothing gone since cycle 2.\n",
+        is_grave: false,
+    },
+    Row {
+        reports: &[(2, true, THREE), (3, true, ONE)],
+        listed: Some(&["q"]),
+        rows: "",
+        known: "z",
+        compared: Compared {
             left: &[],
             before: 2,
             left_before: &[],
             whole: 0,
             lost: true,
         },
-        ["list 3;", "", " (0)"],
-        false,
-    ),
+        calls: "list 3;",
+        list: "",
+        text: "What is new or gone since the last report is not known: \
+               lines of this report were lost\n",
+        is_grave: false,
+    },
 ];
 
 fn disk_of(alloc: Global, row: &Row) -> ReportsOn {
     ReportsOn {
         alloc,
-        reports: row.0,
-        listed: row.1,
-        known: row.2,
+        reports: row.reports,
+        listed: row.listed,
+        rows: row.rows,
         calls: String::new(alloc),
         list: Vec::new(alloc),
     }
+}
+
+/// A list on which findings of E101 at a place are known.
+fn known_at(alloc: Global, place: &str) -> Result<Known, Fail> {
+    let mut entries = Vec::new(alloc);
+    entries.push(KnownEntry {
+        reach: Reach::Place,
+        line: Line {
+            code: Code::E101,
+            place: place_of(alloc, place)?,
+            detail: String::from_str(alloc, "-")?,
+        },
+    })?;
+    Ok(Known::of(entries)?)
+}
+
+/// What was found of a cycle.
+fn find(alloc: Global, disk: &mut ReportsOn, row: &Row) -> Result<Result<Told, ClosingStop>, Fail> {
+    let known = known_at(alloc, row.known)?;
+    let with = SaidWith {
+        root: "/r",
+        state: "/s",
+        is_part: false,
+        known: &known,
+        said: &[],
+    };
+    let pair = row.compared.pair(alloc)?;
+    Ok(find_changes(alloc, disk, &with, &pair))
 }
 
 #[test]
@@ -497,12 +530,12 @@ fn changes_are_those_of_the_right_reports(rt: HostRuntime) -> Result<(), Fail> {
     let alloc = rt.alloc();
     for (index, row) in ROWS.iter().enumerate() {
         let mut disk = disk_of(alloc, row);
-        let Found { text, is_grave } = find_changes(alloc, &mut disk, &row.3.pair(alloc)?)?;
-        let [calls, list, words] = row.4;
-        assert_eq!(rt; disk.calls.as_str(), calls, "{index}");
-        assert_eq!(rt; disk.list.as_slice(), list.as_bytes(), "{index}");
-        assert_eq!(rt; text.as_slice(), words.as_bytes(), "{index}");
-        assert_eq!(rt; is_grave, row.5, "{index}");
+        let Told { found, .. } = find(alloc, &mut disk, row)??;
+        let text = String::from_utf8(found.text)?;
+        assert_eq!(rt; disk.calls.as_str(), row.calls, "{index}");
+        assert_eq!(rt; disk.list.as_slice(), row.list.as_bytes(), "{index}");
+        assert!(rt; text.as_str().starts_with(row.text), "{index}: {text}");
+        assert_eq!(rt; found.is_grave, row.is_grave, "{index}");
     }
     Ok(())
 }
@@ -521,10 +554,19 @@ const STOPS: [(Reports, &str); 3] = [
 fn what_is_not_compared_is_not_said(rt: HostRuntime) -> Result<(), Fail> {
     let alloc = rt.alloc();
     for (reports, calls) in STOPS {
-        let row = (reports, None, "z", SINCE_2, ["", "", ""], false);
+        let row = Row {
+            reports,
+            listed: None,
+            rows: "",
+            known: "z",
+            compared: SINCE_2,
+            calls,
+            list: "",
+            text: "",
+            is_grave: false,
+        };
         let mut disk = disk_of(alloc, &row);
-        let found = find_changes(alloc, &mut disk, &row.3.pair(alloc)?);
-        assert!(rt; found.is_err(), "{calls}");
+        assert!(rt; find(alloc, &mut disk, &row)?.is_err(), "{calls}");
         assert_eq!(rt; disk.calls.as_str(), calls);
     }
     Ok(())

@@ -26,15 +26,15 @@ loop-cycle-preserved g c =
           let status : c.max-status.result ≡ max c.loop-cycle.status c.say_or_fail.result = search rules in (
             h.0 ++ o ∷ [],
             (
-              outcomes_more F.text F.news o first last c.args.first cycle h.0 h.1.0 number s.1,
-              (omega (arith, number, more), status ∙ ap (λ n. max n c.say_or_fail.result) h.1.1.1 ∙ sym (greatest_more F.text F.news o 0 h.0)),
+              outcomes_more F.says o first last c.args.first cycle h.0 h.1.0 number s.1,
+              (omega (arith, number, more), status ∙ ap (λ n. max n c.say_or_fail.result) h.1.1.1 ∙ sym (greatest_more F.says o 0 h.0)),
             ),
           );
       may = λ t.
           let may = c.loop-cycle.invariant.may t in
-          may_more first.kept F.text c.args.first cycle first.said last.said then.said from grew last.kept may first.kept last.kept then.kept may (c.say_or_fail.ensures.may t);
+          may_more first.kept F.says c.args.first cycle first.said last.said then.said from grew last.kept may first.kept last.kept then.kept may (c.say_or_fail.ensures.may t);
       crash = λ t.
-          cycles_pass first.kept F.text c.args.first cycle first.said last.said then.said from grew F.may_leave F.moment F.left_since last.kept (c.loop-cycle.invariant.may t)
+          cycles_pass first.kept F.says c.args.first cycle first.said last.said then.said from grew F.may_leave F.moment F.left_since last.kept (c.loop-cycle.invariant.may t)
           c.args.closings.now c.loop-cycle.closings c.say_or_fail.new.closings (c.loop-cycle.invariant.crash t) (c.say_or_fail.ensures.crash t);
       grew = grows_on first.said last.said then.said c.loop-cycle.invariant.grew grew;
       bound = inl (omega (arith, below));
@@ -48,5 +48,5 @@ returns-clause-crash g c = λ t.
     let first = c.args.first in
     let old = g.S.Say.said c.args.out.now in
     let new = g.S.Say.said c.loop-cycle.out in
-    weaker F.may_leave F.moment F.left_since (MayAccounts k F.text first c.loop-cycle.cycle old new) (MayAccounts k F.text first c.args.end old new)
-    (may_within k F.text first c.loop-cycle.cycle c.args.end old new c.loop-cycle.invariant.bound) c.args.closings.now c.loop-cycle.closings (c.loop-cycle.invariant.crash t)
+    weaker F.may_leave F.moment F.left_since (MayAccounts k F.says first c.loop-cycle.cycle old new) (MayAccounts k F.says first c.args.end old new)
+    (may_within k F.says first c.loop-cycle.cycle c.args.end old new c.loop-cycle.invariant.bound) c.args.closings.now c.loop-cycle.closings (c.loop-cycle.invariant.crash t)

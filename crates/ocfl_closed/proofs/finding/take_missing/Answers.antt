@@ -6,4 +6,4 @@ use Rattle.ocfl_closed.proofs.finding.take_missing.Goals as goal
 
 pub returns-in-None-clause-taken : goal.returns-in-None-clause-taken
 returns-in-None-clause-taken g c = λ told.
-    none_listed (kept_of (g.D.ClosedDisk.state c.args.disk.now).files) c.args.pair.now.closed c.in_ok-listed.field-0 _ _ (sym c.in-None.is) (c.in_ok-listed.ensures.value told) (takes_none _ _)
+    none_listed (kept_of (g.D.ClosedDisk.state c.args.disk.now).files) c.args.pair.now.closed c.in_ok-listed.field-0 _ _ (sym c.in-None.is) (c.in_ok-listed.ensures.value told) (takes_none _)

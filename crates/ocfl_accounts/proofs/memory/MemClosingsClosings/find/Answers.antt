@@ -14,7 +14,6 @@ returns-clause-finds c = λ t.
       changes = changes;
       are = subst (λ k. AreChanges k pair changes) (ap (λ f. kept_of f.content) c.self.view_is ∙ ap kept_of c.begin_call.ensures.content)
           (subst (λ held. AreChanges (kept_by held listed folder.accounts.items) pair changes) c.deref.ensures.value (c.in-Ok.ensures folder.accounts.items));
-      said = search rules;
-      grave = search rules;
+      said = (search rules, search rules);
       listed = c.in-Ok-list_of.ensures ∙ ap gone_text c.deref-2.ensures.value;
     }

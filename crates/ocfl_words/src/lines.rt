@@ -1,4 +1,6 @@
 //! Lines of reports, and of the findings among them.
+ghost use Rattle.std.specs.Prelude.{◌≡◌, IfOk};
+ghost use Rattle.ocfl_report.specs.Line.{line_of as line_from};
 
 use ocfl_messages::Finding;
 use ocfl_report::{Line, TextStop, read_line};
@@ -26,23 +28,21 @@ pub fn line_of(alloc: Global, text: &[u8]) -> io::Result<Option<Line>> {
 }
 
 /// The same line.
-pub(crate) fn copy_of(line: &Line) -> Result<Line, AllocError> {
+pub(crate) fn copy_of(line: &Line) -> Result<Line, AllocError>
+    ensures { IfOk result (λ copy. line_from copy ≡ line_from line.now) }
+{
+    let place = line.place.try_clone()?;
     Ok(Line {
         code: line.code,
-        place: line.place.try_clone()?,
+        place,
         detail: line.detail.clone()?,
     })
 }
 
 /// Appends the lines of findings.
-pub fn put_lines(findings: &[Finding], lines: &mut Vec<Line>) -> Result<(), AllocError> {
+pub(crate) fn put_lines(findings: &[Finding], lines: &mut Vec<Line>) -> Result<(), AllocError> {
     for finding in findings {
-        let Finding {
-            line,
-            object: _object,
-            files: _files,
-        } = finding.try_clone()?;
-        lines.push(line)?;
+        lines.push(copy_of(&finding.line)?)?;
     }
     Ok(())
 }

@@ -1,6 +1,6 @@
 //! Counting the lines of a report while it is compared with one before.
 
-use crate::finding::{Counting, Findings};
+use crate::counting::{Counting, Findings};
 use crate::lines::copy_of;
 use ocfl_messages::Known;
 use ocfl_report::{Code, Line};

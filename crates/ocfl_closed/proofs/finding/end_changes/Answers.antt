@@ -1,0 +1,12 @@
+use Rattle.std.proofs.Common.{subst, sym, ◌∙◌, ap}
+use Rattle.ocfl_words.specs.Counted.{joined}
+use Rattle.ocfl_closed.specs.Words.{HasText, beside_of, runs_by}
+use Rattle.ocfl_closed.proofs.finding.end_changes.Goals as goal
+
+pub returns-in-Ok-clause-text : goal.returns-in-Ok-clause-text
+returns-in-Ok-clause-text g c = λ told v w x since noting whole.
+    let pair = c.args.pair.now in
+    let changes = c.in_ok-account.ensures.changes v w x since noting whole in
+    let runs = c.in_ok-account.ensures.runs told ∙ ap (λ f. runs_by (f.checkpoint pair.closed.cycle)) (c.end_list.ensures.calm told).files in
+    subst (λ n. HasText (beside_of c.args.with.now n) pair (joined (joined v w) x) c.in-Ok.text.items) runs
+    (c.in-Ok.ensures (joined (joined v w) x) changes (c.in_ok-account.ensures.gone _ changes) c.in_ok-account.ensures.why)

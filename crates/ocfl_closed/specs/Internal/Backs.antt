@@ -1,0 +1,33 @@
+-- Objects that are missing, of changes that are taken.
+use Rattle.std.proofs.Common.{◌≡◌, List, [], ◌∷◌, ◌++◌, sym, ap, ◌∙◌, append_assoc}
+use Rattle.std.specs.Prelude.{flat_map}
+use Rattle.std.proofs.lemmas.Grind.{flat_map-append}
+use Rattle.ocfl_tree.specs.Place.{Place}
+use Rattle.ocfl_compare.specs.Seen.{Seen, change_in, changes_in}
+use Rattle.ocfl_compare.specs.declared.change.{Change.{Change}, ChangeAt.{ChangeAt}}
+use Rattle.ocfl_compare.specs.declared.change.Change.TheVariants.{Gone, Undeclared, FileGone, Unlooked, Found, Repaired, Missing}
+
+abbrev pub place_missing : ChangeAt → List Place
+place_missing c = by c.change
+  where
+    by : Change → List Place
+    by Missing = c.place ∷ []
+    by Gone = []
+    by Undeclared = []
+    by FileGone = []
+    by Unlooked = []
+    by (Found code) = []
+    by (Repaired code) = []
+
+-- the places of objects that are missing
+abbrev pub missing_in : List ChangeAt → List Place
+missing_in cs = flat_map place_missing cs
+
+-- of what is seen
+abbrev pub missing_seen : List Seen → List Place
+missing_seen seen = missing_in (changes_in seen)
+
+pub missing_then : (a b c : List Place) (first then : List Seen) → b ≡ a ++ missing_seen first → c ≡ b ++ missing_seen then → c ≡ a ++ missing_seen (first ++ then)
+missing_then a b c first then p q =
+    q ∙ ap (λ l. l ++ missing_seen then) p ∙ append_assoc a (missing_seen first) (missing_seen then)
+    ∙ ap (λ l. a ++ l) (sym (ap missing_in (flat_map-append change_in first then) ∙ flat_map-append place_missing (changes_in first) (changes_in then)))

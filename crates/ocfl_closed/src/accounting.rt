@@ -1,0 +1,170 @@
+//! What was found of a closed cycle, by the changes that were taken.
+ghost use Rattle.std.specs.Prelude.{◌≡◌, IsTrue, IfOk, OnOk, string_bytes};
+ghost use Rattle.ocfl_accounts.specs.Causes.{HasCause};
+ghost use Rattle.ocfl_words.specs.Counted.{AreCounted, Counted, joined, shown_of};
+ghost use Rattle.ocfl_closed.specs.{Cut.{Still}, Words.{runs_in, why_text}};
+
+use crate::account::{Account, CycleMade, why_not};
+use crate::back::find_back;
+use crate::disk::ClosedDisk;
+use crate::finding::open_reader;
+use crate::looking::read_kept;
+use crate::words::{SaidWith, Words};
+use ocfl_accounts::{ClosingStop, Pair};
+use ocfl_report::Line;
+use ocfl_tree::Place;
+use ocfl_words::{ChangedLines, Changes, Findings, Noting, Part, find_lines, named_in};
+use std::alloc::{AllocError, Global};
+
+/// All that was found of a closed cycle by these words. Of one whose report lost lines no finding is
+/// counted, and no object looked for.
+pub(crate) fn account_of<D: ClosedDisk>(
+    alloc: Global,
+    disk: &mut D,
+    with: &SaidWith<'_>,
+    pair: &Pair,
+    words: Words<'_>,
+) -> Result<Account, ClosingStop>
+    ensures changes { (v w x : Counted) → AreCounted words.entry.since.changes v
+        → AreCounted words.entry.noting.changes w → AreCounted words.entry.whole.changes x
+        → IfOk result (λ a. AreCounted a.changes (joined (joined v w) x)) }
+    ensures gone { IfOk result (λ a. (w : Counted) → AreCounted a.changes w
+        → a.gone.items ≡ shown_of w) }
+    ensures why { IfOk result (λ a. string_bytes a.why ≡ why_text with.now.state.now pair.now) }
+    ensures runs { IsTrue D.told → IfOk result (λ a.
+        a.made.runs ≡ runs_in (D.state disk.old).files pair.now) }
+    ensures still { IsTrue D.told → Still (D.state disk.old) (D.state disk.new) }
+    ensures cause { IsTrue D.told
+        → HasCause (D.state disk.old).faults (D.state disk.new).faults result }
+{
+    let kept = read_kept(alloc, disk, pair.closed.cycle())?;
+    let paths = disk.find_paths(pair)?;
+    let Ok(why) = why_not(alloc, with.state, pair) else {
+        return Err(ClosingStop::Memory);
+    };
+    let Words {
+        mut noting,
+        since,
+        whole,
+        listed,
+    } = words;
+    let last = noting.take_part();
+    let Ok(repaired) = repaired_in(alloc, &since.lines, &whole.lines) else {
+        return Err(ClosingStop::Memory);
+    };
+    let findings = find_new(alloc, disk, pair, noting, &since.lines, &whole.lines)?;
+    let Ok(changes) = changes_in(since, last, whole) else {
+        return Err(ClosingStop::Memory);
+    };
+    let Ok(gone) = changes.gone(alloc) else {
+        return Err(ClosingStop::Memory);
+    };
+    let back = find_returned(alloc, disk, pair)?;
+    Ok(Account {
+        why,
+        made: CycleMade::by(&kept),
+        changes,
+        gone,
+        findings,
+        repaired,
+        back,
+        listed,
+        paths,
+    })
+}
+
+/// All changes of three comparisons of one report.
+fn changes_in(since: Part, listed: Part, whole: Part) -> Result<Changes, AllocError>
+    ensures { (v w x : Counted) → AreCounted since.changes v → AreCounted listed.changes w
+        → AreCounted whole.changes x
+        → IfOk result (λ changes. AreCounted changes (joined (joined v w) x)) }
+{
+    let Part { mut changes, .. } = since;
+    let Part {
+        changes: mut missing,
+        ..
+    } = listed;
+    let Part {
+        changes: mut again,
+        ..
+    } = whole;
+    changes.join(&mut missing)?;
+    changes.join(&mut again)?;
+    Ok(changes)
+}
+
+/// The lines of what is repaired since two reports.
+fn repaired_in(
+    alloc: Global,
+    since: &ChangedLines,
+    whole: &ChangedLines,
+) -> Result<Vec<Line>, AllocError> {
+    let mut repaired = since.repaired(alloc)?;
+    repaired.append(&mut whole.repaired(alloc)?)?;
+    Ok(repaired)
+}
+
+/// What the report has of findings that are new; nothing if lines of it were lost. The report is read
+/// for that unless its lines were counted while it was compared.
+fn find_new<D: ClosedDisk>(
+    alloc: Global,
+    disk: &mut D,
+    pair: &Pair,
+    noting: Noting<'_>,
+    since: &ChangedLines,
+    whole: &ChangedLines,
+) -> Result<Findings, ClosingStop>
+    ensures still { IsTrue D.told → Still (D.state disk.old) (D.state disk.new) }
+    ensures cause { IsTrue D.told
+        → HasCause (D.state disk.old).faults (D.state disk.new).faults result }
+{
+    if pair.closed.is_lost() {
+        return Ok(Findings::new(alloc));
+    }
+    let mut noting = noting;
+    match noting.take_found() {
+        Ok(Some(found)) => Ok(found),
+        Ok(None) => find_again(alloc, disk, pair, &noting, since, whole),
+        Err(_) => Err(ClosingStop::Memory),
+    }
+}
+
+/// The same by another reading of the report.
+fn find_again<D: ClosedDisk>(
+    alloc: Global,
+    disk: &mut D,
+    pair: &Pair,
+    noting: &Noting<'_>,
+    since: &ChangedLines,
+    whole: &ChangedLines,
+) -> Result<Findings, ClosingStop>
+    ensures still { IsTrue D.told → Still (D.state disk.old) (D.state disk.new) }
+    ensures cause { IsTrue D.told
+        → HasCause (D.state disk.old).faults (D.state disk.new).faults result }
+{
+    let cycle = pair.closed.cycle();
+    let Ok(named) = named_in(alloc, since, whole) else {
+        return Err(ClosingStop::Memory);
+    };
+    let mut report = open_reader(disk, cycle, false)?;
+    match find_lines(alloc, &mut report, &named, noting.known(), noting.said()) {
+        Ok(found) => Ok(found),
+        Err(error) => Err(disk.refuse_lines(cycle, error)),
+    }
+}
+
+/// The objects that are back; none of a cycle whose report lost lines.
+fn find_returned<D: ClosedDisk>(
+    alloc: Global,
+    disk: &mut D,
+    pair: &Pair,
+) -> Result<Vec<Place>, ClosingStop>
+    ensures still { IsTrue D.told → Still (D.state disk.old) (D.state disk.new) }
+    ensures cause { IsTrue D.told
+        → HasCause (D.state disk.old).faults (D.state disk.new).faults result }
+{
+    if pair.closed.is_lost() {
+        return Ok(Vec::new(alloc));
+    }
+    find_back(alloc, disk, pair)
+}

@@ -1,0 +1,153 @@
+//! What is counted and shown of changes.
+use crate::tests::common::store::place_of;
+use ocfl_compare::{Change, Side};
+use ocfl_messages::{GoneKind, Known, KnownEntry, Reach};
+use ocfl_report::{Code, DisplayPlace, Line, read_line};
+use ocfl_words::{Changes, Noting, Part, count_places, find_lines, named_in};
+use std::alloc::Global;
+use std::test::Fail;
+
+/// A list on which findings of E101 at a place are known.
+fn known_at(alloc: Global, place: &str) -> Result<Known, Fail> {
+    let mut entries = Vec::new(alloc);
+    entries.push(KnownEntry {
+        reach: Reach::Place,
+        line: Line {
+            code: Code::E101,
+            place: place_of(alloc, place)?,
+            detail: String::from_str(alloc, "-")?,
+        },
+    })?;
+    Ok(Known::of(entries)?)
+}
+
+/// What is shown of what is gone.
+fn shown(alloc: Global, changes: &Changes) -> Result<String, Fail> {
+    let mut text = String::new(alloc);
+    for gone in &changes.gone(alloc)? {
+        let word = match gone.kind {
+            GoneKind::Object => "object",
+            GoneKind::Undeclared => "undeclared",
+            GoneKind::File => "file",
+            GoneKind::Expected => "expected",
+        };
+        let row = format!(in alloc; "{word} {};", DisplayPlace(&gone.place))?;
+        text.push_str(row.as_str())?;
+    }
+    Ok(text)
+}
+
+/// Changes at places, and whether each is a finding that is known.
+const CHANGES: [(&str, Change, bool); 8] = [
+    ("a", Change::Gone, false),
+    ("b", Change::Undeclared, false),
+    ("c/f", Change::FileGone, false),
+    ("d", Change::Missing, false),
+    ("e/f", Change::Unlooked, false),
+    ("p", Change::Found(Code::E101), false),
+    ("q", Change::Found(Code::E101), true),
+    ("r", Change::Repaired(Code::E101), false),
+];
+
+#[test]
+fn each_change_is_counted_once(rt: HostRuntime) -> Result<(), Fail> {
+    let alloc = rt.alloc();
+    let known = known_at(alloc, "q")?;
+    let mut noting = Noting::new(alloc, &known, &[]);
+    for (path, change, is_known) in CHANGES {
+        let place = place_of(alloc, path)?;
+        assert_eq!(rt; noting.note(&place, change)?, is_known, "{path}");
+    }
+    let Part { changes, .. } = noting.take_part();
+    assert_eq!(rt;
+        shown(alloc, &changes)?.as_str(),
+        "object a;undeclared b;expected d;file c/f;"
+    );
+    assert_eq!(rt; changes.gone_count(), 4);
+    assert_eq!(rt; (changes.unlooked, changes.repaired_count), (1, 1));
+    assert_eq!(rt; (changes.appeared_count, changes.known_count), (1, 1));
+    assert_eq!(rt; noting.take_part().changes.gone_count(), 0);
+    Ok(())
+}
+
+#[test]
+fn the_first_twenty_of_each_comparison_are_shown(rt: HostRuntime) -> Result<(), Fail> {
+    let alloc = rt.alloc();
+    let known = Known::new(alloc);
+    let mut noting = Noting::new(alloc, &known, &[]);
+    let place = place_of(alloc, "a")?;
+    for _ in 0..30 {
+        noting.note(&place, Change::Gone)?;
+    }
+    let Part { mut changes, .. } = noting.take_part();
+    assert_eq!(rt;
+        (changes.gone(alloc)?.len(), changes.gone_count()),
+        (20, 30)
+    );
+    noting.note(&place, Change::Gone)?;
+    let Part {
+        changes: mut more,
+        ..
+    } = noting.take_part();
+    changes.join(&mut more)?;
+    assert_eq!(rt;
+        (changes.gone(alloc)?.len(), changes.gone_count()),
+        (21, 31)
+    );
+    Ok(())
+}
+
+/// A report with a finding that is new, and one that is repaired before it.
+const REPORT: &str = "ok\t.\t-\nok\to\t-\nE101\tp\tone\nE101\tp\ttwo\n";
+
+#[test]
+fn lines_of_what_changed_are_found(rt: HostRuntime) -> Result<(), Fail> {
+    let alloc = rt.alloc();
+    let known = Known::new(alloc);
+    let mut noting = Noting::new(alloc, &known, &[]);
+    noting.see(Side::Before, &read_line(alloc, b"E092\to\twas\n")?)?;
+    noting.note(&place_of(alloc, "o")?, Change::Repaired(Code::E092))?;
+    noting.see(Side::Now, &read_line(alloc, b"E101\tp\tone\n")?)?;
+    noting.note(&place_of(alloc, "p")?, Change::Found(Code::E101))?;
+    let part = noting.take_part();
+    let repaired = part.lines.repaired(alloc)?;
+    assert_eq!(rt; repaired.len(), 1);
+    assert_eq!(rt; repaired[0].detail.as_str(), "was");
+    let none = Part::new(alloc);
+    let named = named_in(alloc, &part.lines, &none.lines)?;
+    let mut report = REPORT.as_bytes();
+    let found = find_lines(alloc, &mut report, &named, &known, &[])?;
+    assert_eq!(rt; (found.count, found.said), (2, 0));
+    assert_eq!(rt; found.gravest.count(), 1);
+    assert_eq!(rt; found.tally.counts().objects, 2);
+    Ok(())
+}
+
+#[test]
+fn lines_are_counted_while_they_are_compared(rt: HostRuntime) -> Result<(), Fail> {
+    let alloc = rt.alloc();
+    let known = Known::new(alloc);
+    let mut noting = Noting::new(alloc, &known, &[]);
+    assert!(rt; noting.take_found()?.is_none());
+    noting.count_lines();
+    noting.see(Side::Now, &read_line(alloc, b"ok\to\t-\n")?)?;
+    noting.see(Side::Now, &read_line(alloc, b"E101\tp\tone\n")?)?;
+    noting.note(&place_of(alloc, "p")?, Change::Found(Code::E101))?;
+    let Some(found) = noting.take_found()? else {
+        return Err("nothing was counted".into());
+    };
+    assert_eq!(rt; (found.count, found.said), (1, 0));
+    assert_eq!(rt; found.gravest.count(), 1);
+    Ok(())
+}
+
+#[test]
+fn a_place_that_is_listed_twice_counts_once(rt: HostRuntime) -> Result<(), Fail> {
+    let alloc = rt.alloc();
+    let mut places = Vec::new(alloc);
+    for path in ["a", "a", "b"] {
+        places.push(place_of(alloc, path)?)?;
+    }
+    assert_eq!(rt; count_places(&places), 2);
+    Ok(())
+}

@@ -1,3 +1,6 @@
 mod Joined
 mod Compared
 mod Putting
+mod Beside
+mod Naming
+mod Endings

@@ -5,29 +5,22 @@ use Rattle.std.specs.Option.{option_map}
 use Rattle.ocfl_tree.specs.Place.{Text}
 use Rattle.ocfl_disk.specs.Names.{ClosedName, Stored}
 use Rattle.ocfl_disk.specs.PowerCut.{DiskState, IsDisk}
-use Rattle.ocfl_joining.specs.Reports.{Put, Seen}
-use Rattle.ocfl_joining.specs.declared.reports.KeptMark.{KeptMark}
-use Rattle.ocfl_joining.specs.declared.reports.KeptMark.TheVariants.{NotKept}
+use Rattle.ocfl_joining.specs.{Folders.{Folders, no_folders, with_noted}, Reports.{Put, Rest, Seen, no_rest}}
 
--- Of each cycle and each part, by its number: the bytes of the closed report, and with what it was
--- closed. Of each cycle, what is said of a joined report, whole or not, that has these bytes. And which
--- reports were opened, in order.
+-- what the folders show, and which closed reports were opened, in order
 pub record PartFiles : Type 0 where
-  pub bytes : ℕ → ℕ → Text
-  pub marks : ℕ → ℕ → KeptMark
-  pub word : ℕ → Bool → Text → Text
+  pub folders : Folders
   pub opened : List ℕ
 
 abbrev pub no_files : PartFiles
-no_files = record { bytes = λ _ _. []; marks = λ _ _. NotKept; word = λ _ _ _. []; opened = [] }
+no_files = record { folders = no_folders; opened = [] }
 
 abbrev pub with_opened : ℕ → PartFiles → PartFiles
-with_opened number p = record { bytes = p.bytes; marks = p.marks; word = p.word; opened = p.opened ++ number ∷ [] }
+with_opened number p = record { folders = p.folders; opened = p.opened ++ number ∷ [] }
 
--- the closed reports are as they were, and with what they were closed
-pub record SameFiles (old new : PartFiles) : Type 0 where
-  pub bytes : new.bytes ≡ old.bytes
-  pub marks : new.marks ≡ old.marks
+-- one more text was said
+abbrev pub with_text : Text → PartFiles → PartFiles
+with_text text p = record { folders = with_noted text p.folders; opened = p.opened }
 
 -- ---- the joined reports of a cycle
 
@@ -41,6 +34,13 @@ joined_of cycle bytes (name ∷ names) = put_if (name.cycle == cycle) (record { 
 -- those that are there
 abbrev pub joined_in : ℕ → Stored → List Put
 joined_in cycle s = joined_of cycle s.bytes s.names.closed
+
+abbrev pub none_if : Bool → List Put → List Put
+none_if is puts = if is then [] else puts
+
+-- those of the other cycles
+abbrev pub others_in : ℕ → Stored → ℕ → List Put
+others_in cycle s other = none_if (cycle == other) (joined_in other s)
 
 -- a cut may leave these, by what they are of what it leaves
 abbrev pub MayLeave : DiskState → (Stored → List Put) → List Put → Type 0
@@ -104,14 +104,32 @@ abbrev pub made_of : (ℕ → Text) → Option ℕ → Text
 made_of bytes None = []
 made_of bytes (Some file) = bytes file
 
+-- all but the joined reports of a cycle
+abbrev pub rest_in : ℕ → PartFiles → Stored → Rest
+rest_in cycle parts s = record { cycle = cycle; made = None; folders = parts.folders; others = others_in cycle s }
+
 -- of one that makes the joined report: `made` is its file, and `buffer` what is not written to it yet
 abbrev pub seen_making : ℕ → PartFiles → Text → Stored → Option ℕ → Text → Seen
 seen_making cycle parts left s made buffer = record {
-  bytes = parts.bytes cycle;
-  marks = parts.marks cycle;
-  word = λ whole bytes. Some (parts.word cycle whole bytes);
+  bytes = parts.folders.bytes cycle;
+  marks = parts.folders.marks cycle;
+  word = λ whole bytes. Some (parts.folders.word cycle whole bytes);
   opened = parts.opened;
   left = left;
   made = made_of s.bytes made ++ buffer;
   put = joined_in cycle s;
+  rest = rest_in cycle parts s;
+}
+
+-- the closed reports of a cycle, and the joined ones that are there
+abbrev pub reports_in : ℕ → PartFiles → Stored → Seen
+reports_in cycle parts s = record {
+  bytes = parts.folders.bytes cycle;
+  marks = parts.folders.marks cycle;
+  word = λ _ _. None;
+  opened = [];
+  left = [];
+  made = [];
+  put = joined_in cycle s;
+  rest = no_rest;
 }

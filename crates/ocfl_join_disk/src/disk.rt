@@ -1,14 +1,15 @@
 //! The calls of the system that a joining makes.
 ghost use Rattle.std.specs.Prelude.{◌≡◌, ◌⊎◌, ◌++◌, ℕ, Bool, false, IsTrue, IfOk, IfSome, IsSome};
-ghost use Rattle.std.specs.Prelude.{MatchResult, OnOk, Some, length};
+ghost use Rattle.std.specs.Prelude.{MatchResult, OnErr, OnOk, Some, is_some, length, string_bytes};
+ghost use Rattle.ocfl_tree.specs.Place.{Text};
 ghost use Rattle.ocfl_disk.specs.Disk.{Calm, ClosesOver, Makes, Writes, has_name};
 ghost use Rattle.ocfl_disk.specs.Names.{report_of};
 ghost use Rattle.ocfl_disk.specs.PowerCut.{DiskState, IsDisk, untold};
 ghost use Rattle.ocfl_disk.specs.declared.state_file.StateFile.TheVariants.{Report as TheReport};
-ghost use Rattle.ocfl_join_disk.specs.Shown.{HasSureNames, PartFiles, SameFiles, no_files};
-ghost use Rattle.ocfl_join_disk.specs.Shown.{text_in, with_opened};
+ghost use Rattle.ocfl_join_disk.specs.Shown.{HasSureNames, PartFiles, no_files, text_in};
+ghost use Rattle.ocfl_join_disk.specs.Shown.{with_opened, with_text};
 
-use ocfl_joining::{KeptMark, ReportTrouble};
+use ocfl_joining::{FoundReport, KeptMark, ReportTrouble};
 use std::io::{self, BufRead};
 
 /// The closed report of a part that is open, and with what it was closed.
@@ -18,8 +19,8 @@ pub struct OpenPart<R> {
     pub mark: KeptMark,
 }
 
-/// What a joining asks of the system: the closed reports in the state folders of the parts, and the
-/// joined reports, each by its cycle. The joined report is made beside its place, as what
+/// What a joining asks of the system: what there is in the state folders of the parts, the closed
+/// reports among it, and the joined reports, each by its cycle. The joined report is made beside its place, as what
 /// `ocfl_disk` calls the report, and gets its name by a rename.
 ///
 /// One that states nothing of what is on the disk does not tell it.
@@ -33,7 +34,7 @@ pub trait JoinDisk {
     /// Whether the clauses say what is on the disk. Of one that does not tell, they say nothing.
     ghost told: { Bool } = { false };
 
-    /// The closed reports of the parts.
+    /// What the folders of the parts show, and which of their closed reports were opened.
     ghost parts: { Self → PartFiles } = { λ _. no_files };
 
     /// The joined reports and the one that is made, and what a power cut may leave of them.
@@ -51,11 +52,11 @@ pub trait JoinDisk {
         ensures calm { IsTrue told → Calm (state self.old) (state self.new) }
         ensures opened { IsTrue told → OnOk result
             (parts self.new ≡ with_opened part (parts self.old)) }
-        ensures reports { IsTrue told → SameFiles (parts self.old) (parts self.new) }
+        ensures folders { IsTrue told → (parts self.new).folders ≡ (parts self.old).folders }
         ensures bytes { IsTrue told → IfOk result (λ found. Self.Report.remaining found.report
-            ≡ Some ((parts self.old).bytes cycle part)) }
+            ≡ Some ((parts self.old).folders.bytes cycle part)) }
         ensures mark { IsTrue told → IfOk result (λ found. found.mark
-            ≡ (parts self.old).marks cycle part) };
+            ≡ (parts self.old).folders.marks cycle part) };
 
     /// Keeps why a report could not be read on.
     fn keep_failure(&mut self, cycle: u64, error: io::Error) -> ReportTrouble
@@ -121,7 +122,7 @@ pub trait JoinDisk {
         ensures parts { IsTrue told → parts self.new ≡ parts self.old }
         ensures calm { IsTrue told → Calm (state self.old) (state self.new) }
         ensures word { IsTrue told → IfOk result (λ word. word.items
-            ≡ (parts self.old).word cycle whole
+            ≡ (parts self.old).folders.word cycle whole
             (report_of (state self.old).seen.bytes (state self.old).seen.names.report)) };
 
     /// Gives it the name of the joined report of a cycle, which is not there.
@@ -142,6 +143,55 @@ pub trait JoinDisk {
         ensures parts { IsTrue told → parts self.new ≡ parts self.old }
         ensures calm { IsTrue told → Calm (state self.old) (state self.new) }
         ensures names { IsTrue told → OnOk result (HasSureNames (state self.new)) };
+
+    /// Whether a joined report of a cycle, whole or not, is there compressed.
+    fn is_packed(&mut self, cycle: u64, whole: bool) -> Result<bool, ReportTrouble>
+        ensures parts { IsTrue told → parts self.new ≡ parts self.old }
+        ensures calm { IsTrue told → Calm (state self.old) (state self.new) }
+        ensures value { IsTrue told → IfOk result (λ is.
+            is ≡ (parts self.old).folders.packed cycle whole) };
+
+    /// Whether a closed report of a part is there.
+    fn has_closed(&mut self, cycle: u64, part: usize) -> Result<bool, ReportTrouble>
+        ensures parts { IsTrue told → parts self.new ≡ parts self.old }
+        ensures calm { IsTrue told → Calm (state self.old) (state self.new) }
+        ensures value { IsTrue told → IfOk result (λ is.
+            is ≡ is_some ((parts self.old).folders.found cycle part)) };
+
+    /// Whether a part has said what a closed report of it found.
+    fn has_said(&mut self, cycle: u64, part: usize) -> Result<bool, ReportTrouble>
+        ensures parts { IsTrue told → parts self.new ≡ parts self.old }
+        ensures calm { IsTrue told → Calm (state self.old) (state self.new) }
+        ensures value { IsTrue told → IfOk result (λ is.
+            is ≡ (parts self.old).folders.has_said cycle part) };
+
+    /// The closed report of a part, if it is there, with what was kept at its closing.
+    fn find_closed(&mut self, cycle: u64, part: usize) -> Result<Option<FoundReport>, ReportTrouble>
+        ensures parts { IsTrue told → parts self.new ≡ parts self.old }
+        ensures calm { IsTrue told → Calm (state self.old) (state self.new) }
+        ensures found { IsTrue told → IfOk result (λ found.
+            found ≡ (parts self.old).folders.found cycle part) };
+
+    /// How the path of the joined report of a cycle, whole or not, is shown.
+    fn show_path(&mut self, cycle: u64, whole: bool) -> Result<String, ReportTrouble>
+        ensures parts { IsTrue told → parts self.new ≡ parts self.old }
+        ensures calm { IsTrue told → Calm (state self.old) (state self.new) }
+        ensures path { IsTrue told → IfOk result (λ path.
+            string_bytes path ≡ (parts self.old).folders.path cycle whole) };
+
+    /// Says a text on standard error.
+    fn note(&mut self, text: &str) -> Result<(), ReportTrouble>
+        ensures said { IsTrue told
+            → OnOk result (parts self.new ≡ with_text text.now (parts self.old)) }
+        ensures silent { IsTrue told → OnErr result (parts self.new ≡ parts self.old) }
+        ensures calm { IsTrue told → Calm (state self.old) (state self.new) };
+
+    /// Says there why the last call failed that did, and gives the status of that. `None` if that was
+    /// not kept, and then nothing is said.
+    fn note_failure(&mut self) -> Option<u8>
+        ensures said { IsTrue told → (text : Text)
+            × (parts self.new ≡ with_text text (parts self.old)) }
+        ensures calm { IsTrue told → Calm (state self.old) (state self.new) };
 
     /// The laws of what is on a disk.
     ghost is_disk: { IsTrue told → (disk : Self) → IsDisk (state disk) };

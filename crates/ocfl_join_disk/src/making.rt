@@ -4,7 +4,8 @@ ghost use Rattle.std.specs.Option.{option_map};
 ghost use Rattle.ocfl_disk.specs.Disk.{Calm};
 ghost use Rattle.ocfl_joining.specs.Crash.{MayPut, Same};
 ghost use Rattle.ocfl_join_disk.specs.Shown.{AreDurable, HadLeft, MayLeave, joined_in, left_in};
-ghost use Rattle.ocfl_join_disk.specs.Shown.{left_now, made_of, only_left, seen_making, was_left};
+ghost use Rattle.ocfl_join_disk.specs.Shown.{left_now, made_of, only_left, others_in};
+ghost use Rattle.ocfl_join_disk.specs.Shown.{seen_making, was_left};
 ghost use Rattle.ocfl_join_disk.specs.Internal.Making.{IsNamed, PutsPass, put_made};
 
 use crate::disk::JoinDisk;
@@ -57,11 +58,14 @@ impl<D: JoinDisk + Drop> MakingReports<D> {
     }
 
     /// Makes the file, which is empty.
-    #[tactic(auto, using(crate::proofs::Putting::calm_puts, crate::proofs::Putting::puts_none))]
+    #[tactic(auto, using(crate::proofs::Putting::calm_puts, crate::proofs::Putting::puts_none, crate::proofs::Beside::others_calm))]
     fn create(&mut self) -> Result<(), ReportTrouble>
         ensures put { IsTrue D.told
             → joined_in self.old.cycle (D.state self.new.parts.disk).seen
             ≡ joined_in self.old.cycle (D.state self.old.parts.disk).seen }
+        ensures others { IsTrue D.told
+            → others_in self.old.cycle (D.state self.new.parts.disk).seen
+            ≡ others_in self.old.cycle (D.state self.old.parts.disk).seen }
         ensures empty { IsTrue D.told → OnOk result
             (made_of (D.state self.new.parts.disk).seen.bytes (option_map D.number self.new.made) ≡ []) }
         ensures crash { IsTrue D.told → PutsPass self.old.cycle Same
@@ -84,6 +88,9 @@ impl<D: JoinDisk + Drop> MakingReports<D> {
         ensures put { IsTrue D.told
             → joined_in self.old.cycle (D.state self.new.parts.disk).seen
             ≡ joined_in self.old.cycle (D.state self.old.parts.disk).seen }
+        ensures others { IsTrue D.told
+            → others_in self.old.cycle (D.state self.new.parts.disk).seen
+            ≡ others_in self.old.cycle (D.state self.old.parts.disk).seen }
         ensures made { IsTrue D.told → OnOk result
             (made_of (D.state self.new.parts.disk).seen.bytes (option_map D.number self.new.made)
             ≡ made_of (D.state self.old.parts.disk).seen.bytes (option_map D.number self.old.made)
@@ -140,6 +147,9 @@ impl<D: JoinDisk + Drop> MakingReports<D> {
             ⊎ (IsNamed self.old.cycle whole (D.state self.old.parts.disk).seen
             (option_map D.number self.old.made) (D.state self.new.parts.disk).seen
             × (self.new.made ≡ None))) }
+        ensures others { IsTrue D.told
+            → others_in self.old.cycle (D.state self.new.parts.disk).seen
+            ≡ others_in self.old.cycle (D.state self.old.parts.disk).seen }
         ensures none { OnOk result (self.new.made ≡ None) }
         ensures durable { IsTrue D.told → OnOk result
             (AreDurable self.old.cycle (D.state self.new.parts.disk)) }

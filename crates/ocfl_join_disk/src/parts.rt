@@ -2,7 +2,7 @@
 ghost use Rattle.std.specs.Prelude.{◌≡◌, ◌≢◌, [], None, Some, true, false, IsTrue, IfOk, IfSome, OnOk};
 ghost use Rattle.std.specs.{Io.BufRead.{take_through}, Io.KnownBytes.{Consumes, IsAtEnd}};
 ghost use Rattle.ocfl_disk.specs.Disk.{Calm};
-ghost use Rattle.ocfl_join_disk.specs.Shown.{HasSureNames, ReadsNext, SameFiles, left_in, with_opened};
+ghost use Rattle.ocfl_join_disk.specs.Shown.{HasSureNames, ReadsNext, left_in, with_opened};
 
 use crate::disk::{JoinDisk, OpenPart};
 use ocfl_joining::{KeptMark, ReportTrouble};
@@ -56,12 +56,12 @@ impl<D: JoinDisk + Drop> Parts<D> {
         ensures calm { IsTrue D.told → Calm (D.state self.old.disk) (D.state self.new.disk) }
         ensures opened { IsTrue D.told → OnOk result
             (D.parts self.new.disk ≡ with_opened number (D.parts self.old.disk)) }
-        ensures reports { IsTrue D.told
-            → SameFiles (D.parts self.old.disk) (D.parts self.new.disk) }
+        ensures folders { IsTrue D.told
+            → (D.parts self.new.disk).folders ≡ (D.parts self.old.disk).folders }
         ensures left { IsTrue D.told → OnOk result (left_in D.Report.remaining self.new.report
-            ≡ (D.parts self.old.disk).bytes cycle number) }
+            ≡ (D.parts self.old.disk).folders.bytes cycle number) }
         ensures mark { IsTrue D.told → IfOk result (λ mark.
-            mark ≡ (D.parts self.old.disk).marks cycle number) }
+            mark ≡ (D.parts self.old.disk).folders.marks cycle number) }
     {
         let OpenPart { report, mark } = self.disk.open_part(cycle, number)?;
         self.report = Some(report);

@@ -57,13 +57,14 @@ module _ (from below : Option Place) (lines : List Line) (text : Text) (old new 
           left = sym (ap (λ s. s.left) g) i;
           made = (append_assoc first.made (lines_text lines) text ∙ ap (λ t. first.made ++ t) (sym text_is)) i;
           put = first.put;
+          rest = first.rest;
         });
   }
 
 pub none_given : (s : Seen) → AreGiven [] s s
 none_given s = record {
   read = refl;
-  rest = λ i. record { bytes = s.bytes; marks = s.marks; word = s.word; opened = s.opened; left = s.left; made = sym (append-nil s.made) i; put = s.put };
+  rest = λ i. record { bytes = s.bytes; marks = s.marks; word = s.word; opened = s.opened; left = s.left; made = sym (append-nil s.made) i; put = s.put; rest = s.rest };
 }
 
 -- ---- the end of a report

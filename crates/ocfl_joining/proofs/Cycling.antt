@@ -1,9 +1,10 @@
 -- One more cycle that was joined or passed by.
-use Rattle.std.proofs.Common.{◌≡◌, ◌⊎◌, inl, inr, ℕ, ◌+◌, ◌-◌, ◌<◌, ◌≤◌, List, [], ◌∷◌, ◌++◌, length, Bool, true, false, Option, Some, None, refl, sym, ap, subst, ◌∙◌, add-one, append-nil, append_assoc, length-append, arith}
+use Rattle.std.proofs.Common.{◌≡◌, ◌≢◌, ◌⊎◌, inl, inr, ℕ, ◌+◌, ◌-◌, ◌<◌, ◌≤◌, List, [], ◌∷◌, ◌++◌, length, Bool, true, false, Option, Some, None, refl, sym, ap, subst, ◌∙◌, add-one, append-nil, append_assoc, length-append, arith}
 use Rattle.std.specs.Prelude.{◌==◌, ◌&&◌, not, max, flat_map, if◌then◌else◌}
 use Rattle.std.proofs.lemmas.Grind.{flat_map-append}
-use Rattle.ocfl_joining.specs.Cycles.{SeenCycles, Round, passed, ended, failed, IsBeside, IsEarlier, IsLast, NamesAs, IsOver, AreEarlier, AreJoined, have_all, is_there, is_due, is_none, whole_of, made_of, oldest, end_of, with_joining, joinings_by, status_by, greatest}
-use Rattle.ocfl_joining.specs.{Status.{status_of}, declared.status.CycleEnd.{CycleEnd}}
+use Rattle.ocfl_tree.specs.Place.{Text}
+use Rattle.ocfl_joining.specs.Cycles.{SeenCycles, Round, passed, ended, failed, Comes, ComesTo, Fails, IsBeside, IsEarlier, IsLast, MayCome, NamesAs, AreEarlier, AreJoined, have_all, is_there, is_due, is_none, look_of, whole_of, made_of, oldest, end_of, end_text, with_said, said_by, status_by, greatest}
+use Rattle.ocfl_joining.specs.{Reports.{Seen}, Status.{status_of}, declared.status.CycleEnd.{CycleEnd}}
 use Rattle.ocfl_joining.specs.Internal.Cycling.{AreTried, Joins, JoinsNone, TriesEarlier, TriesLast}
 
 pub have_more : (closed : ℕ → ℕ → Bool) (n cycle : ℕ) → have_all closed (n + 1) cycle ≡ (have_all closed n cycle && closed cycle (n + 1))
@@ -11,148 +12,209 @@ have_more closed n cycle = ap (λ m. have_all closed m cycle) (add-one n)
 
 -- ---- one cycle
 
-same_beside : (cycle : ℕ) (old mid new : SeenCycles) → mid ≡ old → IsBeside cycle mid new → IsBeside cycle old new
-same_beside cycle old mid new same b = record {
-  joined = λ other apart. b.joined other apart ∙ ap (λ s. s.joined other) same;
-  closed = b.closed ∙ ap (λ s. s.closed) same;
-}
+pub same_beside : (cycle : ℕ) (old mid new : SeenCycles) → mid ≡ old → IsBeside cycle mid new → IsBeside cycle old new
+same_beside cycle old mid new same b = subst (λ s. IsBeside cycle s new) same b
 
-all_beside : (cycle : ℕ) (old new : SeenCycles) → new ≡ old → IsBeside cycle old new
+pub all_beside : (cycle : ℕ) (old new : SeenCycles) → new ≡ old → IsBeside cycle old new
 all_beside cycle old new same = record {
-  joined = λ other apart. ap (λ s. s.joined other) same;
+  separators = ap (λ s. s.separators) same;
+  parts = ap (λ s. s.parts) same;
   closed = ap (λ s. s.closed) same;
+  packed = ap (λ s. s.packed) same;
+  path = ap (λ s. s.path) same;
+  others = λ other apart. ap (λ s. s.reports other) same;
 }
 
 pub none_joined : (cycle : ℕ) (old new : SeenCycles) → new ≡ old → JoinsNone cycle old new
-none_joined cycle old new same = record { joinings = ap (λ s. s.joinings) same; beside = all_beside cycle old new same }
+none_joined cycle old new same = record {
+  text = [];
+  noted = ap (λ s. s.noted) same ∙ sym (append-nil old.noted);
+  may = inl (ap (λ s. (s.reports cycle).put) same);
+  beside = all_beside cycle old new same;
+}
 
 pub none_then : (cycle : ℕ) (old mid new : SeenCycles) → mid ≡ old → JoinsNone cycle mid new → JoinsNone cycle old new
-none_then cycle old mid new same n = record {
-  joinings = n.joinings ∙ ap (λ s. s.joinings) same;
-  beside = same_beside cycle old mid new same n.beside;
-}
+none_then cycle old mid new same n = subst (λ s. JoinsNone cycle s new) same n
 
 named_as : (names : Bool) (whole : Option Bool) → NamesAs names (end_of names whole)
 named_as names None = refl
 named_as names (Some whole) = tt
 
 pub joins_of : (cycle : ℕ) (made whole : Option Bool) (names : Bool) (old new : SeenCycles) (end : CycleEnd) (status : ℕ)
-    → new.joinings ≡ with_joining (record { cycle = cycle; made = made; end = end_of names whole }) old.joinings → end ≡ end_of names whole → status ≡ status_of end → Joins cycle made names old new status
-joins_of cycle made whole names old new end status f e s = record {
-  joining = record { cycle = cycle; made = made; end = end_of names whole };
-  over = record { cycle_is = refl; made_is = refl; named = named_as names whole };
-  joinings = f;
+    → ComesTo old.separators (old.parts cycle) cycle made (end_of names whole) (old.reports cycle) (new.reports cycle)
+    → new.noted ≡ old.noted ++ end_text old.separators (old.parts cycle) cycle (old.path cycle) (end_of names whole) → end ≡ end_of names whole → status ≡ status_of end → Joins cycle made names old new status
+joins_of cycle made whole names old new end status c n e s = record {
+  end = end_of names whole;
+  text = end_text old.separators (old.parts cycle) cycle (old.path cycle) (end_of names whole);
+  comes = record { named = named_as names whole; comes = c; said = refl };
+  noted = n;
   status_is = s ∙ ap status_of e;
 }
 
-pub none_of : (cycle : ℕ) (old new : SeenCycles) → new.joinings ≡ old.joinings → IsBeside cycle old new → JoinsNone cycle old new
-none_of cycle old new same b = record { joinings = same; beside = b }
+pub none_of : (cycle : ℕ) (old new : SeenCycles) → (text : Text) × (new.noted ≡ old.noted ++ text) → MayCome old.separators (old.parts cycle) cycle (old.reports cycle) (new.reports cycle) → IsBeside cycle old new → JoinsNone cycle old new
+none_of cycle old new said may b = record { text = said.0; noted = said.1; may = may; beside = b }
 
 pub joins_then : (cycle : ℕ) (made other : Option Bool) (names named : Bool) (old mid new : SeenCycles) (status : ℕ) → mid ≡ old → made ≡ other → names ≡ named
     → Joins cycle made names mid new status → Joins cycle other named old new status
-joins_then cycle made other names named old mid new status same e f j = record {
-  joining = j.joining;
-  over = record { cycle_is = j.over.cycle_is; made_is = j.over.made_is ∙ e; named = subst (λ n. NamesAs n j.joining.end) f j.over.named };
-  joinings = j.joinings ∙ ap (λ s. with_joining j.joining s.joinings) same;
-  status_is = j.status_is;
-}
+joins_then cycle made other names named old mid new status same e f j =
+    subst (λ m. Joins cycle m named old new status) e
+    (subst (λ n. Joins cycle made n old new status) f
+    (subst (λ s. Joins cycle made names s new status) same j))
 
 pub passed_by : (parts cycle : ℕ) (old new : SeenCycles) → new ≡ old → is_due old parts cycle ≡ false → TriesEarlier parts cycle old new 0
 passed_by parts cycle old new same e = record {
   round = passed;
-  is = e;
-  joinings = ap (λ s. s.joinings) same ∙ sym (append-nil old.joinings);
+  is = (e, ap (λ s. s.reports cycle) same);
+  noted = ap (λ s. s.noted) same ∙ sym (append-nil old.noted);
   status_is = refl;
   beside = all_beside cycle old new same;
 }
 
 pub due_joined : (parts cycle : ℕ) (old mid new : SeenCycles) (status : ℕ) → mid ≡ old → is_due old parts cycle ≡ true → Joins cycle None false mid new status → IsBeside cycle mid new
     → TriesEarlier parts cycle old new status
-due_joined parts cycle old mid new status same e j b = record {
-  round = ended j.joining;
-  is = (e, j.over);
-  joinings = j.joinings ∙ ap (λ s. with_joining j.joining s.joinings) same;
-  status_is = j.status_is;
+due_joined parts cycle old mid new status same e j b = let k = subst (λ s. Joins cycle None false s new status) same j in record {
+  round = ended k.end k.text;
+  is = (e, k.comes);
+  noted = k.noted;
+  status_is = k.status_is;
   beside = same_beside cycle old mid new same b;
 }
 
-pub earlier_failed : (parts cycle : ℕ) (old mid new : SeenCycles) (status : ℕ) → JoinsNone cycle old mid → new ≡ mid → 3 ≤ status → TriesEarlier parts cycle old new status
-earlier_failed parts cycle old mid new status n same le = record {
-  round = failed status;
-  is = le;
-  joinings = ap (λ s. s.joinings) same ∙ n.joinings ∙ sym (append-nil old.joinings);
-  status_is = refl;
-  beside = record {
-    joined = λ other apart. ap (λ s. s.joined other) same ∙ n.beside.joined other apart;
+-- a call failed, and then why was said
+module _ (cycle : ℕ) (old mid new : SeenCycles) (status : ℕ) (n : JoinsNone cycle old mid) (text : Text) (same : new ≡ with_said text mid) (le : 3 ≤ status) where
+  fails_then : Fails old cycle status (new.reports cycle)
+  fails_then = (le, subst (λ s. MayCome old.separators (old.parts cycle) cycle (old.reports cycle) (s.reports cycle)) (sym same) n.may)
+
+  noted_then : new.noted ≡ old.noted ++ (n.text ++ text)
+  noted_then = ap (λ s. s.noted) same ∙ ap (λ t. t ++ text) n.noted ∙ append_assoc old.noted n.text text
+
+  beside_then : IsBeside cycle old new
+  beside_then = record {
+    separators = ap (λ s. s.separators) same ∙ n.beside.separators;
+    parts = ap (λ s. s.parts) same ∙ n.beside.parts;
     closed = ap (λ s. s.closed) same ∙ n.beside.closed;
-  };
+    packed = ap (λ s. s.packed) same ∙ n.beside.packed;
+    path = ap (λ s. s.path) same ∙ n.beside.path;
+    others = λ other apart. ap (λ s. s.reports other) same ∙ n.beside.others other apart;
+  }
+
+pub earlier_failed : (parts cycle : ℕ) (old mid new : SeenCycles) (status : ℕ) → JoinsNone cycle old mid → (text : Text) × (new ≡ with_said text mid) → 3 ≤ status → TriesEarlier parts cycle old new status
+earlier_failed parts cycle old mid new status n said le = record {
+  round = failed status (n.text ++ said.0);
+  is = fails_then cycle old mid new status n said.0 said.1 le;
+  noted = noted_then cycle old mid new status n said.0 said.1 le;
+  status_is = refl;
+  beside = beside_then cycle old mid new status n said.0 said.1 le;
 }
 
-pub last_joined : (cycle : ℕ) (old new : SeenCycles) (status : ℕ) → Joins cycle (made_of old cycle) (is_none (made_of old cycle)) old new status → TriesLast cycle old new status
-last_joined cycle old new status j = record { round = ended j.joining; is = j.over; joinings = j.joinings; status_is = j.status_is }
+pub last_joined : (cycle : ℕ) (old new : SeenCycles) (status : ℕ) → Joins cycle (made_of old cycle) (is_none (made_of old cycle)) old new status → IsBeside cycle old new → TriesLast cycle old new status
+last_joined cycle old new status j b = record { round = ended j.end j.text; is = j.comes; noted = j.noted; status_is = j.status_is; beside = b }
 
-pub last_failed : (cycle : ℕ) (old mid new : SeenCycles) (status : ℕ) → JoinsNone cycle old mid → new ≡ mid → 3 ≤ status → TriesLast cycle old new status
-last_failed cycle old mid new status n same le = record {
-  round = failed status;
-  is = le;
-  joinings = ap (λ s. s.joinings) same ∙ n.joinings ∙ sym (append-nil old.joinings);
+pub last_failed : (cycle : ℕ) (old mid new : SeenCycles) (status : ℕ) → JoinsNone cycle old mid → (text : Text) × (new ≡ with_said text mid) → 3 ≤ status → TriesLast cycle old new status
+last_failed cycle old mid new status n said le = record {
+  round = failed status (n.text ++ said.0);
+  is = fails_then cycle old mid new status n said.0 said.1 le;
+  noted = noted_then cycle old mid new status n said.0 said.1 le;
   status_is = refl;
+  beside = beside_then cycle old mid new status n said.0 said.1 le;
 }
 
 -- ---- one after the other
 
-earlier_same : (a b : SeenCycles) (parts cycle : ℕ) (r : Round) → is_due b parts cycle ≡ is_due a parts cycle → IsEarlier b parts cycle r → IsEarlier a parts cycle r
-earlier_same a b parts cycle passed e h = sym e ∙ h
-earlier_same a b parts cycle (ended j) e h = (sym e ∙ h.0, h.1)
-earlier_same a b parts cycle (failed status) e h = h
+-- a joining that began with the reports of the cycle as they were before
+module _ (a b : SeenCycles) (cycle : ℕ) (separators : b.separators ≡ a.separators) (parts : b.parts ≡ a.parts) (path : b.path ≡ a.path) (reports : b.reports cycle ≡ a.reports cycle) (new : Seen) where
+  comes_same : (made : Option Bool) (names : Bool) (end : CycleEnd) (text : Text) → Comes b cycle made names end text new → Comes a cycle made names end text new
+  comes_same made names end text c = record {
+    named = c.named;
+    comes = subst (λ r. ComesTo a.separators (a.parts cycle) cycle made end r new) reports
+        (subst (λ p. ComesTo a.separators (p cycle) cycle made end (b.reports cycle) new) parts
+        (subst (λ s. ComesTo s (b.parts cycle) cycle made end (b.reports cycle) new) separators c.comes));
+    said = c.said ∙ (λ i. end_text (separators i) (parts i cycle) cycle (path i cycle) end);
+  }
 
-earlier_more : (s : SeenCycles) (parts first next : ℕ) (rounds : List Round) (r : Round) → AreEarlier s parts first rounds → first + length rounds ≡ next → IsEarlier s parts next r
-    → AreEarlier s parts first (rounds ++ r ∷ [])
-earlier_more s parts first next [] r h e is =
+  fails_same : (status : ℕ) → Fails b cycle status new → Fails a cycle status new
+  fails_same status f = (
+    f.0,
+    subst (λ r. MayCome a.separators (a.parts cycle) cycle r new) reports
+        (subst (λ p. MayCome a.separators (p cycle) cycle (b.reports cycle) new) parts
+        (subst (λ s. MayCome s (b.parts cycle) cycle (b.reports cycle) new) separators f.1)),
+  )
+
+  earlier_same : (count : ℕ) (r : Round) → is_due b count cycle ≡ is_due a count cycle → IsEarlier b count cycle new r → IsEarlier a count cycle new r
+  earlier_same count passed e h = (sym e ∙ h.0, h.1 ∙ reports)
+  earlier_same count (ended end text) e h = (sym e ∙ h.0, comes_same None false end text h.1)
+  earlier_same count (failed status text) e h = fails_same status h
+
+  last_same : (r : Round) → made_of b cycle ≡ made_of a cycle → IsLast b cycle new r → IsLast a cycle new r
+  last_same passed e h = h
+  last_same (ended end text) e h = comes_same (made_of a cycle) (is_none (made_of a cycle)) end text (subst (λ m. Comes b cycle m (is_none m) end text new) e h)
+  last_same (failed status text) e h = fails_same status h
+
+-- later joinings leave the reports of these cycles as they are
+earlier_still : (s : SeenCycles) (now later : ℕ → Seen) (parts first : ℕ) (rounds : List Round) → ((other : ℕ) → first ≤ other → other < first + length rounds → later other ≡ now other)
+    → AreEarlier s now parts first rounds → AreEarlier s later parts first rounds
+earlier_still s now later parts first [] same h = tt
+earlier_still s now later parts first (r ∷ rounds) same h = (
+  subst (λ n. IsEarlier s parts first n r) (sym (same first (omega arith) (omega arith))) h.0,
+  earlier_still s now later parts (first + 1) rounds (λ other from below. same other (omega (arith, from)) (omega (arith, below))) h.1,
+)
+
+earlier_more : (s : SeenCycles) (new : ℕ → Seen) (parts first next : ℕ) (rounds : List Round) (r : Round) → AreEarlier s new parts first rounds → first + length rounds ≡ next → IsEarlier s parts next (new next) r
+    → AreEarlier s new parts first (rounds ++ r ∷ [])
+earlier_more s new parts first next [] r h e is =
     let number : next ≡ first = omega (arith, e) in
-    (subst (λ n. IsEarlier s parts n r) number is, tt)
-earlier_more s parts first next (q ∷ rounds) r h e is = (h.0, earlier_more s parts (first + 1) next rounds r h.1 (omega (arith, e)) is)
+    (subst (λ n. IsEarlier s parts n (new n) r) number is, tt)
+earlier_more s new parts first next (q ∷ rounds) r h e is = (h.0, earlier_more s new parts (first + 1) next rounds r h.1 (omega (arith, e)) is)
 
 greatest_more : (rounds : List Round) (r : Round) → greatest (rounds ++ r ∷ []) ≡ max (greatest rounds) (status_by r)
 greatest_more [] r = omega arith
 greatest_more (q ∷ rounds) r = let e = greatest_more rounds r in omega (arith, e)
 
-joinings_more : (rounds : List Round) (r : Round) → flat_map joinings_by (rounds ++ r ∷ []) ≡ flat_map joinings_by rounds ++ joinings_by r
-joinings_more rounds r = flat_map-append joinings_by rounds (r ∷ []) ∙ ap (λ js. flat_map joinings_by rounds ++ js) (append-nil (joinings_by r))
+said_more : (rounds : List Round) (r : Round) → flat_map said_by (rounds ++ r ∷ []) ≡ flat_map said_by rounds ++ said_by r
+said_more rounds r = flat_map-append said_by rounds (r ∷ []) ∙ ap (λ js. flat_map said_by rounds ++ js) (append-nil (said_by r))
 
 pub none_tried : (parts first : ℕ) (s : SeenCycles) → AreTried parts first first s s 0
 none_tried parts first s = record {
   rounds = [];
   are = tt;
   all = omega arith;
-  joinings = sym (append-nil s.joinings);
+  noted = sym (append-nil s.noted);
   greatest_is = refl;
-  joined = λ other out. refl;
+  separators = refl;
+  known = refl;
   closed = refl;
+  packed = refl;
+  path = refl;
+  others = λ other out. refl;
 }
+
+-- the cycle that comes next is as it was
+next_same : (parts first next : ℕ) (old mid : SeenCycles) (status : ℕ) → AreTried parts first next old mid status → mid.reports next ≡ old.reports next
+next_same parts first next old mid status h = h.others next (λ from below. omega (arith, below))
 
 pub tried_more : (parts first next : ℕ) (old mid new : SeenCycles) (status one all : ℕ) → AreTried parts first next old mid status → TriesEarlier parts next mid new one → all ≡ max status one
     → AreTried parts first (next + 1) old new all
-tried_more parts first next old mid new status one all h t e = record {
+tried_more parts first next old mid new status one all h t e = let still = next_same parts first next old mid status h in record {
   rounds = h.rounds ++ t.round ∷ [];
-  are = earlier_more old parts first next h.rounds t.round h.are h.all
-      (earlier_same old mid parts next t.round (λ i. not (is_there (h.joined next (λ from below. omega (arith, below)) i)) && have_all (h.closed i) parts next) t.is);
+  are = earlier_more old new.reports parts first next h.rounds t.round
+      (earlier_still old mid.reports new.reports parts first h.rounds (λ other from below. t.beside.others other (λ same. let n = h.all in omega (arith, n, below, same))) h.are) h.all
+      (earlier_same old mid next h.separators h.known h.path still (new.reports next) parts t.round
+      (λ i. not (is_there (look_of (h.packed i next) (still i).put)) && have_all (h.closed i) parts next) t.is);
   all = let n = h.all in let m = length-append h.rounds (t.round ∷ []) in omega (arith, n, m);
-  joinings = t.joinings ∙ ap (λ js. js ++ joinings_by t.round) h.joinings ∙ append_assoc old.joinings (flat_map joinings_by h.rounds) (joinings_by t.round)
-      ∙ ap (λ js. old.joinings ++ js) (sym (joinings_more h.rounds t.round));
+  noted = t.noted ∙ ap (λ js. js ++ said_by t.round) h.noted ∙ append_assoc old.noted (flat_map said_by h.rounds) (said_by t.round)
+      ∙ ap (λ js. old.noted ++ js) (sym (said_more h.rounds t.round));
   greatest_is = e ∙ (λ i. max (h.greatest_is i) (t.status_is i)) ∙ sym (greatest_more h.rounds t.round);
-  joined = λ other out.
-      t.beside.joined other (λ same. out (let n = h.all in omega (arith, n, same)) (omega (arith, same)))
-      ∙ h.joined other (λ from below. out from (omega (arith, below)));
+  separators = t.beside.separators ∙ h.separators;
+  known = t.beside.parts ∙ h.known;
   closed = t.beside.closed ∙ h.closed;
+  packed = t.beside.packed ∙ h.packed;
+  path = t.beside.path ∙ h.path;
+  others = λ other out.
+      t.beside.others other (λ same. out (let n = h.all in omega (arith, n, same)) (omega (arith, same)))
+      ∙ h.others other (λ from below. out from (omega (arith, below)));
 }
 
 -- ---- and the last one
-
-last_same : (a b : SeenCycles) (cycle : ℕ) (r : Round) → made_of b cycle ≡ made_of a cycle → IsLast b cycle r → IsLast a cycle r
-last_same a b cycle passed e h = h
-last_same a b cycle (ended j) e h = subst (λ m. IsOver cycle m (is_none m) j) e h
-last_same a b cycle (failed status) e h = h
 
 outside : (first next last : ℕ) → (next ≤ last) ⊎ (next ≡ first) → first ≤ last → last < next → ⊥
 outside first next last (inl le) from below = omega (arith, le, below)
@@ -162,15 +224,26 @@ count_is : (first next last count : ℕ) → (next ≤ last) ⊎ (next ≡ first
 count_is first next last count (inl le) over e = omega (arith, le, over, e)
 count_is first next last count (inr same) over e = omega (arith, same, over, e)
 
+-- no earlier cycle is the last one
+not_last : (first next last other : ℕ) → (next ≤ last) ⊎ (next ≡ first) → first ≤ other → other < next → other ≡ last → ⊥
+not_last first next last other bound from below same = outside first next last bound (omega (arith, from, same)) (omega (arith, below, same))
+
+not_tried : (first next last other : ℕ) → (next ≤ last) ⊎ (next ≡ first) → (other < first) ⊎ (last < other) → first ≤ other → other < next → ⊥
+not_tried first next last other bound (inl before) from below = omega (arith, before, from)
+not_tried first next last other (inl le) (inr behind) from below = omega (arith, le, behind, below)
+not_tried first next last other (inr same) (inr behind) from below = omega (arith, same, from, below)
+
 pub all_joined : (parts last next : ℕ) (old mid new : SeenCycles) (status one all : ℕ) → (next ≤ last) ⊎ (next ≡ oldest last) → last ≤ next
     → AreTried parts (oldest last) next old mid status → TriesLast last mid new one → all ≡ max status one → AreJoined old new parts last all
-all_joined parts last next old mid new status one all bound over h t e = record {
+all_joined parts last next old mid new status one all bound over h t e = let still = h.others last (outside (oldest last) next last bound) in record {
   rounds = h.rounds;
   end = t.round;
-  are = h.are;
+  are = earlier_still old mid.reports new.reports parts (oldest last) h.rounds
+      (λ other from below. t.beside.others other (not_last (oldest last) next last other bound from (let n = h.all in omega (arith, n, below)))) h.are;
   all = count_is (oldest last) next last (length h.rounds) bound over h.all;
-  end_is = last_same old mid last t.round (ap (λ l. if last == 0 then None else whole_of l) (h.joined last (outside (oldest last) next last bound))) t.is;
-  joinings = t.joinings ∙ ap (λ js. js ++ joinings_by t.round) h.joinings ∙ append_assoc old.joinings (flat_map joinings_by h.rounds) (joinings_by t.round)
-      ∙ ap (λ js. old.joinings ++ js) (sym (joinings_more h.rounds t.round));
+  end_is = last_same old mid last h.separators h.known h.path still (new.reports last) t.round (λ i. if last == 0 then None else whole_of (look_of (h.packed i last) (still i).put)) t.is;
+  noted = t.noted ∙ ap (λ js. js ++ said_by t.round) h.noted ∙ append_assoc old.noted (flat_map said_by h.rounds) (said_by t.round)
+      ∙ ap (λ js. old.noted ++ js) (sym (said_more h.rounds t.round));
   greatest_is = e ∙ (λ i. max (h.greatest_is i) (t.status_is i)) ∙ sym (greatest_more h.rounds t.round);
+  others = λ other out apart. t.beside.others other apart ∙ h.others other (not_tried (oldest last) next last other bound out);
 }

@@ -1,11 +1,12 @@
-mod Numbers
+pub mod Numbers
 mod Parts
 mod LastClosed
 mod Copies
 mod Decoded
 mod ClosedLaws
-mod Cycling
+pub mod Cycling
 mod Passing
 mod Stays
 mod Makes
 mod Memories
+mod Sayings

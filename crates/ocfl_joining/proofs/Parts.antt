@@ -6,22 +6,21 @@ use Rattle.ocfl_tree.proofs.Bools.{and_first, and_second}
 use Rattle.ocfl_tree.proofs.Places.{text_eq-Decides, place_eq-Decides}
 use Rattle.ocfl_separators.specs.Separators.{start_of_part, end_of_part}
 use Rattle.ocfl_tree.specs.Place.{Text, Place, text_eq}
-use Rattle.ocfl_joining.specs.Missing.{same_end, has_ends, is_part, is_few, closed_fault, fault_of, part_at, named, names_of, most_names, missing_at, numbers}
+use Rattle.ocfl_joining.specs.Missing.{KnownPart, same_end, has_ends, is_part, is_few, closed_fault, fault_of, part_at, named, names_of, most_names, missing_at, numbers}
 use Rattle.ocfl_joining.proofs.Numbers.{flat_more}
-use Rattle.ocfl_joining.specs.declared.part.ClosedPart.{ClosedPart}
 use Rattle.ocfl_joining.specs.declared.part.MissingPart.{MissingPart}
 use Rattle.ocfl_joining.specs.declared.part.PartFault.{PartFault}
 use Rattle.ocfl_joining.specs.declared.part.PartFault.TheVariants.{NoPart, OtherRoot, OtherPart, OtherCycle, Untold, FewNames, Incomplete}
 
 -- ---- one more part
 
-pub most_more : (parts : List (Option ClosedPart)) (part : Option ClosedPart) → most_names (parts ++ part ∷ []) ≡ max (names_of part) (most_names parts)
+pub most_more : (parts : List (Option KnownPart)) (part : Option KnownPart) → most_names (parts ++ part ∷ []) ≡ max (names_of part) (most_names parts)
 most_more [] part = refl
 most_more (p ∷ parts) part =
     let swap : max (names_of p) (max (names_of part) (most_names parts)) ≡ max (names_of part) (max (names_of p) (most_names parts)) = omega arith in
     ap (max (names_of p)) (most_more parts part) ∙ swap
 
-pub missing_step : (separators : List Place) (root : Text) (cycle most : ℕ) (parts : List (Option ClosedPart)) (n : ℕ) (old new : List MissingPart) (fault : Option PartFault) (part : Option ClosedPart)
+pub missing_step : (separators : List Place) (root : Text) (cycle most : ℕ) (parts : List (Option KnownPart)) (n : ℕ) (old new : List MissingPart) (fault : Option PartFault) (part : Option KnownPart)
     → most ≡ most_names parts → old ≡ flat_map (missing_at separators root cycle parts) (numbers n) → new ≡ old ++ named (n + 1) fault → fault ≡ fault_of separators root cycle most (n + 1) part → part ≡ part_at parts (n + 1)
     → new ≡ flat_map (missing_at separators root cycle parts) (numbers (n + 1))
 missing_step separators root cycle most parts n old new fault part m e f g h =
@@ -47,16 +46,16 @@ end_from_same None (Some q) e = cc
 end_from_same (Some p) None e = cc
 end_from_same (Some p) (Some q) e = ap Some ((place_eq-Decides p q).0 e)
 
-module _ (separators : List Place) (root : Text) (cycle most number : ℕ) (part : ClosedPart) where
+module _ (separators : List Place) (root : Text) (cycle most number : ℕ) (part : KnownPart) where
   abbrev right : Type 0
-  right = (part.root.items ≡ root) × ((part.from ≡ start_of_part separators number) × ((part.below ≡ end_of_part separators number) × ((part.cycle ≡ cycle) × ((part.told ≡ true) × (part.whole ≡ true)))))
+  right = (part.root ≡ root) × ((part.from ≡ start_of_part separators number) × ((part.below ≡ end_of_part separators number) × ((part.cycle ≡ cycle) × ((part.told ≡ true) × (part.whole ≡ true)))))
 
   closed_right : closed_fault root cycle most (start_of_part separators number) (end_of_part separators number) part ≡ None → right
   closed_right e =
-      let k = six_tests (text_eq part.root.items root) (has_ends part (start_of_part separators number) (end_of_part separators number)) (part.cycle == cycle) part.told (is_few most part.names) part.whole e in
+      let k = six_tests (text_eq part.root root) (has_ends part (start_of_part separators number) (end_of_part separators number)) (part.cycle == cycle) part.told (is_few most part.names) part.whole e in
       let from = same_end part.from (start_of_part separators number) in
       let below = same_end part.below (end_of_part separators number) in (
-        (text_eq-Decides part.root.items root).0 k.0,
+        (text_eq-Decides part.root root).0 k.0,
         (
           end_from_same part.from (start_of_part separators number) (and_first from below k.1.0),
           (end_from_same part.below (end_of_part separators number) (and_second from below k.1.0), (eqb-true part.cycle cycle k.1.1.0, (k.1.1.1.0, k.1.1.1.1.1))),

@@ -1,30 +1,59 @@
 -- Which cycles of parts are joined, and in which order.
-use Rattle.std.specs.Prelude.{◌≡◌, ◌≢◌, ℕ, zero, suc, ◌+◌, ◌-◌, ◌≤◌, ◌==◌, ◌&&◌, max, List, [], ◌∷◌, ◌++◌, length, flat_map, Bool, true, false, not, if◌then◌else◌, Option, Some, None, ⊤}
-use Rattle.ocfl_joining.specs.Status.{status_of}
-use Rattle.ocfl_joining.specs.declared.{cycles.{JoinedLook.{JoinedLook}, Joining.{Joining}}, status.CycleEnd.{CycleEnd}}
+use Rattle.std.specs.Prelude.{◌≡◌, ◌≢◌, ◌⊎◌, ℕ, zero, suc, ◌+◌, ◌-◌, ◌<◌, ◌≤◌, ◌==◌, ◌&&◌, ◌||◌, max, List, [], ◌∷◌, ◌++◌, length, All, flat_map, Bool, true, false, not, if◌then◌else◌, Option, Some, None, ⊤}
+use Rattle.std.specs.List.{Contains}
+use Rattle.ocfl_tree.specs.Place.{Text, Place}
+use Rattle.ocfl_joining.specs.{Joined.{IsRight, all_parts, joined_of}, Missing.{KnownPart, are_right, hindering_of, missing_of, root_of}}
+use Rattle.ocfl_joining.specs.{Reports.{Put, Seen, nothing_seen}, Saying.{lacking_text, missing_text}, Status.{status_of}}
+use Rattle.ocfl_joining.specs.declared.{cycles.JoinedLook.{JoinedLook}, part.MissingPart.{MissingPart}, status.CycleEnd.{CycleEnd}}
 use Rattle.ocfl_joining.specs.declared.cycles.JoinedLook.TheVariants.{There, Packed, Away}
 use Rattle.ocfl_joining.specs.declared.status.CycleEnd.TheVariants.{IsJoined, IsHindered}
 
--- What there is of the joined report of each cycle; of which cycles a part, by its number, has a closed
--- report and has said what that found; and the joinings that ended, in order.
+-- The separators of the parts. Of each cycle: what is known of the reports that the parts have closed;
+-- which part, by its number, has a closed report and has said what that found; whether a joined report is
+-- there compressed; how the path of one is shown that is not whole; and the closed reports, with the
+-- joined ones that are there. And what was said of cycles that were not joined, or not whole.
 pub record SeenCycles : Type 0 where
-  pub joined : ℕ → JoinedLook
+  pub separators : List Place
+  pub parts : ℕ → List (Option KnownPart)
   pub closed : ℕ → ℕ → Bool
-  pub joinings : List Joining
-
-abbrev pub with_joining : Joining → List Joining → List Joining
-with_joining j joinings = joinings ++ j ∷ []
+  pub packed : ℕ → Bool
+  pub path : ℕ → Text
+  pub reports : ℕ → Seen
+  pub noted : Text
 
 -- of cycles of which nothing is known
 abbrev pub no_cycles : SeenCycles
-no_cycles = record { joined = λ _. Away; closed = λ _ _. false; joinings = [] }
+no_cycles = record { separators = []; parts = λ _. []; closed = λ _ _. false; packed = λ _. false; path = λ _. []; reports = λ _. nothing_seen; noted = [] }
 
--- all but the joined report of one cycle is as it was
+-- one more text was said
+abbrev pub with_said : Text → SeenCycles → SeenCycles
+with_said text s = record { separators = s.separators; parts = s.parts; closed = s.closed; packed = s.packed; path = s.path; reports = s.reports; noted = s.noted ++ text }
+
+-- all but the joined reports of one cycle, and what was said, is as it was
 pub record IsBeside (cycle : ℕ) (old new : SeenCycles) : Type 0 where
-  pub joined : (other : ℕ) → other ≢ cycle → new.joined other ≡ old.joined other
+  pub separators : new.separators ≡ old.separators
+  pub parts : new.parts ≡ old.parts
   pub closed : new.closed ≡ old.closed
+  pub packed : new.packed ≡ old.packed
+  pub path : new.path ≡ old.path
+  pub others : (other : ℕ) → other ≢ cycle → new.reports other ≡ old.reports other
 
 -- ---- which cycles
+
+-- one of these joined reports is whole, or is not
+abbrev pub has_put : Bool → List Put → Bool
+has_put whole [] = false
+has_put whole (p ∷ ps) = (if whole then p.whole else not p.whole) || has_put whole ps
+
+-- what there is of the joined report of a cycle: one that is whole counts before one that is not
+abbrev pub look_of : Bool → List Put → JoinedLook
+look_of packed ps =
+    if has_put true ps then There true
+    else (if has_put false ps then There false
+    else (if packed then Packed else Away))
+
+abbrev pub look_at : SeenCycles → ℕ → JoinedLook
+look_at s cycle = look_of (s.packed cycle) (s.reports cycle).put
 
 abbrev pub is_there : JoinedLook → Bool
 is_there (There whole) = true
@@ -38,7 +67,7 @@ have_all closed (suc n) cycle = have_all closed n cycle && closed cycle (n + 1)
 
 -- a cycle before the last one is joined if all parts have closed it, and it is not joined yet
 abbrev pub is_due : SeenCycles → ℕ → ℕ → Bool
-is_due s parts cycle = not (is_there (s.joined cycle)) && have_all s.closed parts cycle
+is_due s parts cycle = not (is_there (look_at s cycle)) && have_all s.closed parts cycle
 
 -- of the cycles before one the last 1,000 are looked at
 abbrev pub oldest : ℕ → ℕ
@@ -51,7 +80,7 @@ whole_of Away = None
 
 -- the joined report with which the last cycle is compared, if one is there; there is none of cycle 0
 abbrev pub made_of : SeenCycles → ℕ → Option Bool
-made_of s cycle = if cycle == 0 then None else whole_of (s.joined cycle)
+made_of s cycle = if cycle == 0 then None else whole_of (look_at s cycle)
 
 abbrev pub is_none : Option Bool → Bool
 is_none None = true
@@ -62,64 +91,108 @@ abbrev pub end_of : Bool → Option Bool → CycleEnd
 end_of names None = IsHindered names
 end_of names (Some whole) = IsJoined whole
 
+-- ---- what a joining makes of a cycle
+
+-- what is wrong with the closed reports of these parts, which are of the root of the first of them
+abbrev pub missing_in : List Place → List (Option KnownPart) → ℕ → List MissingPart
+missing_in separators parts cycle = missing_of separators (root_of parts) cycle parts
+
+-- the parts that keep them from being joined
+abbrev pub hindering_in : List Place → List (Option KnownPart) → ℕ → List MissingPart
+hindering_in separators parts cycle = hindering_of separators (root_of parts) cycle parts
+
+-- The closed reports of a cycle can be joined, to a report that is whole if each of them is: each is as
+-- it was closed, and in its part.
+pub record CanJoin (separators : List Place) (parts : List (Option KnownPart)) (cycle : ℕ) (whole : Bool) (s : Seen) : Type 0 where
+  pub none_hinders : hindering_in separators parts cycle ≡ []
+  pub whole_is : whole ≡ are_right (missing_in separators parts cycle)
+  pub right : All (IsRight separators s) (all_parts separators)
+
+-- the joined report is put beside those that were there, or was found among them
+abbrev pub IsPutOrFound : Option Bool → Put → List Put → List Put → Type 0
+IsPutOrFound None joined old new = new ≡ old ++ joined ∷ []
+IsPutOrFound (Some made) joined old new = (made ≡ joined.whole) × (Contains old joined × (new ≡ old))
+
+-- The joining of a cycle ended so, over what was made of it before: there is a joined report, which has
+-- the closed reports of all parts in their order, each once. Or parts keep the cycle from being joined,
+-- and nothing is put.
+abbrev pub ComesTo : List Place → List (Option KnownPart) → ℕ → Option Bool → CycleEnd → Seen → Seen → Type 0
+ComesTo separators parts cycle made (IsJoined whole) old new = CanJoin separators parts cycle whole old × IsPutOrFound made (joined_of separators whole old) old.put new.put
+ComesTo separators parts cycle made (IsHindered named) old new = (hindering_in separators parts cycle ≢ []) × (new.put ≡ old.put)
+
+-- a call failed: nothing is put, or the joined report, which could be put
+abbrev pub MayCome : List Place → List (Option KnownPart) → ℕ → Seen → Seen → Type 0
+MayCome separators parts cycle old new =
+    (new.put ≡ old.put) ⊎ ((whole : Bool) × (CanJoin separators parts cycle whole old × (new.put ≡ old.put ++ joined_of separators whole old ∷ [])))
+
+-- what is said of the end: what the joined report lacks, or which parts keep the cycle from being joined
+abbrev pub end_text : List Place → List (Option KnownPart) → ℕ → Text → CycleEnd → Text
+end_text separators parts cycle path (IsJoined whole) = if whole then [] else lacking_text cycle parts path
+end_text separators parts cycle path (IsHindered named) = if named then missing_text cycle parts (hindering_in separators parts cycle) else []
+
 -- ---- what comes of them
 
--- a cycle was passed by, or joined, or a call failed, with this status
+-- a cycle was passed by; or its joining ended, and this was said; or a call failed, with this status
 pub data Round : Type 0 where
   passed : Round
-  ended : Joining → Round
-  failed : ℕ → Round
+  ended : CycleEnd → Text → Round
+  failed : ℕ → Text → Round
 
 -- if parts keep a cycle from being joined, they are named or not
 abbrev pub NamesAs : Bool → CycleEnd → Type 0
 NamesAs names (IsJoined whole) = ⊤
 NamesAs names (IsHindered named) = named ≡ names
 
--- the cycle was joined over what was made of it before
-pub record IsOver (cycle : ℕ) (made : Option Bool) (names : Bool) (j : Joining) : Type 0 where
-  pub cycle_is : j.cycle ≡ cycle
-  pub made_is : j.made ≡ made
-  pub named : NamesAs names j.end
+-- the joining of a cycle ended so, over what was made of it before
+pub record Comes (s : SeenCycles) (cycle : ℕ) (made : Option Bool) (names : Bool) (end : CycleEnd) (text : Text) (new : Seen) : Type 0 where
+  pub named : NamesAs names end
+  pub comes : ComesTo s.separators (s.parts cycle) cycle made end (s.reports cycle) new
+  pub said : text ≡ end_text s.separators (s.parts cycle) cycle (s.path cycle) end
 
--- a cycle before the last one: if it is due it is made, and no part is named; else it is passed by
-abbrev pub IsEarlier : SeenCycles → ℕ → ℕ → Round → Type 0
-IsEarlier s parts cycle passed = is_due s parts cycle ≡ false
-IsEarlier s parts cycle (ended j) = (is_due s parts cycle ≡ true) × IsOver cycle None false j
-IsEarlier s parts cycle (failed status) = 3 ≤ status
+abbrev pub Fails : SeenCycles → ℕ → ℕ → Seen → Type 0
+Fails s cycle status new = (3 ≤ status) × MayCome s.separators (s.parts cycle) cycle (s.reports cycle) new
+
+-- A cycle before the last one, with the reports that are there of it then: if it is due it is made, and
+-- no part is named; else it is passed by.
+abbrev pub IsEarlier : SeenCycles → ℕ → ℕ → Seen → Round → Type 0
+IsEarlier s parts cycle new passed = (is_due s parts cycle ≡ false) × (new ≡ s.reports cycle)
+IsEarlier s parts cycle new (ended end text) = (is_due s parts cycle ≡ true) × Comes s cycle None false end text new
+IsEarlier s parts cycle new (failed status text) = Fails s cycle status new
 
 -- the last one: it is compared with what was made of it, or made, and then the parts that keep it from
 -- it are named
-abbrev pub IsLast : SeenCycles → ℕ → Round → Type 0
-IsLast s cycle passed = ⊥
-IsLast s cycle (ended j) = IsOver cycle (made_of s cycle) (is_none (made_of s cycle)) j
-IsLast s cycle (failed status) = 3 ≤ status
+abbrev pub IsLast : SeenCycles → ℕ → Seen → Round → Type 0
+IsLast s cycle new passed = ⊥
+IsLast s cycle new (ended end text) = Comes s cycle (made_of s cycle) (is_none (made_of s cycle)) end text new
+IsLast s cycle new (failed status text) = Fails s cycle status new
 
 -- cycles before the last one, one after the other, from a number on
-abbrev pub AreEarlier : SeenCycles → ℕ → ℕ → List Round → Type 0
-AreEarlier s parts first [] = ⊤
-AreEarlier s parts first (r ∷ rounds) = IsEarlier s parts first r × AreEarlier s parts (first + 1) rounds
+abbrev pub AreEarlier : SeenCycles → (ℕ → Seen) → ℕ → ℕ → List Round → Type 0
+AreEarlier s new parts first [] = ⊤
+AreEarlier s new parts first (r ∷ rounds) = IsEarlier s parts first (new first) r × AreEarlier s new parts (first + 1) rounds
 
-abbrev pub joinings_by : Round → List Joining
-joinings_by passed = []
-joinings_by (ended j) = j ∷ []
-joinings_by (failed status) = []
+abbrev pub said_by : Round → Text
+said_by passed = []
+said_by (ended end text) = text
+said_by (failed status text) = text
 
 abbrev pub status_by : Round → ℕ
 status_by passed = 0
-status_by (ended j) = status_of j.end
-status_by (failed status) = status
+status_by (ended end text) = status_of end
+status_by (failed status text) = status
 
 abbrev pub greatest : List Round → ℕ
 greatest [] = 0
 greatest (r ∷ rounds) = max (status_by r) (greatest rounds)
 
 -- Each cycle up to the last one of so many parts, in order, and the greatest status. Nothing else was
--- joined.
+-- joined or said.
 pub record AreJoined (old new : SeenCycles) (parts last status : ℕ) : Type 0 where
   pub rounds : List Round
   pub end : Round
-  pub are : AreEarlier old parts (oldest last) rounds
+  pub are : AreEarlier old new.reports parts (oldest last) rounds
   pub all : length rounds ≡ last - oldest last
-  pub end_is : IsLast old last end
-  pub joinings : new.joinings ≡ old.joinings ++ flat_map joinings_by (rounds ++ end ∷ [])
+  pub end_is : IsLast old last (new.reports last) end
+  pub noted : new.noted ≡ old.noted ++ flat_map said_by (rounds ++ end ∷ [])
   pub greatest_is : status ≡ greatest (rounds ++ end ∷ [])
+  pub others : (cycle : ℕ) → (cycle < oldest last) ⊎ (last < cycle) → cycle ≢ last → new.reports cycle ≡ old.reports cycle

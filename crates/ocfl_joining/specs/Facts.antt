@@ -1,5 +1,5 @@
 -- What the checkpoints of parts say of them, and of their closed reports.
-use Rattle.std.specs.Prelude.{ℕ, ◌-◌, ◌^◌, ◌==◌, ◌&&◌, min, nat_lt, List, [], ◌∷◌, ◌++◌, map, Bool, true, false, if◌then◌else◌, Option, Some, None}
+use Rattle.std.specs.Prelude.{ℕ, ◌+◌, ◌-◌, ◌^◌, ◌==◌, ◌&&◌, min, nat_lt, List, [], ◌∷◌, ◌++◌, length, map, slice_get, Bool, true, false, if◌then◌else◌, Option, Some, None}
 use Rattle.ocfl_tree.specs.{Place.{Text, Place}, Path.{slashed}}
 use Rattle.ocfl_cursor.specs.Cursor.{State, start, behind, ended}
 use Rattle.ocfl_cursor.specs.declared.ends.PartEnds.{PartEnds}
@@ -7,7 +7,8 @@ use Rattle.ocfl_state.specs.Checkpoint.{Checkpoint}
 use Rattle.ocfl_state.specs.declared.checkpoint_parts.RootIdentity.{RootIdentity}
 use Rattle.ocfl_state.specs.declared.checkpoint_parts.Phase.{Phase}
 use Rattle.ocfl_state.specs.declared.checkpoint_parts.Phase.TheVariants.{Open, Closing}
-use Rattle.ocfl_joining.specs.declared.facts.Facts.{Facts}
+use Rattle.ocfl_joining.specs.{Folders.{Folders}, Missing.{KnownPart, numbers}}
+use Rattle.ocfl_joining.specs.declared.facts.{Facts.{Facts}, FoundReport.{FoundReport}}
 use Rattle.ocfl_joining.specs.declared.reports.KeptMark.{KeptMark}
 use Rattle.ocfl_joining.specs.declared.reports.KeptMark.TheVariants.{NotKept, Kept, Damaged}
 
@@ -91,3 +92,48 @@ abbrev pub runs_in : Option (Option Checkpoint) → Option ℕ
 runs_in None = None
 runs_in (Some None) = None
 runs_in (Some (Some c)) = Some c.cursor.runs
+
+abbrev pub both_runs : Option ℕ → Option ℕ → Option ℕ
+both_runs None more = None
+both_runs (Some sum) None = None
+both_runs (Some sum) (Some more) = Some (min (sum + more) (2 ^ 64 - 1))
+
+-- how many runs parts had, with one more part, if that is known of each
+abbrev pub sum_runs : Option ℕ → Option (Option Checkpoint) → Option ℕ
+sum_runs sum kept = both_runs sum (runs_in kept)
+
+-- ---- what is known of the report that a part closed in a cycle
+
+abbrev pub known_of : Facts → ℕ → Bool → FoundReport → KnownPart
+known_of facts cycle told found = record {
+  root = facts.root.items;
+  from = facts.from;
+  below = facts.below;
+  cycle = cycle;
+  whole = found.whole;
+  told = told;
+  names = names_in found.kept;
+  left = left_in found.kept;
+}
+
+-- if its report is there
+abbrev pub known_if : Facts → ℕ → Bool → Option FoundReport → Option KnownPart
+known_if facts cycle told None = None
+known_if facts cycle told (Some found) = Some (known_of facts cycle told found)
+
+-- if the part has a checkpoint, which says this
+abbrev pub known_by : Folders → ℕ → ℕ → Option Facts → Option KnownPart
+known_by f cycle number None = None
+known_by f cycle number (Some facts) = known_if facts cycle (f.has_said cycle number) (f.found cycle number)
+
+-- what the checkpoint of the part with a number says, from 1
+abbrev pub facts_at : List (Option Facts) → ℕ → Option Facts
+facts_at all number = at (slice_get all (number - 1))
+  where
+    at : Option (Option Facts) → Option Facts
+    at None = None
+    at (Some facts) = facts
+
+-- of all parts, by what their folders show
+abbrev pub known_parts : Folders → List (Option Facts) → ℕ → List (Option KnownPart)
+known_parts f all cycle = map (λ number. known_by f cycle number (facts_at all number)) (numbers (length all))

@@ -1,4 +1,5 @@
 pub mod Missing
+pub mod Folders
 pub mod Reports
 pub mod Crash
 pub mod Joined
@@ -8,6 +9,6 @@ pub mod Within
 pub mod Facts
 pub mod Status
 pub mod Cycles
-pub mod CycleMemory
+pub mod Saying
 -- What private functions say: a reader of the public contracts needs none of it.
 pub mod Internal

@@ -2,7 +2,7 @@
 use Rattle.std.specs.Prelude.{◌≡◌, ℕ, ◌-◌, ◌≤◌, ◌%◌, List, [], ◌∷◌, length, take, Bool, Option, Some, None, map, slice_get}
 use Rattle.std.proofs.{Common.{◌∙◌, arith, sym}, lemmas.List.{take_all}}
 use Rattle.ocfl_tree.specs.Place.{Text}
-use Rattle.ocfl_joining.specs.Reports.{Seen, Put}
+use Rattle.ocfl_joining.specs.Reports.{Seen, Put, no_rest}
 use Rattle.ocfl_joining.specs.declared.reports.KeptMark.{KeptMark}
 use Rattle.ocfl_joining.specs.declared.reports.KeptMark.TheVariants.{NotKept}
 use Rattle.ocfl_joining.specs.declared.memory.MemoryReport.{MemoryReport}
@@ -40,11 +40,12 @@ seen_in m = record {
   left = m.left.items;
   made = m.made.items;
   put = map put_of m.put.items;
+  rest = no_rest;
 }
 
 -- of these reports none was opened
 abbrev pub nothing_put : List MemoryReport → Seen
-nothing_put parts = record { bytes = bytes_of parts; marks = kept_of parts; word = λ whole bytes. Some (word_of bytes); opened = []; left = []; made = []; put = [] }
+nothing_put parts = record { bytes = bytes_of parts; marks = kept_of parts; word = λ whole bytes. Some (word_of bytes); opened = []; left = []; made = []; put = []; rest = no_rest }
 
 -- joined reports are on the disk once they are put
 abbrev pub leaves_now : MemoryReports → List Put → Type 0

@@ -1,11 +1,25 @@
 -- Which closed reports of parts are joined.
-use Rattle.std.specs.Prelude.{ℕ, zero, suc, ◌+◌, ◌-◌, ◌==◌, ◌&&◌, nat_lt, nat_le, max, List, [], ◌∷◌, ◌++◌, length, filter, flat_map, Bool, true, false, not, if◌then◌else◌, Option, Some, None, slice_get}
+use Rattle.std.specs.Prelude.{ℕ, zero, suc, ◌+◌, ◌-◌, ◌==◌, ◌&&◌, nat_lt, nat_le, max, List, [], ◌∷◌, ◌++◌, length, filter, flat_map, is_some, Bool, true, false, not, if◌then◌else◌, Option, Some, None, slice_get}
+use Rattle.std.specs.List.{find}
 use Rattle.ocfl_tree.specs.Place.{Text, Place, text_eq, place_eq}
 use Rattle.ocfl_separators.specs.Separators.{start_of_part, end_of_part}
-use Rattle.ocfl_joining.specs.declared.part.ClosedPart.{ClosedPart}
 use Rattle.ocfl_joining.specs.declared.part.MissingPart.{MissingPart}
 use Rattle.ocfl_joining.specs.declared.part.PartFault.{PartFault}
 use Rattle.ocfl_joining.specs.declared.part.PartFault.TheVariants.{NoPart, NotClosed, OtherRoot, OtherPart, OtherCycle, Untold, FewNames, Incomplete}
+
+-- What is known of the report that a part closed in a cycle: which storage root the part is of, in
+-- whatever form; where it begins, and below which place it stays; the cycle; whether nothing of the
+-- report was lost or left out; whether what it has new and gone was said; how many names the storage
+-- root had when the cycle began; and the places that were left out.
+pub record KnownPart : Type 0 where
+  pub root : Text
+  pub from : Option Place
+  pub below : Option Place
+  pub cycle : ℕ
+  pub whole : Bool
+  pub told : Bool
+  pub names : Option ℕ
+  pub left : List Place
 
 -- the numbers of so many parts, from 1
 abbrev pub numbers : ℕ → List ℕ
@@ -24,7 +38,7 @@ same_end (Some p) (Some q) = place_eq p q
 abbrev pub is_part : List Place → ℕ → Bool
 is_part separators number = nat_lt 0 number && nat_le number (length separators + 1)
 
-abbrev pub has_ends : ClosedPart → Option Place → Option Place → Bool
+abbrev pub has_ends : KnownPart → Option Place → Option Place → Bool
 has_ends part from below = same_end part.from from && same_end part.below below
 
 -- less than half of the most
@@ -34,23 +48,23 @@ is_few most (Some names) = nat_lt names (most - names)
 
 -- what is wrong with a part that has these ends, the first of these; `most` is the most names that
 -- one of the parts saw in the storage root
-abbrev pub closed_fault : Text → ℕ → ℕ → Option Place → Option Place → ClosedPart → Option PartFault
+abbrev pub closed_fault : Text → ℕ → ℕ → Option Place → Option Place → KnownPart → Option PartFault
 closed_fault root cycle most from below part =
-    if not (text_eq part.root.items root) then Some OtherRoot
+    if not (text_eq part.root root) then Some OtherRoot
     else (if not (has_ends part from below) then Some OtherPart
     else (if not (part.cycle == cycle) then Some OtherCycle
     else (if not part.told then Some Untold
     else (if is_few most part.names then Some FewNames
     else (if not part.whole then Some Incomplete else None)))))
 
-abbrev pub fault_of : List Place → Text → ℕ → ℕ → ℕ → Option ClosedPart → Option PartFault
+abbrev pub fault_of : List Place → Text → ℕ → ℕ → ℕ → Option KnownPart → Option PartFault
 fault_of separators root cycle most number None = if is_part separators number then Some NotClosed else Some NoPart
 fault_of separators root cycle most number (Some part) =
     if is_part separators number then closed_fault root cycle most (start_of_part separators number) (end_of_part separators number) part else Some NoPart
 
 -- ---- all parts
 
-abbrev pub names_of : Option ClosedPart → ℕ
+abbrev pub names_of : Option KnownPart → ℕ
 names_of None = 0
 names_of (Some part) = names_or_none part.names
   where
@@ -58,16 +72,25 @@ names_of (Some part) = names_or_none part.names
     names_or_none None = 0
     names_or_none (Some names) = names
 
+-- which storage root the first part is of that is known
+abbrev pub root_of : List (Option KnownPart) → Text
+root_of parts = by (find (λ part. is_some part) parts)
+  where
+    by : Option (Option KnownPart) → Text
+    by None = []
+    by (Some None) = []
+    by (Some (Some part)) = part.root
+
 -- the most names that one of them saw in the storage root; 0 if no number is known
-abbrev pub most_names : List (Option ClosedPart) → ℕ
+abbrev pub most_names : List (Option KnownPart) → ℕ
 most_names [] = 0
 most_names (part ∷ parts) = max (names_of part) (most_names parts)
 
 -- what is known of the part with a number, from 1
-abbrev pub part_at : List (Option ClosedPart) → ℕ → Option ClosedPart
+abbrev pub part_at : List (Option KnownPart) → ℕ → Option KnownPart
 part_at parts number = at (slice_get parts (number - 1))
   where
-    at : Option (Option ClosedPart) → Option ClosedPart
+    at : Option (Option KnownPart) → Option KnownPart
     at None = None
     at (Some part) = part
 
@@ -76,15 +99,15 @@ named number None = []
 named number (Some fault) = record { part = number; fault = fault } ∷ []
 
 -- the part with a number, if something is wrong with it
-abbrev pub missing_at : List Place → Text → ℕ → List (Option ClosedPart) → ℕ → List MissingPart
+abbrev pub missing_at : List Place → Text → ℕ → List (Option KnownPart) → ℕ → List MissingPart
 missing_at separators root cycle parts number = named number (fault_of separators root cycle (most_names parts) number (part_at parts number))
 
 -- how many parts there are: those that the separators make, and those of which something is known
-abbrev pub part_count : List Place → List (Option ClosedPart) → ℕ
+abbrev pub part_count : List Place → List (Option KnownPart) → ℕ
 part_count separators parts = max (length parts) (length separators + 1)
 
 -- all parts with which something is wrong
-abbrev pub missing_of : List Place → Text → ℕ → List (Option ClosedPart) → List MissingPart
+abbrev pub missing_of : List Place → Text → ℕ → List (Option KnownPart) → List MissingPart
 missing_of separators root cycle parts = flat_map (missing_at separators root cycle parts) (numbers (part_count separators parts))
 
 -- nothing is wrong with any part
@@ -106,14 +129,14 @@ hinders Untold = true
 hinders FewNames = true
 
 -- the parts that keep all of them from being joined
-abbrev pub hindering_of : List Place → Text → ℕ → List (Option ClosedPart) → List MissingPart
+abbrev pub hindering_of : List Place → Text → ℕ → List (Option KnownPart) → List MissingPart
 hindering_of separators root cycle parts = filter (λ m. hinders m.fault) (missing_of separators root cycle parts)
 
 -- the places that a part left out
-abbrev pub left_by : Option ClosedPart → List Place
+abbrev pub left_by : Option KnownPart → List Place
 left_by None = []
-left_by (Some part) = part.left.items
+left_by (Some part) = part.left
 
 -- all that was left out, part by part
-abbrev pub left_of : List (Option ClosedPart) → List Place
+abbrev pub left_of : List (Option KnownPart) → List Place
 left_of parts = flat_map left_by parts

@@ -1,5 +1,5 @@
 //! Copying the report of a part, and checking it as it is read.
-ghost use Rattle.std.specs.Prelude.{◌≡◌, ◌≢◌, ◌↔◌, ℕ, List, [], Option, false, IsTrue};
+ghost use Rattle.std.specs.Prelude.{◌≡◌, ◌≢◌, ◌↔◌, ℕ, List, [], Option, Some, false, IsTrue};
 ghost use Rattle.std.specs.Prelude.{IfOk, OnOk, option_map};
 ghost use Rattle.ocfl_separators.specs.Splits.{IsNotLess};
 ghost use Rattle.ocfl_state.specs.Pieces.{Carries};
@@ -7,6 +7,7 @@ ghost use Rattle.ocfl_joining.specs.{Crash.{Passes, Same}, Reports.{SameReports}
 ghost use Rattle.ocfl_joining.specs.Joined.{IsAsClosed, IsBelow, IsFrom, IsReportIn, IsRight};
 ghost use Rattle.ocfl_joining.specs.Internal.Copying.{AreCopied, CopiesLine, HasCopied};
 ghost use Rattle.ocfl_joining.specs.Internal.Copying.{IsCopy, IsFit, IsFitLine, IsFitPlace};
+ghost use Rattle.ocfl_joining.specs.Saying.{part_stop_text};
 ghost use Rattle.ocfl_joining.specs.declared.copying.PartStop.TheVariants.{Changed};
 ghost use Rattle.ocfl_report.specs.Line.{Line as ModelLine};
 
@@ -16,20 +17,36 @@ use ocfl_separators::Separators;
 use ocfl_state::ReportDigests;
 use ocfl_tree::Place;
 use std::alloc::Global;
-use thiserror::Error;
+use std::fmt;
 
 /// Why the report of a part was not copied.
-#[derive(Clone, Copy, Debug, PartialEq, Eq, Error)]
+#[derive(Clone, Copy, Debug, PartialEq, Eq)]
 pub enum PartStop {
     /// It is not the one that was closed, or cannot be that of its part.
-    #[error("its report was changed")]
     Changed,
     /// It could not be read, or what was read could not be written.
-    #[error("its report could not be read, or not be copied")]
     Failed,
     /// Memory was refused.
-    #[error("out of memory")]
     Memory,
+}
+
+/// Why, in words.
+fn words_of(stop: PartStop) -> &'static str
+    ensures { result.now ≡ part_stop_text stop }
+{
+    match stop {
+        PartStop::Changed => "its report was changed",
+        PartStop::Failed => "its report could not be read, or not be copied",
+        PartStop::Memory => "out of memory",
+    }
+}
+
+impl fmt::Display for PartStop {
+    ghost output = { λ stop. Some (part_stop_text stop) };
+
+    fn fmt<W: fmt::Write>(&self, f: &mut fmt::Formatter<W>) -> fmt::Result {
+        f.write_str(words_of(*self))
+    }
 }
 
 /// What a call over reports that was not done means for the part.

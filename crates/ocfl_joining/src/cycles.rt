@@ -1,10 +1,11 @@
 //! Which cycles of parts are joined, from which one on, and in which order.
-ghost use Rattle.std.specs.Prelude.{◌≡◌, ◌⊎◌, ◌≤◌, ◌&&◌, ℕ, Bool, false, IsTrue, IfOk, OnErr};
-ghost use Rattle.ocfl_joining.specs.Cycles.{AreJoined, IsBeside, SeenCycles, end_of as end_by};
-ghost use Rattle.ocfl_joining.specs.Cycles.{have_all as have_all_of, is_due as is_due_by};
-ghost use Rattle.ocfl_joining.specs.Cycles.{is_none as is_none_of, is_there as is_there_by};
-ghost use Rattle.ocfl_joining.specs.Cycles.{made_of, no_cycles, oldest, whole_of as whole_by};
-ghost use Rattle.ocfl_joining.specs.Cycles.{with_joining};
+ghost use Rattle.std.specs.Prelude.{◌≡◌, ◌⊎◌, ◌≤◌, ◌&&◌, ◌++◌, ℕ, Bool, false, IsTrue, IfOk, OnErr};
+ghost use Rattle.ocfl_tree.specs.Place.{Text};
+ghost use Rattle.ocfl_joining.specs.Cycles.{AreJoined, ComesTo, IsBeside, MayCome, SeenCycles};
+ghost use Rattle.ocfl_joining.specs.Cycles.{end_of as end_by, end_text, have_all as have_all_of};
+ghost use Rattle.ocfl_joining.specs.Cycles.{is_due as is_due_by, is_none as is_none_of};
+ghost use Rattle.ocfl_joining.specs.Cycles.{is_there as is_there_by, look_at, made_of, no_cycles};
+ghost use Rattle.ocfl_joining.specs.Cycles.{oldest, whole_of as whole_by, with_said};
 ghost use Rattle.ocfl_joining.specs.Internal.Cycling.{AreTried, Joins, JoinsNone, TriesEarlier};
 ghost use Rattle.ocfl_joining.specs.Internal.Cycling.{TriesLast};
 
@@ -27,18 +28,6 @@ pub enum JoinedLook {
     Away,
 }
 
-/// The joining of a cycle that ended.
-#[derive(Clone, Copy, Debug, PartialEq, Eq)]
-pub struct Joining {
-    /// Which cycle it was.
-    pub cycle: u64,
-    /// Whether the joined report that was made before is whole. The closed reports were compared with
-    /// it. `None` if there was none, and it was to be made.
-    pub made: Option<bool>,
-    /// How it ended.
-    pub end: CycleEnd,
-}
-
 /// A call over the cycles of parts was not done. Who answers so keeps why.
 #[derive(Clone, Copy, Debug, PartialEq, Eq)]
 pub struct CycleFailed;
@@ -50,12 +39,12 @@ pub trait PartCycles {
     /// Whether the cycles are as the clauses say. Of those that are not told they say nothing.
     ghost told: { Bool } = { false };
 
-    /// What calls show, and which joinings ended.
+    /// What calls show, and what was said.
     ghost seen: { Self → SeenCycles } = { λ _. no_cycles };
 
     /// What there is of the joined report of a cycle.
     fn look(&mut self, cycle: u64) -> Result<JoinedLook, CycleFailed>
-        ensures value { IsTrue told → IfOk result (λ look. look ≡ (seen self.old).joined cycle) }
+        ensures value { IsTrue told → IfOk result (λ look. look ≡ look_at (seen self.old) cycle) }
         ensures seen { IsTrue told → seen self.new ≡ seen self.old };
 
     /// Whether the part with this number, from 1, has a closed report of a cycle, and has said what
@@ -73,17 +62,25 @@ pub trait PartCycles {
         made: Option<bool>,
         names: bool,
     ) -> Result<Option<bool>, CycleFailed>
-        ensures ended { IsTrue told → IfOk result (λ whole. (seen self.new).joinings
-            ≡ with_joining (record { cycle = cycle; made = made; end = end_by names whole })
-            (seen self.old).joinings) }
-        ensures failed { IsTrue told → OnErr result
-            ((seen self.new).joinings ≡ (seen self.old).joinings) }
+        ensures comes { IsTrue told → IfOk result (λ whole. ComesTo (seen self.old).separators
+            ((seen self.old).parts cycle) cycle made (end_by names whole)
+            ((seen self.old).reports cycle) ((seen self.new).reports cycle)) }
+        ensures said { IsTrue told → IfOk result (λ whole. (seen self.new).noted
+            ≡ (seen self.old).noted ++ end_text (seen self.old).separators
+            ((seen self.old).parts cycle) cycle ((seen self.old).path cycle)
+            (end_by names whole)) }
+        ensures may { IsTrue told → OnErr result (MayCome (seen self.old).separators
+            ((seen self.old).parts cycle) cycle
+            ((seen self.old).reports cycle) ((seen self.new).reports cycle)) }
+        ensures noted { IsTrue told → OnErr result ((text : Text)
+            × ((seen self.new).noted ≡ (seen self.old).noted ++ text)) }
         ensures beside { IsTrue told → IsBeside cycle (seen self.old) (seen self.new) };
 
     /// Says why the last call failed, and gives the status of that.
     fn fail(&mut self) -> u8
         ensures status { 3 ≤ result }
-        ensures seen { IsTrue told → seen self.new ≡ seen self.old };
+        ensures seen { IsTrue told → (text : Text)
+            × (seen self.new ≡ with_said text (seen self.old)) };
 }
 
 /// Joins the reports of so many parts, of each cycle up to the last one that all of them have closed,
@@ -220,7 +217,9 @@ fn join_over<C: PartCycles>(
     Ok(join_status(end_of(names, whole)))
 }
 
-pub(crate) fn end_of(names: bool, whole: Option<bool>) -> CycleEnd
+/// How a joining ended: the joined report is whole or not, or parts keep the cycle from being joined,
+/// and were named or not.
+pub fn end_of(names: bool, whole: Option<bool>) -> CycleEnd
     ensures { result ≡ end_by names whole }
 {
     match whole {
@@ -243,7 +242,7 @@ fn join_last_or_fail<C: PartCycles>(cycles: &mut C, cycle: u64) -> u8
 
 /// Compares the joined report of the last cycle, or joins it, and names the parts that keep it from
 /// it. Gives the status.
-#[tactic(auto, using(crate::proofs::Cycling::joins_then, crate::proofs::Cycling::none_joined, crate::proofs::Cycling::none_then))]
+#[tactic(auto, using(crate::proofs::Cycling::joins_then, crate::proofs::Cycling::none_joined, crate::proofs::Cycling::none_then, crate::proofs::Cycling::same_beside, crate::proofs::Cycling::all_beside))]
 fn join_last<C: PartCycles>(cycles: &mut C, cycle: u64) -> Result<u8, CycleFailed>
     ensures joins { IsTrue C.told → IfOk result (λ status.
         Joins cycle (made_of (C.seen cycles.old) cycle)
@@ -251,6 +250,7 @@ fn join_last<C: PartCycles>(cycles: &mut C, cycle: u64) -> Result<u8, CycleFaile
         (C.seen cycles.old) (C.seen cycles.new) status) }
     ensures failed { IsTrue C.told
         → OnErr result (JoinsNone cycle (C.seen cycles.old) (C.seen cycles.new)) }
+    ensures beside { IsTrue C.told → IsBeside cycle (C.seen cycles.old) (C.seen cycles.new) }
 {
     let made = find_made(cycles, cycle)?;
     join_over(cycles, cycle, made, is_none(made))

@@ -3,10 +3,10 @@ ghost use Rattle.std.specs.Prelude.{◌≡◌, ◌++◌, IfOk, OnOk, map, min};
 ghost use Rattle.std.specs.Option.{option_map};
 ghost use Rattle.ocfl_cursor.specs.State.{state_of};
 ghost use Rattle.ocfl_joining.specs.Facts.{below_of, from_of, has_ended, has_lines, is_closed};
-ghost use Rattle.ocfl_joining.specs.Facts.{is_emptied as is_emptied_by, is_open, last_by};
+ghost use Rattle.ocfl_joining.specs.Facts.{is_emptied as is_emptied_by, is_open, known_of, last_by};
 ghost use Rattle.ocfl_joining.specs.Facts.{last_closed, last_of_all as last_of_these, left_in};
 ghost use Rattle.ocfl_joining.specs.Facts.{mark_by, mark_of as mark_of_these, names_in};
-ghost use Rattle.ocfl_joining.specs.Facts.{root_of, runs_in};
+ghost use Rattle.ocfl_joining.specs.Facts.{root_of, runs_in, sum_runs};
 
 use crate::part::ClosedPart;
 use crate::reports::KeptMark;
@@ -41,6 +41,16 @@ impl Drop for Facts {
             has_lines: _has_lines,
         } = self;
     }
+}
+
+/// A closed report of a part that was found.
+#[derive(Debug, Drop)]
+pub struct FoundReport {
+    /// Whether nothing of it was lost, and nothing left out.
+    pub whole: bool,
+    /// The checkpoint with which it was closed. `None` where none was kept, and `Some(None)` where what
+    /// was kept is no checkpoint any more.
+    pub kept: Option<Option<Checkpoint>>,
 }
 
 /// Which storage root it is of.
@@ -219,7 +229,7 @@ fn names_of(kept: &Option<Option<Checkpoint>>) -> Option<u64>
 }
 
 /// How many runs the cycle of a closed report had, if that was kept.
-pub fn runs_of(kept: &Option<Option<Checkpoint>>) -> Option<u64>
+fn runs_of(kept: &Option<Option<Checkpoint>>) -> Option<u64>
     ensures { result ≡ runs_in kept.now }
 {
     match kept {
@@ -228,8 +238,20 @@ pub fn runs_of(kept: &Option<Option<Checkpoint>>) -> Option<u64>
     }
 }
 
-/// What is known of the report that a part closed in a cycle: whether it is whole, and whether what
-/// it has new and gone was said; by the part's checkpoint, and by what was kept at its closing.
+/// How many runs parts had in a cycle, with one more part, of which this was kept. `None` if that is not
+/// known of each.
+pub fn add_runs(sum: Option<u64>, kept: &Option<Option<Checkpoint>>) -> Option<u64>
+    ensures { result ≡ sum_runs sum kept.now }
+{
+    match (sum, runs_of(kept)) {
+        (Some(sum), Some(more)) => Some(sum.saturating_add(more)),
+        _ => None,
+    }
+}
+
+/// What is known of the report of a cycle that a part has closed and that was found: by the part's
+/// checkpoint, by whether what the report has new and gone was said, and by what was kept at its
+/// closing.
 ///
 /// The only error is running out of memory.
 pub fn known_part(
@@ -237,26 +259,18 @@ pub fn known_part(
     facts: &Facts,
     cycle: u64,
     told: bool,
-    whole: bool,
-    kept: &Option<Option<Checkpoint>>,
+    found: &FoundReport,
 ) -> Result<ClosedPart, AllocError>
-    ensures root { IfOk result (λ part. part.root.items ≡ facts.now.root.items) }
-    ensures from { IfOk result (λ part. part.from ≡ facts.now.from) }
-    ensures below { IfOk result (λ part. part.below ≡ facts.now.below) }
-    ensures cycle { IfOk result (λ part. part.cycle ≡ cycle) }
-    ensures told { IfOk result (λ part. part.told ≡ told) }
-    ensures whole { IfOk result (λ part. part.whole ≡ whole) }
-    ensures names { IfOk result (λ part. part.names ≡ names_in kept.now) }
-    ensures left { IfOk result (λ part. part.left.items ≡ left_in kept.now) }
+    ensures { IfOk result (λ part. part ≡ known_of facts.now cycle told found.now) }
 {
     Ok(ClosedPart {
         root: facts.root.to_vec(alloc)?,
         from: copy_end(&facts.from)?,
         below: copy_end(&facts.below)?,
         cycle,
-        whole,
+        whole: found.whole,
         told,
-        names: names_of(kept),
-        left: left_out(alloc, kept)?,
+        names: names_of(&found.kept),
+        left: left_out(alloc, &found.kept)?,
     })
 }

@@ -118,6 +118,8 @@ pub fn join<R: PartReports, S: Say>(
     ensures left { IfOk result (λ joined. joined.left.items ≡ left_of parts.now) }
     ensures missing { IfErr result (λ stop. IsMissingRightly
         (hindering_of separators.now root.now cycle parts.now) stop) }
+    ensures unhindered { IfErr result (λ stop. is_output stop ≡ true
+        → hindering_of separators.now root.now cycle parts.now ≡ []) }
     ensures unread { IfErr result (λ stop. is_missing stop ≡ true → reports.new ≡ reports.old) }
     ensures silent { IfErr result (λ stop. is_missing stop ≡ true
         → S.said out.new ≡ S.said out.old) }

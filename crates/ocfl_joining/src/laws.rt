@@ -5,16 +5,16 @@ ghost use Rattle.ocfl_tree.specs.StorageRoot.{StorageRoot};
 ghost use Rattle.ocfl_report.specs.Text.{text};
 ghost use Rattle.ocfl_rules.specs.{Audit.{Unread, audit}, Parts.{Part, parts_of, together, within}};
 ghost use Rattle.ocfl_separators.specs.Separators.{end_of_part, start_of_part};
-ghost use Rattle.ocfl_joining.specs.{Joined.{all_parts, joined_text}, Missing.{fault_of}};
-ghost use Rattle.ocfl_joining.specs.{Reports.{Seen}, declared.part.ClosedPart.{ClosedPart}};
+ghost use Rattle.ocfl_joining.specs.{Joined.{all_parts, joined_text}, Missing.{KnownPart, fault_of}};
+ghost use Rattle.ocfl_joining.specs.Reports.{Seen};
 
 /// A part that has no fault is of this storage root and of this cycle, and has the ends of the part
 /// with this number; what its report has new and gone was said, and it is whole.
 #[tactic(auto, using(crate::proofs::Parts::part_right))]
 pub fn a_part_without_fault_is_right()
-    ensures { (separators : List Place) (root : Text) (cycle most number : ℕ) (part : ClosedPart)
+    ensures { (separators : List Place) (root : Text) (cycle most number : ℕ) (part : KnownPart)
         → fault_of separators root cycle most number (Some part) ≡ None
-        → (part.root.items ≡ root) × ((part.from ≡ start_of_part separators number)
+        → (part.root ≡ root) × ((part.from ≡ start_of_part separators number)
         × ((part.below ≡ end_of_part separators number)
         × ((part.cycle ≡ cycle) × ((part.told ≡ true) × (part.whole ≡ true))))) }
 {}
@@ -27,6 +27,7 @@ pub fn closed_reports_join_to_the_audit()
     ensures { (root : StorageRoot) (separators : List Place) (s : Seen)
         (parts : List (Part × Unread)) → IsAscending place_cmp separators
         → map (λ e. e.0) parts ≡ parts_of separators
-        → map s.bytes (all_parts separators) ≡ map (λ e. text (within e.0 (audit root e.1))) parts
-        → joined_text separators s ≡ text (audit root (together parts)) }
+        → map s.bytes (all_parts separators)
+        ≡ map (λ e. text (within e.0 (audit None root e.1))) parts
+        → joined_text separators s ≡ text (audit None root (together parts)) }
 {}

@@ -12,7 +12,11 @@
 //! - `find_within` gives the places of a list that are in a part.
 //! - `join_cycles` joins the last cycle that all parts have closed, and of the 1,000 before it, the
 //!   oldest first, each that all of them have closed and that is not joined; it has the greatest
-//!   status. That is so if what is seen of the cycles is as the trait [`PartCycles`] says.
+//!   status. Of each that is joined there is a report then that has the closed reports of all parts,
+//!   each right, and nothing is put of one that parts keep from it. That is so if the cycles are as
+//!   the trait [`PartCycles`] says.
+//! - `say_missing` and `say_lacking` are what is said of parts that keep a cycle from being joined, and
+//!   of a joined report that is not whole.
 //!
 //! And if the reports are as the trait [`PartReports`] says:
 //!
@@ -26,12 +30,10 @@
 //!   said, if the reports tell what a crash leaves. The reports of the parts stay as they are.
 //!
 //! If the report of each part is what the audit has there, what is joined is the audit
-//! (`closed_reports_join_to_the_audit`). `MemoryReports` meets the trait, and `MemCycles`
-//! that of cycles.
+//! (`closed_reports_join_to_the_audit`). `MemoryReports` meets the trait.
 #![tactic(auto)]
 
 mod copying;
-mod cycle_memory;
 mod cycles;
 mod facts;
 mod joining;
@@ -40,17 +42,20 @@ mod memory;
 mod missing;
 mod part;
 mod reports;
+mod saying;
 mod status;
 mod within;
 
 pub use copying::PartStop;
-pub use cycle_memory::{MemClosed, MemCycles, MemJoined};
-pub use cycles::{CycleFailed, JoinedLook, Joining, PartCycles, join_cycles};
-pub use facts::{Facts, facts_of, is_emptied, known_part, last_of_all, mark_of, runs_of};
+pub use cycles::{CycleFailed, JoinedLook, PartCycles, end_of, join_cycles};
+pub use facts::{
+    Facts, FoundReport, add_runs, facts_of, is_emptied, known_part, last_of_all, mark_of,
+};
 pub use joining::{JoinStop, Joined, join};
 pub use memory::{MemoryJoined, MemoryReport, MemoryReports};
-pub use missing::{find_missing, find_most_names};
+pub use missing::{find_missing, find_most_names, find_root};
 pub use part::{ClosedPart, MissingPart, PartFault};
 pub use reports::{KeptMark, PartReports, ReportTrouble};
+pub use saying::{is_own_cause, say_lacking, say_missing, say_stop};
 pub use status::{CycleEnd, join_status};
 pub use within::find_within;

@@ -1,8 +1,9 @@
 //! Which parts cannot be joined, and why.
-ghost use Rattle.std.specs.Prelude.{◌≡◌, ◌+◌, ◌++◌, IfOk, OnOk, filter, option_map};
+ghost use Rattle.std.specs.Prelude.{◌≡◌, ◌+◌, ◌++◌, IfOk, OnOk, filter, is_some, option_map};
+ghost use Rattle.std.specs.List.{find};
 ghost use Rattle.ocfl_joining.specs.Missing.{closed_fault, fault_of, has_ends, hinders, is_few};
 ghost use Rattle.ocfl_joining.specs.Missing.{left_by, left_of, missing_of, most_names, named};
-ghost use Rattle.ocfl_joining.specs.Missing.{names_of, part_at, same_end};
+ghost use Rattle.ocfl_joining.specs.Missing.{names_of, part_at, root_of, same_end};
 
 use crate::part::{ClosedPart, MissingPart, PartFault};
 use ocfl_separators::Separators;
@@ -113,6 +114,23 @@ pub fn find_most_names(parts: &[Option<ClosedPart>]) -> u64
     most
 }
 
+/// The first part that is known.
+fn first_known(parts: &[Option<ClosedPart>]) -> Option<&Option<ClosedPart>>
+    ensures { option_map (λ p. p.now) result ≡ find (λ part. is_some part) parts.now }
+{
+    parts.iter().find(|part| part.is_some())
+}
+
+/// Which storage root the first part is of that is known; no bytes if none is.
+pub fn find_root(parts: &[Option<ClosedPart>]) -> &[u8]
+    ensures { result.now ≡ root_of parts.now }
+{
+    match first_known(parts) {
+        Some(Some(part)) => part.root.as_slice(),
+        _ => &[],
+    }
+}
+
 /// Names each part of a storage root with whose report something is wrong, in their order, and what.
 /// None is named exactly if all can be joined and are whole. `parts` has what is known of each part.
 ///
@@ -134,7 +152,7 @@ pub fn find_missing(
     };
     let count = parts.len().max(all);
     for index in 0..count {
-        let part = known_part(parts, index);
+        let part = part_with(parts, index + 1);
         let fault = find_fault(separators, root, cycle, most, index + 1, part);
         add_missing(index + 1, fault, &mut missing)?;
     }
@@ -158,10 +176,11 @@ fn add_missing(
     Ok(())
 }
 
-fn known_part(parts: &[Option<ClosedPart>], index: usize) -> Option<&ClosedPart>
-    ensures { option_map (λ p. p.now) result ≡ part_at parts.now (index + 1) }
+/// What is known of the part with a number, from 1.
+pub(crate) fn part_with(parts: &[Option<ClosedPart>], number: usize) -> Option<&ClosedPart>
+    ensures { option_map (λ p. p.now) result ≡ part_at parts.now number }
 {
-    match parts.get(index) {
+    match parts.get(number.saturating_sub(1)) {
         Some(Some(part)) => Some(part),
         _ => None,
     }

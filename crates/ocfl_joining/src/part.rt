@@ -1,7 +1,10 @@
 //! What is known of the closed reports of parts, and why one cannot be joined.
+ghost use Rattle.std.specs.Prelude.{◌≡◌, Some};
+ghost use Rattle.ocfl_joining.specs.Saying.{fault_text};
 
 use ocfl_tree::Place;
-use thiserror::Error;
+use std::fmt;
+use std::marker::Model;
 
 /// What is known of the report that a part closed in a cycle.
 #[derive(Debug)]
@@ -40,34 +43,68 @@ impl Drop for ClosedPart {
     }
 }
 
+impl Model for ClosedPart {
+    ghost use Rattle.ocfl_joining.specs.Missing.{KnownPart};
+
+    ghost Value = { KnownPart };
+
+    ghost view = { λ part. record {
+      root = part.root.items;
+      from = part.from;
+      below = part.below;
+      cycle = part.cycle;
+      whole = part.whole;
+      told = part.told;
+      names = part.names;
+      left = part.left.items;
+    } };
+}
+
 /// What is wrong with the report of a part: the first of these that applies. All but the last keep
 /// the parts from being joined.
-#[derive(Clone, Copy, Debug, PartialEq, Eq, Error)]
+#[derive(Clone, Copy, Debug, PartialEq, Eq)]
 pub enum PartFault {
     /// The separators make fewer parts.
-    #[error("there is no such part")]
     NoPart,
     /// It closed no report.
-    #[error("it closed no report")]
     NotClosed,
     /// It is a part of another storage root.
-    #[error("it is of another storage root")]
     OtherRoot,
     /// It is another part.
-    #[error("it is of another part")]
     OtherPart,
     /// Its report is of another cycle.
-    #[error("its report is of another cycle")]
     OtherCycle,
     /// What its report has new and gone was not said yet.
-    #[error("its closing was not said yet")]
     Untold,
     /// It saw less than half of the names that another part saw in the storage root.
-    #[error("it saw less than half of the names that another part saw in the storage root")]
     FewNames,
     /// Its report is not whole.
-    #[error("its report is not whole")]
     Incomplete,
+}
+
+/// What is wrong, in words.
+fn words_of(fault: PartFault) -> &'static str
+    ensures { result.now ≡ fault_text fault }
+{
+    match fault {
+        PartFault::NoPart => "there is no such part",
+        PartFault::NotClosed => "it closed no report",
+        PartFault::OtherRoot => "it is of another storage root",
+        PartFault::OtherPart => "it is of another part",
+        PartFault::OtherCycle => "its report is of another cycle",
+        PartFault::Untold => "its closing was not said yet",
+        PartFault::FewNames =>
+            "it saw less than half of the names that another part saw in the storage root",
+        PartFault::Incomplete => "its report is not whole",
+    }
+}
+
+impl fmt::Display for PartFault {
+    ghost output = { λ fault. Some (fault_text fault) };
+
+    fn fmt<W: fmt::Write>(&self, f: &mut fmt::Formatter<W>) -> fmt::Result {
+        f.write_str(words_of(*self))
+    }
 }
 
 /// A part with which something is wrong, and what.

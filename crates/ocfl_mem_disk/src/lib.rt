@@ -8,4 +8,4 @@ mod mem_join;
 mod shown;
 
 pub use mem_disk::{MemDisk, MemHandle};
-pub use mem_join::MemJoinDisk;
+pub use mem_join::{MemClosed, MemJoinDisk};

@@ -4,8 +4,7 @@ use ocfl_files::failing::Failure;
 use ocfl_files::making::failed_file;
 use ocfl_kept::room::Room;
 use ocfl_messages::{Counts, Tally};
-use ocfl_reading::lines::line_of;
-use ocfl_reading::reading::{TakeLine, take_lines};
+use ocfl_words::{TakeLine, line_of, take_lines};
 use std::alloc::Global;
 use std::io::{self, BufReader, ErrorKind};
 

@@ -3,11 +3,11 @@ ghost use mathlib.Core.Bool.{false≢true};
 
 use crate::counting::counts_in;
 use ocfl_disk::{OpenReport, StateFile};
-use ocfl_files::failing::Failure;
+use ocfl_files::failing::{Failure, say_failure};
 use ocfl_files::making::failed_file;
 use ocfl_join_disk::{JoinDisk, OpenPart};
-use ocfl_joining::{Facts, ReportTrouble, is_emptied, mark_of, runs_of};
-use ocfl_kept::kept::{ClosedIn, part_path, report_path};
+use ocfl_joining::{Facts, FoundReport, ReportTrouble, add_runs, is_emptied, mark_of};
+use ocfl_kept::kept::{ClosedIn, is_packed, is_told, part_path, report_path};
 use ocfl_kept::room::Room;
 use ocfl_messages::{Joined, Shown, joined_text};
 use ocfl_state::Checkpoint;
@@ -15,17 +15,9 @@ use std::alloc::{AllocError, Global};
 use std::fs::File;
 use std::io::{self, BufReader, ErrorKind, Write};
 
-/// Which joined report of a cycle is there: a whole one, one that is not whole, or none.
-pub(crate) fn find_joined<R>(rt: &R, state: &str, cycle: u64) -> Result<Option<bool>, AllocError>
-where
-    R: Room,
-{
-    for whole in [true, false] {
-        if rt.has(report_path(rt.global(), state, cycle, whole)?.as_str()) {
-            return Ok(Some(whole));
-        }
-    }
-    Ok(None)
+/// Whether a folder has the report of a cycle, whole or not.
+fn has_report<R: Room>(rt: &R, state: &str, cycle: u64, whole: bool) -> Result<bool, AllocError> {
+    Ok(rt.has(report_path(rt.global(), state, cycle, whole)?.as_str()))
 }
 
 /// The state folders of parts below that of all parts. It does not tell what is on the disk.
@@ -34,10 +26,10 @@ pub(crate) struct FolderDisk<'a, R: Room> {
     /// The state folder of all parts.
     state: &'a str,
     facts: &'a [Option<Facts>],
-    /// How many runs the parts had whose reports were opened; 0 if that is not known of all.
-    runs: u64,
-    /// Whether it is not known of one.
-    lacks_runs: bool,
+    /// The cycle of which reports were opened last.
+    cycle: u64,
+    /// How many runs the parts had of which they are; `None` if that is not known of all.
+    runs: Option<u64>,
     /// Why the last call failed that did.
     failure: Option<Failure>,
 }
@@ -49,8 +41,8 @@ impl<'a, R: Room> Drop for FolderDisk<'a, R> {
             rt: _rt,
             state: _state,
             facts: _facts,
+            cycle: _cycle,
             runs: _runs,
-            lacks_runs: _lacks_runs,
             failure: _failure,
         } = self;
     }
@@ -63,28 +55,19 @@ impl<'a, R: Room> FolderDisk<'a, R> {
             rt,
             state,
             facts,
-            runs: 0,
-            lacks_runs: false,
+            cycle: 0,
+            runs: None,
             failure: None,
         }
     }
 
-    /// How many runs the parts had; 0 if that is not known of all.
-    fn runs(&self) -> u64 {
-        if self.lacks_runs { 0 } else { self.runs }
-    }
-
-    /// Why the last call failed that did.
-    pub(crate) fn take_failure(&mut self) -> Option<Failure> {
-        self.failure.take()
-    }
-
     /// Counts the runs of a part.
-    fn add_runs(&mut self, kept: &Option<Option<Checkpoint>>) {
-        match runs_of(kept) {
-            Some(runs) => self.runs = self.runs.saturating_add(runs),
-            None => self.lacks_runs = true,
+    fn add_runs(&mut self, cycle: u64, kept: &Option<Option<Checkpoint>>) {
+        if self.cycle != cycle {
+            self.cycle = cycle;
+            self.runs = Some(0);
         }
+        self.runs = add_runs(self.runs, kept);
     }
 
     /// Keeps why a call failed.
@@ -160,7 +143,7 @@ impl<'a, R: Room> FolderDisk<'a, R> {
             whole,
             report: path.as_str(),
             counts: counts_in(self.rt, self.new_path(cycle)?.as_str())?,
-            runs: self.runs(),
+            runs: self.runs.unwrap_or(0),
         };
         let text = joined_text(self.rt.global(), &joined)?;
         Ok(Vec::from_slice(self.rt.global(), text.as_bytes())?)
@@ -192,6 +175,17 @@ impl<'a, R: Room> FolderDisk<'a, R> {
         }
     }
 
+    /// The closed report of a part that is there.
+    fn found(&self, cycle: u64, number: usize) -> Result<Option<FoundReport>, Failure> {
+        let path = part_path(self.rt.global(), self.state, number)?;
+        let Some(closed) = self.rt.closed_in(path.as_str(), cycle)? else {
+            return Ok(None);
+        };
+        let ClosedIn { report, kept, .. } = closed;
+        let whole = report.whole;
+        Ok(Some(FoundReport { whole, kept }))
+    }
+
     fn find_part(
         &mut self,
         cycle: u64,
@@ -202,7 +196,7 @@ impl<'a, R: Room> FolderDisk<'a, R> {
             bytes,
             kept,
         } = self.find_report(cycle, number)?;
-        self.add_runs(&kept);
+        self.add_runs(cycle, &kept);
         let mark = mark_of(self.is_lost(cycle, number, bytes), &kept);
         let OpenReport {
             file,
@@ -259,7 +253,7 @@ fn trouble_of(failure: &Failure) -> ReportTrouble {
     }
 }
 
-impl<R: Room> JoinDisk for FolderDisk<'_, R> {
+impl<R: Room + Eprint> JoinDisk for FolderDisk<'_, R> {
     type Report = BufReader<File>;
 
     type Made = File;
@@ -295,8 +289,7 @@ impl<R: Room> JoinDisk for FolderDisk<'_, R> {
     }
 
     fn has_joined(&mut self, cycle: u64, whole: bool) -> Result<bool, ReportTrouble> {
-        let path = self.path(cycle, whole)?;
-        Ok(self.rt.has(path.as_str()))
+        Ok(has_report(self.rt, self.state, cycle, whole)?)
     }
 
     fn create(&mut self, cycle: u64) -> Result<File, ReportTrouble> {
@@ -327,5 +320,46 @@ impl<R: Room> JoinDisk for FolderDisk<'_, R> {
     fn sync_folder(&mut self) -> Result<(), ReportTrouble> {
         let synced = self.sync_reports();
         self.answer(synced)
+    }
+
+    fn is_packed(&mut self, cycle: u64, whole: bool) -> Result<bool, ReportTrouble> {
+        Ok(is_packed(self.rt, self.state, cycle, whole)?)
+    }
+
+    fn has_closed(&mut self, cycle: u64, number: usize) -> Result<bool, ReportTrouble> {
+        let path = part_path(self.rt.global(), self.state, number)?;
+        let path = path.as_str();
+        Ok(has_report(self.rt, path, cycle, true)? || has_report(self.rt, path, cycle, false)?)
+    }
+
+    fn has_said(&mut self, cycle: u64, number: usize) -> Result<bool, ReportTrouble> {
+        let path = part_path(self.rt.global(), self.state, number)?;
+        Ok(is_told(self.rt, path.as_str(), cycle)?)
+    }
+
+    fn find_closed(
+        &mut self,
+        cycle: u64,
+        number: usize,
+    ) -> Result<Option<FoundReport>, ReportTrouble> {
+        let found = self.found(cycle, number);
+        self.answer(found)
+    }
+
+    fn show_path(&mut self, cycle: u64, whole: bool) -> Result<String, ReportTrouble> {
+        let path = self.path(cycle, whole)?;
+        Ok(format!(in self.rt.global(); "{}", Shown(path.as_str()))?)
+    }
+
+    fn note(&mut self, text: &str) -> Result<(), ReportTrouble> {
+        let _ = eprint!(self.rt; "{text}");
+        Ok(())
+    }
+
+    fn note_failure(&mut self) -> Option<u8> {
+        match self.failure.take() {
+            Some(failure) => Some(say_failure(self.rt, &failure)),
+            None => None,
+        }
     }
 }

@@ -2,8 +2,8 @@
 
 use ocfl_cursor::Refused;
 use ocfl_files::failing::Failure;
-use ocfl_joining::{ClosedPart, Facts, facts_of, known_part};
-use ocfl_kept::kept::{is_told, part_path};
+use ocfl_joining::{Facts, facts_of};
+use ocfl_kept::kept::part_path;
 use ocfl_kept::room::Room;
 use ocfl_messages::Shown;
 use ocfl_state::decode_checkpoint;
@@ -50,45 +50,4 @@ where
         all.push(read_facts(rt, state, number)?)?;
     }
     Ok(all)
-}
-
-/// What is known of the report that the part with a number closed.
-fn find_part<R>(
-    rt: &R,
-    state: &str,
-    number: usize,
-    facts: &Facts,
-    cycle: u64,
-) -> Result<Option<ClosedPart>, Failure>
-where
-    R: Room,
-{
-    let path = part_path(rt.global(), state, number)?;
-    let Some(closed) = rt.closed_in(path.as_str(), cycle)? else {
-        return Ok(None);
-    };
-    let told = is_told(rt, path.as_str(), cycle)?;
-    let whole = closed.report.whole;
-    let known = known_part(rt.global(), facts, cycle, told, whole, &closed.kept)?;
-    Ok(Some(known))
-}
-
-/// What is known of the reports that all parts closed in a cycle.
-pub(crate) fn closed_parts<R>(
-    rt: &R,
-    state: &str,
-    all: &[Option<Facts>],
-    cycle: u64,
-) -> Result<Vec<Option<ClosedPart>>, Failure>
-where
-    R: Room,
-{
-    let mut parts = Vec::new(rt.global());
-    for (index, one) in all.iter().enumerate() {
-        parts.push(match one {
-            Some(facts) => find_part(rt, state, index.saturating_add(1), facts, cycle)?,
-            None => None,
-        })?;
-    }
-    Ok(parts)
 }

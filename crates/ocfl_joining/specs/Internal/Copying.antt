@@ -48,7 +48,7 @@ pub record CopiesLine (from below : Option Place) (text : Text) (old new : Copie
 -- of an open report lines were read and given
 pub record AreGiven (lines : List Line) (old new : Seen) : Type 0 where
   pub read : old.left ≡ lines_text lines ++ new.left
-  pub rest : new ≡ record { bytes = old.bytes; marks = old.marks; word = old.word; opened = old.opened; left = new.left; made = old.made ++ lines_text lines; put = old.put }
+  pub rest : new ≡ record { bytes = old.bytes; marks = old.marks; word = old.word; opened = old.opened; left = new.left; made = old.made ++ lines_text lines; put = old.put; rest = old.rest }
 
 -- all lines of an open report were copied
 pub record AreCopied (from below : Option Place) (old new : Seen) (copied : Copied) : Type 0 where

@@ -1,110 +1,246 @@
-//! Which cycles of parts are joined.
+//! Which cycles of parts are joined, on a disk in memory.
+use crate::tests::common::store::place_of;
+use ocfl_join_disk::{DiskCycles, JoinDisk};
 use ocfl_joining::{
-    CycleEnd, JoinedLook, Joining, MemClosed, MemCycles, MemJoined, PartCycles, join_cycles,
+    Facts, JoinedLook, KeptMark, MemoryReport, PartCycles, end_of, join_cycles, join_status,
 };
+use ocfl_mem_disk::{MemClosed, MemDisk, MemJoinDisk};
+use ocfl_say::MemOutput;
+use ocfl_separators::{Separators, read_parts};
 use std::alloc::Global;
 use std::test::Fail;
 
-/// Cycles up to 5 that two parts have closed: the second has none of cycle 2, cycle 1 is joined, and
-/// the joined report of cycle 3 was compressed.
-fn cycles(alloc: Global, last: JoinedLook) -> Result<MemCycles, Fail> {
-    let mut joined = Vec::new(alloc);
-    for (cycle, look) in [
-        (1, JoinedLook::There { whole: true }),
-        (3, JoinedLook::Packed),
-        (5, last),
-    ] {
-        joined.push(MemJoined { cycle, look })?;
+/// The reports of the two parts that `b` makes.
+const REPORTS: [&str; 2] = ["ok\t.\t-\nok\ta\t-\n", "ok\tb\t-\n"];
+
+/// Others.
+const OTHER: [&str; 2] = ["ok\t.\t-\nok\ta\t-\n", "ok\tc\t-\n"];
+
+const ROOT: &[u8] = b"/srv/ocfl";
+
+/// What the checkpoints of both parts say.
+fn facts(alloc: Global) -> Result<Vec<Option<Facts>>, Fail> {
+    let mut all = Vec::new(alloc);
+    for index in 0..2 {
+        let end = Some(place_of(alloc, "b")?);
+        let (from, below) = if index == 0 { (None, end) } else { (end, None) };
+        all.push(Some(Facts {
+            root: Vec::from_slice(alloc, ROOT)?,
+            from,
+            below,
+            last: 5,
+            has_lines: true,
+        }))?;
     }
-    let mut closed = Vec::new(alloc);
+    Ok(all)
+}
+
+fn separators(alloc: Global) -> Result<Separators, Fail> {
+    let mut text = b"b\n".as_slice();
+    Ok(read_parts(alloc, &mut text)?)
+}
+
+fn parts_of(alloc: Global, texts: [&str; 2]) -> Result<Vec<MemoryReport>, Fail> {
+    let mut all = Vec::new(alloc);
+    for text in texts {
+        all.push(MemoryReport {
+            bytes: Vec::from_slice(alloc, text.as_bytes())?,
+            kept: KeptMark::NotKept,
+        })?;
+    }
+    Ok(all)
+}
+
+/// How a cycle was closed by a part.
+fn closed(cycle: u64, part: usize) -> MemClosed {
+    MemClosed {
+        cycle,
+        part,
+        whole: true,
+        told: true,
+    }
+}
+
+/// A disk on which both parts have closed the cycles up to 5, but the second none of cycle 2, and
+/// where the joined report of cycle 3 is compressed. The second part has not said what it found in one
+/// cycle, and its report of another one is not whole.
+fn disk_with(alloc: Global, disk: MemDisk, untold: u64, partial: u64) -> Result<MemJoinDisk, Fail> {
+    let mut all = Vec::new(alloc);
     for cycle in 1..=5 {
-        closed.push(MemClosed { cycle, part: 1 })?;
+        all.push(closed(cycle, 1))?;
         if cycle != 2 {
-            closed.push(MemClosed { cycle, part: 2 })?;
+            all.push(MemClosed {
+                cycle,
+                part: 2,
+                whole: cycle != partial,
+                told: cycle != untold,
+            })?;
         }
     }
-    Ok(MemCycles::new(alloc, joined, closed))
+    let mut packed = Vec::new(alloc);
+    packed.push(3)?;
+    let mut disk = MemJoinDisk::new(alloc, disk, parts_of(alloc, REPORTS)?);
+    disk.put_cycles(all, packed);
+    Ok(disk)
 }
 
-fn joining(cycle: u64, made: Option<bool>, end: CycleEnd) -> Joining {
-    Joining { cycle, made, end }
+/// Joins the cycles up to one, and gives the status and the disk.
+fn joins(alloc: Global, disk: MemJoinDisk, last: u64) -> Result<(u8, MemJoinDisk), Fail> {
+    let (separators, facts) = (separators(alloc)?, facts(alloc)?);
+    let out = MemOutput::new(alloc);
+    let mut cycles = DiskCycles::over(alloc, &separators, &facts, disk, out);
+    let status = join_cycles(&mut cycles, 2, last);
+    match cycles.into_disk() {
+        Some(disk) => Ok((status, disk)),
+        None => Err(Fail::new("the disk is gone")),
+    }
 }
 
-const JOINED: CycleEnd = CycleEnd::IsJoined { whole: true };
+/// The cycles up to 5 of which a joined report is there, that is whole or not.
+fn joined_on(alloc: Global, disk: &mut MemJoinDisk, whole: bool) -> Result<Vec<u64>, Fail> {
+    let mut all = Vec::new(alloc);
+    for cycle in 1..=5 {
+        if disk.open_joined(cycle, whole).is_ok() {
+            all.push(cycle)?;
+        }
+    }
+    Ok(all)
+}
 
 #[test]
 fn cycles_that_are_due_are_joined(rt: HostRuntime) -> Result<(), Fail> {
-    let mut cycles = cycles(rt.alloc(), JoinedLook::Away)?;
-    assert_eq!(rt; join_cycles(&mut cycles, 2, 5), 0);
-    let wanted = [joining(4, None, JOINED), joining(5, None, JOINED)];
-    assert_eq!(rt; cycles.joinings(), wanted.as_slice());
-    // The first part alone has closed cycle 2 too.
-    assert_eq!(rt; join_cycles(&mut cycles, 1, 3), 0);
-    let more = [joining(2, None, JOINED), joining(3, None, JOINED)];
-    assert_eq!(rt; &cycles.joinings()[2..], more.as_slice());
-    Ok(())
-}
-
-#[test]
-fn the_last_cycle_is_compared_if_it_is_joined(rt: HostRuntime) -> Result<(), Fail> {
-    for (last, made) in [
-        (JoinedLook::There { whole: false }, Some(false)),
-        (JoinedLook::There { whole: true }, Some(true)),
-        (JoinedLook::Packed, None),
-    ] {
-        let mut cycles = cycles(rt.alloc(), last)?;
-        assert_eq!(rt; join_cycles(&mut cycles, 2, 5), 0);
-        assert_eq!(rt; cycles.joinings()[1], joining(5, made, JOINED));
-    }
+    let alloc = rt.alloc();
+    let disk = disk_with(alloc, MemDisk::new(alloc), 0, 0)?;
+    let (status, mut disk) = joins(alloc, disk, 5)?;
+    assert_eq!(rt; status, 0);
+    assert_eq!(rt;
+        joined_on(alloc, &mut disk, true)?.as_slice(),
+        [1, 4, 5].as_slice()
+    );
+    assert_eq!(rt; disk.noted(), b"".as_slice());
+    // They are not made again, and the last one is compared.
+    let (status, mut disk) = joins(alloc, disk, 5)?;
+    assert_eq!(rt; status, 0);
+    assert_eq!(rt;
+        joined_on(alloc, &mut disk, true)?.as_slice(),
+        [1, 4, 5].as_slice()
+    );
+    disk.put_parts(parts_of(alloc, OTHER)?);
+    let (status, disk) = joins(alloc, disk, 5)?;
+    assert_eq!(rt; status, 3);
+    let said = b"ocfl-scrub: part 2: its report could not be read, or not be copied\n";
+    assert_eq!(rt; disk.noted(), said.as_slice());
     Ok(())
 }
 
 #[test]
 fn parts_that_hinder_the_last_cycle_are_named(rt: HostRuntime) -> Result<(), Fail> {
-    for (hindered, last, named, status) in [
-        (5, JoinedLook::Away, true, 3),
-        (5, JoinedLook::There { whole: true }, false, 0),
-        (4, JoinedLook::Away, false, 0),
+    let alloc = rt.alloc();
+    for (hindered, status, said) in [
+        (
+            5,
+            3,
+            "ocfl-scrub: part 2: its closing of cycle 5 was not said yet\n",
+        ),
+        (4, 0, ""),
     ] {
-        let mut cycles = cycles(rt.alloc(), last)?;
-        cycles.hinder(hindered);
-        assert_eq!(rt; join_cycles(&mut cycles, 2, 5), status, "{hindered}");
-        let end = cycles.joinings()[if hindered == 5 { 1 } else { 0 }].end;
-        assert_eq!(rt; end, CycleEnd::IsHindered { named }, "{hindered}");
+        let disk = disk_with(alloc, MemDisk::new(alloc), hindered, 0)?;
+        let (found, mut disk) = joins(alloc, disk, 5)?;
+        assert_eq!(rt; found, status, "{hindered}");
+        assert_eq!(rt; disk.noted(), said.as_bytes(), "{hindered}");
+        let joined = if hindered == 5 { [1, 4] } else { [1, 5] };
+        assert_eq!(rt;
+            joined_on(alloc, &mut disk, true)?.as_slice(),
+            joined.as_slice()
+        );
     }
     Ok(())
 }
 
 #[test]
-fn a_cycle_that_fails_stops_no_other(rt: HostRuntime) -> Result<(), Fail> {
-    for failing in [2, 4, 5] {
-        let mut cycles = cycles(rt.alloc(), JoinedLook::Away)?;
-        cycles.fail_at(failing);
-        assert_eq!(rt; join_cycles(&mut cycles, 2, 5), 3, "{failing}");
-        let count = if failing == 2 { 2 } else { 1 };
-        assert_eq!(rt; cycles.joinings().len(), count, "{failing}");
-        assert!(rt; cycles.joinings()[0].cycle != failing);
-        assert!(rt; cycles.look(failing).is_err() && cycles.has_closed(1, failing).is_err());
-        assert_eq!(rt; cycles.fail(), 3);
+fn what_a_joined_report_lacks_is_said(rt: HostRuntime) -> Result<(), Fail> {
+    let alloc = rt.alloc();
+    let disk = disk_with(alloc, MemDisk::new(alloc), 0, 4)?;
+    let (status, mut disk) = joins(alloc, disk, 5)?;
+    assert_eq!(rt; status, 3);
+    assert_eq!(rt;
+        joined_on(alloc, &mut disk, true)?.as_slice(),
+        [1, 5].as_slice()
+    );
+    assert_eq!(rt;
+        joined_on(alloc, &mut disk, false)?.as_slice(),
+        [4].as_slice()
+    );
+    let said = b"ocfl-scrub: part 2: its report is not whole\n\
+        ocfl-scrub: the joined report of cycle 4 lacks what these parts left out: incomplete\n";
+    assert_eq!(rt; disk.noted(), said.as_slice());
+    Ok(())
+}
+
+/// More calls than the joinings make of a disk.
+const MANY: u64 = 60;
+
+#[test]
+fn a_cycle_that_fails_is_said(rt: HostRuntime) -> Result<(), Fail> {
+    let alloc = rt.alloc();
+    let mut failed = 0;
+    for number in 1..MANY {
+        let mut mem = MemDisk::new(alloc);
+        mem.fail_call(number);
+        let disk = disk_with(alloc, mem, 0, 0)?;
+        let (status, disk) = joins(alloc, disk, 5)?;
+        if status == 0 {
+            continue;
+        }
+        failed += 1;
+        assert_eq!(rt; status, 3, "{number}");
+        let said = b"ocfl-scrub: the reports were not joined\n";
+        assert!(rt; disk.noted().starts_with(said), "{number}");
     }
+    assert!(rt; failed > 10 && failed < MANY - 1);
     Ok(())
 }
 
 #[test]
 fn no_cycle_before_1_000_others_is_joined(rt: HostRuntime) -> Result<(), Fail> {
     let alloc = rt.alloc();
-    let mut closed = Vec::new(alloc);
-    for cycle in 1..=1_003 {
-        closed.push(MemClosed { cycle, part: 1 })?;
+    let disk = disk_with(alloc, MemDisk::new(alloc), 0, 0)?;
+    let (status, mut disk) = joins(alloc, disk, 1_004)?;
+    // No part has closed the last one.
+    assert_eq!(rt; status, 3);
+    assert_eq!(rt;
+        joined_on(alloc, &mut disk, true)?.as_slice(),
+        [4, 5].as_slice()
+    );
+    let said =
+        b"ocfl-scrub: part 1: it closed no report\nocfl-scrub: part 2: it closed no report\n";
+    assert_eq!(rt; disk.noted(), said.as_slice());
+    // Of cycle 0 nothing is there.
+    let (status, _) = joins(alloc, disk, 0)?;
+    assert_eq!(rt; status, 3);
+    Ok(())
+}
+
+#[test]
+fn what_is_there_of_a_cycle_is_seen(rt: HostRuntime) -> Result<(), Fail> {
+    let alloc = rt.alloc();
+    let disk = disk_with(alloc, MemDisk::new(alloc), 0, 0)?;
+    let (_status, disk) = joins(alloc, disk, 4)?;
+    let (separators, facts) = (separators(alloc)?, facts(alloc)?);
+    let out = MemOutput::new(alloc);
+    let mut cycles = DiskCycles::over(alloc, &separators, &facts, disk, out);
+    for (cycle, look) in [
+        (1, JoinedLook::There { whole: true }),
+        (3, JoinedLook::Packed),
+        (5, JoinedLook::Away),
+    ] {
+        assert_eq!(rt; cycles.look(cycle), Ok(look), "{cycle}");
     }
-    let mut cycles = MemCycles::new(alloc, Vec::new(alloc), closed);
-    assert_eq!(rt; join_cycles(&mut cycles, 1, 1_003), 0);
-    assert_eq!(rt; cycles.joinings().len(), 1_001);
-    assert_eq!(rt; cycles.joinings()[0].cycle, 3);
-    // None is closed by all yet.
-    cycles.hinder(0);
-    assert_eq!(rt; join_cycles(&mut cycles, 1, 0), 3);
-    let end = CycleEnd::IsHindered { named: true };
-    assert_eq!(rt; cycles.joinings()[1_001], joining(0, None, end));
+    assert_eq!(rt; cycles.has_closed(2, 1), Ok(true));
+    assert_eq!(rt; cycles.has_closed(2, 2), Ok(false));
+    let whole = cycles.join(5, None, true);
+    assert_eq!(rt; whole, Ok(Some(true)));
+    assert_eq!(rt; join_status(end_of(true, Some(true))), 0);
+    assert_eq!(rt; cycles.fail(), 3);
     Ok(())
 }

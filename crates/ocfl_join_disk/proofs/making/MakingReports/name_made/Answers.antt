@@ -1,6 +1,7 @@
-use Rattle.std.proofs.Common.{inr, refl}
+use Rattle.std.proofs.Common.{inr, refl, ◌∙◌}
 use Rattle.std.specs.Option.{option_map}
 use Rattle.ocfl_join_disk.proofs.Joined.{are_durable, in_err, in_ok, is_named, may_named, named_then, on_ok}
+use Rattle.ocfl_join_disk.proofs.Beside.{others_calm, others_named}
 use Rattle.ocfl_join_disk.proofs.Putting.{calm_puts, named_puts, named_puts_then, none_put, two_calm}
 use Rattle.ocfl_join_disk.proofs.making.MakingReports.name_made.Goals as goal
 
@@ -39,3 +40,21 @@ returns-in_err-has_joined-clause-crash g c = λ told. none_put _ _ _ _ (two_calm
 
 pub returns-then-branch-clause-crash : goal.returns-then-branch-clause-crash
 returns-then-branch-clause-crash g c = λ told. none_put _ _ _ _ (two_calm _ _ _ _ (calm_puts _ _ _ (c.sync_made.ensures.calm told)) (calm_puts _ _ _ (c.has_joined.ensures.calm told)))
+
+pub returns-in_err-rename-clause-others : goal.returns-in_err-rename-clause-others
+returns-in_err-rename-clause-others g c = λ told.
+    others_named _ _ _ _ _ _ _ c.sync_made.ensures.cycle (c.sync_made.ensures.calm told) (c.has_joined.ensures.calm told) (c.in_err-rename.ensures.closes told)
+
+pub returns-clause-others : goal.returns-clause-others
+returns-clause-others g c = λ told.
+    others_calm _ _ _ (c.sync_names.ensures.calm told)
+    ∙ others_named _ _ _ _ _ _ _ c.sync_made.ensures.cycle (c.sync_made.ensures.calm told) (c.has_joined.ensures.calm told) (inr (c.in_ok-rename.ensures.closes told))
+
+pub returns-in_err-sync_made-clause-others : goal.returns-in_err-sync_made-clause-others
+returns-in_err-sync_made-clause-others g c = λ told. others_calm _ _ _ (c.sync_made.ensures.calm told)
+
+pub returns-in_err-has_joined-clause-others : goal.returns-in_err-has_joined-clause-others
+returns-in_err-has_joined-clause-others g c = λ told. others_calm _ _ _ (c.has_joined.ensures.calm told) ∙ others_calm _ _ _ (c.sync_made.ensures.calm told)
+
+pub returns-then-branch-clause-others : goal.returns-then-branch-clause-others
+returns-then-branch-clause-others g c = λ told. others_calm _ _ _ (c.has_joined.ensures.calm told) ∙ others_calm _ _ _ (c.sync_made.ensures.calm told)

@@ -1,0 +1,39 @@
+-- What is seen of the cycles of parts on a disk, and what came of a joining there.
+use Rattle.std.specs.Prelude.{◌≡◌, ◌&&◌, ◌||◌, ℕ, List, [], Bool, true, false, if◌then◌else◌, is_some, Option, Some, None, Result, Ok, Err}
+use Rattle.ocfl_tree.specs.Place.{Text, Place}
+use Rattle.ocfl_disk.specs.{Names.{Stored}, PowerCut.{DiskState}}
+use Rattle.ocfl_joining.specs.{Cycles.{SeenCycles, no_cycles}, Facts.{known_parts}, Missing.{KnownPart}, Saying.{lacking_text, missing_text}, Stops.{is_missing}}
+use Rattle.ocfl_joining.specs.declared.{facts.Facts.{Facts}, joining.{Joined.{Joined}, JoinStop.{JoinStop}}}
+use Rattle.ocfl_joining.specs.declared.joining.JoinStop.TheVariants.{Missing, Part, Output, Unsaid, Memory}
+use Rattle.ocfl_join_disk.specs.Shown.{PartFiles, reports_in}
+
+-- of the parts that the separators make, whose checkpoints say these facts
+abbrev pub cycles_in : List Place → List (Option Facts) → PartFiles → Stored → SeenCycles
+cycles_in separators facts parts s = record {
+  separators = separators;
+  parts = known_parts parts.folders facts;
+  closed = λ cycle part. is_some (parts.folders.found cycle part) && parts.folders.has_said cycle part;
+  packed = λ cycle. parts.folders.packed cycle true || parts.folders.packed cycle false;
+  path = λ cycle. parts.folders.path cycle false;
+  reports = λ cycle. reports_in cycle parts s;
+  noted = parts.folders.noted;
+}
+
+-- of a disk, if it is there
+abbrev pub cycles_on : {D : Type 0} → (D → PartFiles) → (D → DiskState) → List Place → List (Option Facts) → Option D → SeenCycles
+cycles_on parts state separators facts None = no_cycles
+cycles_on parts state separators facts (Some disk) = cycles_in separators facts (parts disk) (state disk).seen
+
+-- whether the joined report is whole, and none if parts keep the cycle from being joined
+abbrev pub EndsAs : Result Joined JoinStop → Option Bool → Type 0
+EndsAs (Ok joined) whole = whole ≡ Some joined.whole
+EndsAs (Err stop) whole = (whole ≡ None) × (is_missing stop ≡ true)
+
+-- what is said of it, with what is known of the parts and how the path of the joined report is shown
+abbrev pub said_of : List (Option KnownPart) → ℕ → Bool → Text → Result Joined JoinStop → Text
+said_of parts cycle names path (Ok joined) = if joined.whole then [] else lacking_text cycle parts path
+said_of parts cycle names path (Err (Missing found)) = if names then missing_text cycle parts found.items else []
+said_of parts cycle names path (Err (Part part why)) = []
+said_of parts cycle names path (Err (Output why)) = []
+said_of parts cycle names path (Err Unsaid) = []
+said_of parts cycle names path (Err Memory) = []

@@ -1,0 +1,97 @@
+-- What is said of parts that keep a cycle from being joined, of what parts left out, and of a joining
+-- that stopped.
+use Rattle.std.specs.Prelude.{ℕ, List, [], ◌∷◌, ◌++◌, length, flat_map, codes, decimal, Bool, true, false, if◌then◌else◌, Option, Some, None}
+use Rattle.ocfl_tree.specs.Place.{Text, Place}
+use Rattle.ocfl_report.specs.Text.{place_text}
+use Rattle.ocfl_joining.specs.Missing.{KnownPart, most_names, names_of, numbers, part_at}
+use Rattle.ocfl_joining.specs.declared.{copying.PartStop.{PartStop}, joining.JoinStop.{JoinStop}}
+use Rattle.ocfl_joining.specs.declared.copying.PartStop.TheVariants as part_stop
+use Rattle.ocfl_joining.specs.declared.joining.JoinStop.TheVariants.{Missing, Part, Output, Unsaid, Memory}
+use Rattle.ocfl_joining.specs.declared.part.{MissingPart.{MissingPart}, PartFault.{PartFault}}
+use Rattle.ocfl_joining.specs.declared.part.PartFault.TheVariants.{NoPart, NotClosed, OtherRoot, OtherPart, OtherCycle, Untold, FewNames, Incomplete}
+
+abbrev pub fault_text : PartFault → Text
+fault_text NoPart = codes "there is no such part"
+fault_text NotClosed = codes "it closed no report"
+fault_text OtherRoot = codes "it is of another storage root"
+fault_text OtherPart = codes "it is of another part"
+fault_text OtherCycle = codes "its report is of another cycle"
+fault_text Untold = codes "its closing was not said yet"
+fault_text FewNames = codes "it saw less than half of the names that another part saw in the storage root"
+fault_text Incomplete = codes "its report is not whole"
+
+-- a line about the part with a number
+abbrev pub part_line : ℕ → Text → Text
+part_line number words = codes "ocfl-scrub: part " ++ decimal number ++ codes ": " ++ words ++ codes "\n"
+
+-- ---- parts that keep a cycle from being joined
+
+-- it saw few of the names that another part saw
+abbrev pub few_text : ℕ → ℕ → Option KnownPart → Text
+few_text cycle most None = fault_text FewNames
+few_text cycle most (Some part) =
+    codes "the storage root had " ++ decimal (names_of (Some part)) ++ codes " names when its cycle " ++ decimal cycle
+    ++ codes " began, and " ++ decimal most ++ codes " when that of another part did"
+
+-- why a part keeps a cycle from being joined, of which this is known; `most` is the most names that one
+-- of the parts saw in the storage root
+abbrev pub reason_text : ℕ → ℕ → Option KnownPart → PartFault → Text
+reason_text cycle most part NoPart = fault_text NoPart
+reason_text cycle most part NotClosed = fault_text NotClosed
+reason_text cycle most part OtherRoot = fault_text OtherRoot
+reason_text cycle most part OtherPart = fault_text OtherPart
+reason_text cycle most part OtherCycle = fault_text OtherCycle
+reason_text cycle most part Untold = codes "its closing of cycle " ++ decimal cycle ++ codes " was not said yet"
+reason_text cycle most part FewNames = few_text cycle most part
+reason_text cycle most part Incomplete = fault_text Incomplete
+
+abbrev pub missing_line : ℕ → List (Option KnownPart) → MissingPart → Text
+missing_line cycle parts one = part_line one.part (reason_text cycle (most_names parts) (part_at parts one.part) one.fault)
+
+-- a line for each of them
+abbrev pub missing_text : ℕ → List (Option KnownPart) → List MissingPart → Text
+missing_text cycle parts missing = flat_map (missing_line cycle parts) missing
+
+-- ---- parts that left something out
+
+abbrev pub left_line : ℕ → Place → Text
+left_line number place = part_line number (fault_text Incomplete ++ codes ": left out: " ++ place_text place)
+
+-- a line for each place, or one if none is known
+abbrev pub left_lines : ℕ → List Place → Text
+left_lines number [] = part_line number (fault_text Incomplete)
+left_lines number (place ∷ places) = flat_map (left_line number) (place ∷ places)
+
+abbrev pub left_text : ℕ → Option KnownPart → Text
+left_text number None = []
+left_text number (Some part) = if part.whole then [] else left_lines number part.left
+
+-- that the joined report with this path is not whole
+abbrev pub partial_line : ℕ → Text → Text
+partial_line cycle path = codes "ocfl-scrub: the joined report of cycle " ++ decimal cycle ++ codes " lacks what these parts left out: " ++ path ++ codes "\n"
+
+-- what a joined report lacks that is not whole, whose path is shown so
+abbrev pub lacking_text : ℕ → List (Option KnownPart) → Text → Text
+lacking_text cycle parts path = flat_map (λ number. left_text number (part_at parts number)) (numbers (length parts)) ++ partial_line cycle path
+
+-- ---- a joining that stopped
+
+abbrev pub part_stop_text : PartStop → Text
+part_stop_text part_stop.Changed = codes "its report was changed"
+part_stop_text part_stop.Failed = codes "its report could not be read, or not be copied"
+part_stop_text part_stop.Memory = codes "out of memory"
+
+-- its own cause, whatever a call has kept
+abbrev pub is_own_cause : JoinStop → Bool
+is_own_cause (Missing found) = false
+is_own_cause (Part part why) = false
+is_own_cause (Output why) = false
+is_own_cause Unsaid = true
+is_own_cause Memory = true
+
+abbrev pub stop_text : JoinStop → Text
+stop_text (Missing found) = codes "ocfl-scrub: the reports were not joined\n"
+stop_text (Part part why) = part_line part (part_stop_text why)
+stop_text (Output why) = codes "ocfl-scrub: the reports were not joined\n"
+stop_text Unsaid = codes "ocfl-scrub: output failed\n"
+stop_text Memory = codes "ocfl-scrub: out of memory\n"

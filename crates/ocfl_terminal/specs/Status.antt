@@ -1,5 +1,8 @@
 -- The status of a splitting that made no separators.
-use Rattle.std.specs.Prelude.{ℕ}
+use Rattle.std.specs.Prelude.{ℕ, Bool, true, false, if◌then◌else◌, Option, Some, None}
+use Rattle.std.specs.IoError.{error_kind}
+use Rattle.std.specs.declared.io.{Error.{Error}, ErrorKind.{ErrorKind}}
+use Rattle.std.specs.declared.io.ErrorKind.TheVariants.{OutOfMemory}
 use Rattle.ocfl_separators.specs.declared.splitting.SplitStop.{SplitStop}
 use Rattle.ocfl_separators.specs.declared.splitting.SplitStop.TheVariants as stop
 use Rattle.ocfl_terminal.specs.declared.splits.NotSplit.{NotSplit}
@@ -17,3 +20,12 @@ abbrev pub unsplit_status : NotSplit → ℕ
 unsplit_status (unsplit.Report why) = report_status why
 unsplit_status unsplit.TooLong = 2
 unsplit_status _ = 3
+
+abbrev pub is_memory : ErrorKind → Bool
+is_memory OutOfMemory = true
+is_memory _ = false
+
+-- a report that could not be read, by the error if it is known: else the reason is the stop
+abbrev pub unread_by : SplitStop → Option Error → NotSplit
+unread_by stop.Read (Some error) = if is_memory (error_kind error) then unsplit.Report stop.Memory else unsplit.Unread error
+unread_by why error = unsplit.Report why

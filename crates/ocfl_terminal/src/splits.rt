@@ -1,6 +1,8 @@
 //! Splitting a storage root: the text of the separators goes to standard output.
-ghost use Rattle.std.specs.Prelude.{◌≡◌};
-ghost use Rattle.ocfl_terminal.specs.Status.{report_status, unsplit_status};
+ghost use Rattle.std.specs.Prelude.{◌≡◌, ◌<◌, ◌≤◌, Err, MatchResult, OnOk, length};
+ghost use Rattle.std.specs.Io.KnownBytes.{Appends};
+ghost use Rattle.ocfl_separators.specs.{Parts.{max_bytes}, Separators.{parts_text}};
+ghost use Rattle.ocfl_terminal.specs.Status.{report_status, unread_by, unsplit_status};
 
 use ocfl_arguments::Split;
 use ocfl_files::heard::Heard;
@@ -11,8 +13,9 @@ use ocfl_report::{DisplayPlace, write_all_of};
 use ocfl_separators::{MAX_BYTES, Separators, SplitStop, put_parts, split_by};
 use ocfl_split::split;
 use ocfl_tree::Place;
+use std::alloc::Global;
 use std::fs::File;
-use std::io::{self, BufReader};
+use std::io::{self, BufReader, Write};
 use std::rt::{Env, Files};
 
 /// Why no separators are made.
@@ -115,31 +118,52 @@ where
 }
 
 /// Why a report was not split, with the system's words if it could not be read.
-fn unread(stop: SplitStop, error: Option<io::Error>) -> NotSplit {
-    match (stop, error) {
-        (SplitStop::Read, Some(error)) if error.kind() == io::ErrorKind::OutOfMemory => {
-            NotSplit::Report(SplitStop::Memory)
-        }
-        (SplitStop::Read, Some(error)) => NotSplit::Unread(error),
-        (stop, _) => NotSplit::Report(stop),
+fn unread(stop: SplitStop, error: Option<io::Error>) -> NotSplit
+    ensures { result ≡ unread_by stop error }
+{
+    let SplitStop::Read = stop else {
+        return NotSplit::Report(stop);
+    };
+    let Some(error) = error else {
+        return NotSplit::Report(stop);
+    };
+    match error.kind() {
+        io::ErrorKind::OutOfMemory => NotSplit::Report(SplitStop::Memory),
+        _ => NotSplit::Unread(error),
     }
 }
 
-/// Writes the text of separators to standard output. Refuses a text that could not be read again.
-fn write_separators<R: AllocGlobal + Print>(
-    rt: &R,
+/// Writes the text of separators. Refuses a text that could not be read again.
+fn write_separators<W: Write>(
+    alloc: Global,
     separators: &Separators,
-) -> Result<(), NotSplit> {
-    let mut text = Vec::new(rt.alloc());
+    out: &mut W,
+) -> Result<(), NotSplit>
+    ensures written { OnOk result
+        (Appends (W.contents out.old) (W.contents out.new) (parts_text separators.now)) }
+    ensures fits { OnOk result (length (parts_text separators.now) ≤ max_bytes) }
+    ensures long { result ≡ Err NotSplit.TooLong → max_bytes < length (parts_text separators.now) }
+{
+    let mut text = Vec::new(alloc);
     if put_parts(separators, &mut text).is_err() {
         return Err(NotSplit::Memory);
     }
     if text.len() > MAX_BYTES {
         return Err(NotSplit::TooLong);
     }
-    match write_all_of(&mut io::writer(rt), &text) {
+    match write_all_of(out, &text) {
         Ok(()) => Ok(()),
         Err(_) => Err(NotSplit::Output),
+    }
+}
+
+/// Says why no separators were written, if they were not, and gives the exit status.
+fn end_split<R: Eprint>(rt: &R, written: &Result<(), NotSplit>) -> u8
+    ensures { MatchResult written.now (λ _. result ≡ 0) (λ why. result ≡ unsplit_status why) }
+{
+    match written {
+        Ok(()) => 0,
+        Err(why) => say_unsplit(rt, why),
     }
 }
 
@@ -149,11 +173,8 @@ where
     R: Files + Env + AllocGlobal + Print + Eprint,
 {
     let written = match make_separators(rt, asked) {
-        Ok(separators) => write_separators(rt, &separators),
+        Ok(separators) => write_separators(rt.alloc(), &separators, &mut io::writer(rt)),
         Err(stop) => Err(stop),
     };
-    match written {
-        Ok(()) => 0,
-        Err(stop) => say_unsplit(rt, &stop),
-    }
+    end_split(rt, &written)
 }

@@ -12,15 +12,11 @@ use Rattle.ocfl_messages.specs.declared.stop.StopMessage.{StopMessage}
 use Rattle.ocfl_messages.specs.declared.stop.StopMessage.TheVariants as stopped
 use Rattle.ocfl_messages.specs.declared.refusal.RefusalMessage.{RefusalMessage}
 use Rattle.ocfl_messages.specs.declared.refusal.RefusalMessage.TheVariants as message
-use Rattle.ocfl_kept.specs.declared.names.Names.{Names}
+use Rattle.ocfl_kept.specs.{Lent.{lent}, declared.names.Names.{Names}}
 use Rattle.ocfl_terms.specs.declared.{plan.Halt.{Halt}, refusal.Refusal.{Refusal}, stop.Stop.{Stop}}
 use Rattle.ocfl_terms.specs.declared.plan.Halt.TheVariants as halt
 use Rattle.ocfl_terms.specs.declared.refusal.Refusal.TheVariants as refusal
 use Rattle.ocfl_terms.specs.declared.stop.Stop.TheVariants as stop
-
--- a value that is lent: no text shows more of it
-abbrev pub lent : {X : Type 0} → X → Bor X
-lent x = record { ref_ptr = (0, 0); now = x }
 
 -- the line on a night that did nothing, or nothing more
 abbrev pub refused_line : RefusalMessage → Names → Text

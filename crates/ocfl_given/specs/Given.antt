@@ -1,11 +1,12 @@
 -- What a night is made with, and when it has to wait with a new cycle. Times are in seconds since the
 -- Unix epoch.
-use Rattle.std.specs.Prelude.{◌≡◌, ℕ, Bool, true, false, not, Option, Some, None, if◌then◌else◌, is_some}
+use Rattle.std.specs.Prelude.{◌≡◌, ℕ, Bool, true, false, not, Option, Some, None, if◌then◌else◌, is_some, IfSome}
 use Rattle.ocfl_arguments.specs.declared.night.{NightAsked.{NightAsked}, Until.{Until}}
 use Rattle.ocfl_arguments.specs.declared.night.Until.TheVariants as until
 use Rattle.ocfl_clock.specs.Every.{must_wait}
 use Rattle.ocfl_kept.specs.declared.stand.Standing.{Standing}
 use Rattle.ocfl_terminal.specs.Chosen.{AreEndsOf}
+use Rattle.ocfl_given.specs.Ends.{IsWithinDay}
 use Rattle.ocfl_given.specs.declared.{given.Found.{Found}, waiting.Wait.{Wait}}
 
 -- after the cycle where the nights stand, if it is closed, and ended so many days ago that it must wait
@@ -24,3 +25,4 @@ pub record IsMadeWith (asked : NightAsked) (began : ℕ) (found : Found) : Type 
   pub since : found.given.began ≡ began
   pub part : AreEndsOf asked.chosen found.ends
   pub shown : is_some found.given.shown ≡ is_time_of_day asked.bounds.until
+  pub soon : IfSome found.given.shown (IsWithinDay began)

@@ -1,11 +1,12 @@
 //! That nothing is written into a storage root: the state folder and the root lie apart.
 ghost use Rattle.std.specs.Prelude.{◌↔◌, IsTrue};
 ghost use Rattle.std.specs.Path.{path_bytes};
-ghost use Rattle.ocfl_given.specs.Overlap.{Overlap};
+ghost use Rattle.ocfl_given.specs.Overlap.{IsApart, Overlap};
 
+use crate::refusing::{no_memory, refusal_of};
 use ocfl_files::failing::Failure;
 use ocfl_files::files::{lies_inside, path_of};
-use std::alloc::AllocError;
+use std::alloc::Global;
 use std::io;
 use std::path::Path;
 use std::rt::Files;
@@ -26,17 +27,25 @@ fn are_apart<R: Files + AllocGlobal>(rt: &R, state: &str, root: &str) -> io::Res
     }
 }
 
+/// Refuses folders of which this is known: whether they lie apart.
+#[tactic(auto, using(crate::proofs::Refusals::refuses))]
+fn refuse_by(alloc: Global, are_apart: io::Result<bool>) -> Result<(), Failure>
+    ensures { IsApart are_apart result }
+{
+    match are_apart {
+        Ok(true) => Ok(()),
+        Ok(false) => Err(refusal_of(format!(in alloc;
+            "the state folder must not be inside the storage root, or contain it: nothing is \
+             written into a storage root\n"
+        ))),
+        Err(_) => Err(no_memory()),
+    }
+}
+
 /// Refuses a state folder in the storage root, and a storage root in the state folder.
 pub(crate) fn refuse_overlap<R>(rt: &R, state: &str, root: &str) -> Result<(), Failure>
 where
     R: Files + AllocGlobal,
 {
-    match are_apart(rt, state, root) {
-        Ok(true) => Ok(()),
-        Ok(false) => Err(Failure::usage(format!(in rt.alloc();
-            "the state folder must not be inside the storage root, or contain it: nothing is \
-             written into a storage root\n"
-        )?)),
-        Err(_) => Err(Failure::from(AllocError)),
-    }
+    refuse_by(rt.alloc(), are_apart(rt, state, root))
 }

@@ -82,7 +82,14 @@ impl Given<'_> {
     }
 
     /// What is noted, logged and said of the night by.
-    pub fn about(&self) -> About<'_> {
+    pub fn about(&self) -> About<'_>
+        ensures root { result.names.root.now ≡ string_bytes self.now.root }
+        ensures part { result.names.part ≡ part_number self.now.asked.now.chosen }
+        ensures state { result.names.state.now ≡ string_bytes self.now.asked.now.state }
+        ensures began { result.began ≡ self.now.began }
+        ensures known { result.known.now ≡ self.now.known }
+        ensures program { result.program.now ≡ string_bytes self.now.program }
+    {
         About {
             names: self.names(),
             began: self.began,

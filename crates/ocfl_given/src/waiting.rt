@@ -1,9 +1,14 @@
 //! Whether a night may begin the next cycle.
-ghost use Rattle.std.specs.Prelude.{◌≡◌, IfSome, None, Some};
+ghost use Rattle.std.specs.Prelude.{◌≡◌, ◌∷◌, ◌/◌, ◌*ℤ◌, ◌<◌, [], IfOk, IfSome, IsErr, IsNone, None, Some, pos, string_bytes};
+ghost use Rattle.std.specs.Time.{system_time_nanos};
+ghost use Rattle.jiff.specs.Words.{civil_nanos};
 ghost use Rattle.ocfl_given.specs.Given.{wait_after};
+ghost use Rattle.ocfl_given.specs.Waiting.{IsTimeText, IsWaitText};
 
 use crate::given::Given;
 use jiff::Timestamp;
+use jiff::civil::DateTime;
+use jiff::tz::TimeZone;
 use ocfl_clock::must_wait;
 use ocfl_disk::StateFile;
 use ocfl_files::failing::say_text;
@@ -15,6 +20,9 @@ use std::{fs, io};
 
 /// A day, in seconds.
 const DAY: u64 = 86_400;
+
+/// The last second that the calendar has: in the year 9999.
+const LAST: u64 = 253_402_207_200;
 
 /// A cycle that has ended, after which no new one may begin yet.
 #[derive(Clone, Copy)]
@@ -42,23 +50,37 @@ where
 }
 
 /// A time in seconds since the epoch, if it is known and not before that.
-fn seconds_of(time: io::Result<SystemTime>) -> Option<u64> {
-    let since = time.ok()?.duration_since(SystemTime::UNIX_EPOCH);
-    Some(since.ok()?.as_secs())
+fn seconds_of(time: io::Result<SystemTime>) -> Option<u64>
+    ensures seconds { IfSome result (λ seconds.
+        IfOk time (λ t. seconds ≡ system_time_nanos t / 1_000_000_000)) }
+    ensures unknown { IsErr time → result ≡ None }
+{
+    let time = time.ok()?;
+    match time.duration_since(SystemTime::UNIX_EPOCH) {
+        Ok(since) => Some(since.as_secs()),
+        Err(_) => None,
+    }
 }
 
-/// When a closed cycle ended: when the checkpoint that closed it was written, or else its report.
-/// `None` if neither is there.
+/// The files of which the first that is there was written when a closed cycle ended: the checkpoint
+/// that closed it, or else its report.
+fn ended_files(cycle: u64) -> [StateFile; 3]
+    ensures { result
+        ≡ StateFile.Kept cycle ∷ StateFile.Whole cycle ∷ StateFile.Incomplete cycle ∷ [] }
+{
+    [
+        StateFile::Kept(cycle),
+        StateFile::Whole(cycle),
+        StateFile::Incomplete(cycle),
+    ]
+}
+
+/// When a closed cycle ended. `None` if none of its files is there.
 fn ended_at<R>(rt: &R, state: &str, cycle: u64) -> Option<u64>
 where
     R: Files + AllocGlobal,
 {
-    let files = [
-        StateFile::Kept(cycle),
-        StateFile::Whole(cycle),
-        StateFile::Incomplete(cycle),
-    ];
-    for file in files {
+    for file in ended_files(cycle) {
         if let Some(ended) = written_at(rt, state, file) {
             return Some(ended);
         }
@@ -101,20 +123,34 @@ fn wait_after(every: Option<u64>, began: Standing, ended: Option<u64>, now: u64)
 }
 
 /// A time as RFC 3339 has it; in seconds since the epoch if no calendar has it.
-fn time_text(alloc: Global, seconds: u64) -> Result<String, AllocError> {
+fn time_text(alloc: Global, seconds: u64) -> Result<String, AllocError>
+    ensures { IfOk result (λ text. IsTimeText seconds (string_bytes text)) }
+{
     match calendar_time(seconds) {
-        Some(time) => format!(in alloc; "{time}"),
+        Some(time) => format!(in alloc; "{time}Z"),
         None => format!(in alloc; "{seconds}"),
     }
 }
 
-/// A time that the calendar has.
-fn calendar_time(seconds: u64) -> Option<Timestamp> {
-    Timestamp::from_second(i64::try_from(seconds).ok()?).ok()
+/// What a clock in UTC shows at a time that the calendar has.
+fn calendar_time(seconds: u64) -> Option<DateTime>
+    ensures some { IfSome result
+        (λ time. civil_nanos time ≡ pos seconds *ℤ pos 1_000_000_000) }
+    ensures none { IsNone result → 253402207200 < seconds }
+{
+    if seconds > LAST {
+        return None;
+    }
+    match Timestamp::from_second(seconds as i64) {
+        Ok(time) => Some(TimeZone::UTC.to_datetime(time)),
+        Err(_) => None,
+    }
 }
 
 /// What is said of a night that begins no new cycle.
-fn wait_text(alloc: Global, wait: Wait) -> Result<String, AllocError> {
+fn wait_text(alloc: Global, wait: Wait) -> Result<String, AllocError>
+    ensures { IfOk result (λ text. IsWaitText wait (string_bytes text)) }
+{
     let Wait { cycle, ended, days } = wait;
     let next = ended.saturating_add(DAY.saturating_mul(days));
     let (ended, next) = (time_text(alloc, ended)?, time_text(alloc, next)?);

@@ -1,5 +1,6 @@
 -- The exit status of a night and of each of its runs, and what is kept of them.
-use Rattle.std.specs.Prelude.{ℕ, ◌==◌, ◌||◌, Bool, true, false, not, if◌then◌else◌, nat_lt, max, length, Option, Some, None}
+use Rattle.std.specs.Prelude.{ℕ, ◌==◌, ◌||◌, Bool, true, false, not, nat_lt, max, length, Option, Some, None}
+use Rattle.ocfl_status.specs.Status.{status_of as exit_status}
 use Rattle.ocfl_terms.specs.Status.{found_status, halt_status}
 use Rattle.ocfl_terms.specs.{declared.plan.Halt.{Halt}, declared.plan.NightEnd.{NightEnd}}
 use Rattle.ocfl_terms.specs.declared.plan.Halt.TheVariants as halt
@@ -8,10 +9,13 @@ use Rattle.ocfl_terms.specs.declared.refusal.Refusal.TheVariants as refusal
 use Rattle.ocfl_terms.specs.declared.made.SliceEnd.{SliceEnd}
 use Rattle.ocfl_terms.specs.declared.made.SliceEnd.TheVariants as slice
 
--- 3 for a run that stopped, 1 for one that found something
+abbrev pub has_stopped : SliceEnd → Bool
+has_stopped (slice.Stopped fault) = true
+has_stopped _ = false
+
+-- a run that stopped lacks items
 abbrev pub run_status : SliceEnd → Bool → ℕ
-run_status (slice.Stopped fault) found = 3
-run_status _ found = if found then 1 else 0
+run_status how found = exit_status (has_stopped how) found
 
 -- whether anything of a run is kept that ended so
 abbrev pub is_kept : SliceEnd → Bool

@@ -1,19 +1,23 @@
 //! The exit status of a night and of each of its runs, and what is kept of them.
 ghost use Rattle.std.specs.Prelude.{◌≡◌};
-ghost use Rattle.ocfl_plan.specs.Status.{closed_by, is_kept, is_logged, is_own, lacks};
+ghost use Rattle.ocfl_plan.specs.Status.{closed_by, has_stopped, is_kept, is_logged, is_own, lacks};
 ghost use Rattle.ocfl_plan.specs.Status.{night_status, run_status};
 
+use ocfl_status::status_of as exit_status;
 use ocfl_terms::{Halt, Made, NightEnd, Refusal, SliceEnd, status_found, status_of};
+
+/// Whether a run stopped.
+fn has_stopped(end: &SliceEnd) -> bool
+    ensures { result ≡ has_stopped end.now }
+{
+    matches!(end, SliceEnd::Stopped(_))
+}
 
 /// The status of a run: 3 if it stopped, 1 if it found something, else 0.
 pub fn run_status(made: &Made) -> u8
     ensures { result ≡ run_status made.now.end made.now.found }
 {
-    match made.end {
-        SliceEnd::Stopped(_) => 3,
-        _ if made.found => 1,
-        _ => 0,
-    }
+    exit_status(has_stopped(&made.end), made.found)
 }
 
 /// Whether anything of a run is kept.

@@ -3,7 +3,7 @@
 use ocfl_disk::StateFile;
 use ocfl_files::timing::read_seconds;
 use ocfl_journal::{Journal, NightLog, RunMade};
-use ocfl_plan::{Listener, StopCalls, StopFile, is_kept, run_status};
+use ocfl_plan::{Listener, StopCalls, StopFile};
 use ocfl_terms::Made;
 use std::alloc::AllocError;
 use std::fs;
@@ -55,15 +55,13 @@ impl<L: NightLog + Drop> Listener for RunLog<L> {
         self.began = now;
     }
 
-    /// Logs a run, unless nothing of it is kept.
-    fn note_run(&mut self, made: &Made) {
-        if is_kept(made) {
-            let run = RunMade {
-                checkpoint: &made.checkpoint,
-                cost: made.spent,
-                status: run_status(made),
-            };
-            self.journal.run(run, self.began);
-        }
+    /// Logs a run.
+    fn note_run(&mut self, made: &Made, status: u8) {
+        let run = RunMade {
+            checkpoint: &made.checkpoint,
+            cost: made.spent,
+            status,
+        };
+        self.journal.run(run, self.began);
     }
 }

@@ -1,6 +1,7 @@
 //! What is chosen of a storage root, and whether a night has to wait, by the files of a folder.
 use ocfl_arguments::{Chosen, NightAsked, NightBounds, Until};
 use ocfl_given::given::{Given, text_of};
+use ocfl_given::planning::{find_plan, last_cost};
 use ocfl_given::waiting::find_wait;
 use ocfl_kept::stand::Standing;
 use ocfl_messages::Known;
@@ -143,6 +144,13 @@ fn nights_wait_for_the_next_cycle(rt: HostRuntime) -> Result<(), Fail> {
             left: 0,
         };
         assert_eq!(rt; find_wait(&rt, &given, began).is_some(), waits, "{since}");
+        assert_eq!(rt;
+            find_plan(&rt, &given, began)?.end == Some(0),
+            waits,
+            "{since}"
+        );
+        assert_eq!(rt; given.about().began, ended + since);
+        assert_eq!(rt; last_cost(began), Some(1));
     }
     Ok(())
 }

@@ -169,10 +169,10 @@ impl Listener for Heard {
         self.time = now;
     }
 
-    fn note_run(&mut self, made: &Made) {
+    fn note_run(&mut self, made: &Made, status: u8) {
         let _ = self.times.push(self.time);
         let _ = self.costs.push(made.spent);
-        let _ = self.statuses.push(run_status(made));
+        let _ = self.statuses.push(status);
         self.kept = self.kept.saturating_add(u64::from(is_kept(made)));
     }
 }

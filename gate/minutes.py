@@ -14,6 +14,8 @@ FILE = os.path.join(TOP, "bench", "proof_minutes.tsv")
 HEAD = "crate\tproof\tedits\tcommit"
 # By how much a crate becomes dearer or cheaper, and by how many minutes at least.
 MORE, LITTLE = 1.2, 0.3
+# The crates of which not all edits were tried: what those took says nothing of what all take.
+PARTLY = set()
 
 
 def parsed(text):
@@ -31,30 +33,41 @@ def written(rows, order):
 
 def pace(before, taken):
     """How long this machine takes for what took the file's a minute, by the crates of both."""
-    ratios = [sum(taken[crate]) / sum(before[crate][:2])
-              for crate in taken if crate in before and sum(before[crate][:2]) > LITTLE]
+    both = [compared(before[crate], taken[crate]) for crate in taken if crate in before]
+    ratios = [new / old for old, new in both if old > LITTLE]
     return statistics.median(ratios) if len(ratios) > 4 else 1
+
+
+def compared(row, minutes):
+    """What a crate took by its row and now: both without edits where not all were tried."""
+    known = [at for at in (0, 1) if minutes[at] is not None]
+    return sum(row[at] for at in known), sum(minutes[at] for at in known)
 
 
 def changed(before, taken):
     """The crates that are new, or that became dearer or cheaper, each with its minutes at the
     file's pace."""
     factor, found = pace(before, taken), {}
-    for crate, minutes in taken.items():
-        proof, edits = (it / factor for it in minutes)
-        old, new = sum(before.get(crate, (0, 0))[:2]), proof + edits
+    for crate, (proof, edits) in taken.items():
+        row = before.get(crate, (0, 0))
+        old, new = compared(row, (proof, edits))
+        new /= factor
         if crate not in before or max(old, new) > max(MORE * min(old, new), min(old, new) + LITTLE):
-            found[crate] = proof, edits
+            found[crate] = proof / factor, row[1] if edits is None else edits / factor
     return found
 
 
 def note(taken, order):
     """Says which crates became dearer or cheaper since their rows were written, and writes those
-    rows anew. What failed, or was not proved from nothing, says nothing of what that costs."""
+    rows anew. What failed, was not proved from nothing, or was tried in part, says nothing of what
+    that costs."""
     if FAILURES:
         return
     before = parsed(read()) if os.path.exists(FILE) else {}
-    found = changed(before, {crate: both for crate, both in taken.items() if both[0] > 0})
+    taken = {crate: (proof, None if crate in PARTLY else edits)
+             for crate, (proof, edits) in taken.items()
+             if proof > 0 and (crate in before or crate not in PARTLY)}
+    found = changed(before, taken)
     for crate in found.keys() & before.keys():
         print_line("%s took %.1f minutes at %s, and %.1f now" % (
                    crate, sum(before[crate][:2]), before[crate][2], sum(found[crate])))

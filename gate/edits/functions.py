@@ -16,9 +16,8 @@ from gate.repository import TESTS, TOP, crates, folder_of
 EXCEPTIONS = os.path.join(TOP, "gate", "exceptions.txt")
 # The program and what stands beside its runs are proved to be safe and to end, and no more: trials
 # try what they do (`night_closings.py`, `joins.py`, `nights.py`, `night_folders.py`).
-WITHOUT_CONTRACTS = (TESTS, "ocfl_scrub_cli", "ocfl_files", "ocfl_kept", "ocfl_reading",
-                     "ocfl_closing", "ocfl_part_folders", "ocfl_terminal", "ocfl_journal",
-                     "ocfl_given", "ocfl_tasks")
+WITHOUT_CONTRACTS = (TESTS, "ocfl_scrub_cli", "ocfl_reading", "ocfl_closing", "ocfl_part_folders",
+                     "ocfl_terminal", "ocfl_journal", "ocfl_given", "ocfl_tasks")
 START = re.compile(r"( *)(pub(?:\([a-z]+\))? )?(?:const )?(?:unsafe )?fn (\w+)")
 CLAUSE = re.compile(r"\s*(ensures|requires|ghost)\b")
 FIELD = re.compile(r"&?(?:mut )?self(\.\w+)+(\.as_(str|slice)\(\))?")
@@ -187,13 +186,15 @@ def functions_in(text, file, shown):
 
 def body_of(lines, at, indent):
     """The line on which the body of the function at a line begins, or none where it has none."""
-    has_clauses = False
+    has_clauses, depth = False, 0
     for number in range(at, len(lines)):
         line = lines[number]
         has_clauses = has_clauses or bool(CLAUSE.match(line))
         if line in (indent + "{", indent + "{}") or not has_clauses and line.endswith(("{", "{}")):
             return number
-        if line.endswith(";"):
+        # (within braces it ends a field of a record)
+        depth += line.count("{") - line.count("}")
+        if line.endswith(";") and depth <= 0:
             return None
     return None
 

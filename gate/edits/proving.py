@@ -25,7 +25,9 @@ def main():
     rt = toolchain.load()
     whole = built_whole(toolchain.crates_of(rt, os.getcwd()))
     toolchain.build_whole(rt, whole)
-    fill(rt, due.chosen(collection.listed()), whole)
+    edits = collection.listed()
+    sums = due.sums_of(edits)
+    fill(rt, due.chosen(edits, sums), whole, lambda refused: due.note(refused, edits, sums))
     return rt.main(["ci"])
 
 
@@ -35,16 +37,17 @@ def built_whole(made):
     return {name for name in made if above.count(name) <= FEW}
 
 
-def fill(rt, edits, whole):
-    """Puts the steps of trying edits into the queue of `rt ci`."""
+def fill(rt, edits, whole, note):
+    """Puts the steps of trying edits into the queue of `rt ci`, and notes those that were
+    refused."""
     queue = rt.in_lanes
 
     def in_lanes(tasks):
         steps = trying.tasks_beside(rt, os.getcwd(), edits, whole)
         given = queue({**tasks, **steps})
-        counts = trying.count_refused({key: given[key] for key in steps})
-        if not counts[1]:
-            due.note({edit.crate for edit in edits})
+        own = {key: given[key] for key in steps}
+        counts = trying.count_refused(own)
+        note(trying.refused(own))
         print("edits: %d passed, %d failed" % counts, flush=True)
         return given
 

@@ -213,3 +213,11 @@ def count_refused(given):
             print_line("%d edits were refused %s" % (little, why))
     wells = [well for key, step in given.items() if key[1] != "library" for well, _ in step.told]
     return wells.count(True), wells.count(False)
+
+
+def refused(given):
+    """The edits that were refused, of those crates of which every other step went well."""
+    failed = {key[0] for key, step in given.items()
+              if not key[2] and not all(well for well, _ in step.told)}
+    return {edit for key, step in given.items() if key[0] not in failed
+            for edit, (well, _) in zip(key[2], step.told) if well}

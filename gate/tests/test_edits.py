@@ -3,7 +3,7 @@ edit changes."""
 import unittest
 from unittest import mock
 
-from gate.edits import collection, edit_files, tried
+from gate.edits import collection, edit_files, functions, tried
 from gate.edits.edit_files import Change, Edit
 
 TEXT = """# A comment.
@@ -99,6 +99,29 @@ class Tried(unittest.TestCase):
             Change("specs/Runs.antt", *it) for it in changes[first:])) for first in range(3)]
         self.assertEqual(tried.by_definition([*edits, FIRST]), {
             ("specs/Runs.antt", "joined"): edits[:2], ("specs/Runs.antt", "IsCut"): edits[2:]})
+
+
+class Functions(unittest.TestCase):
+    def test_only_the_end_of_a_contract_ends_a_function_without_a_body(self):
+        """A field of a record in a clause ends as the declaration of a trait's function does."""
+        text = """pub trait Meter {
+    fn reading(&self) -> u64
+        ensures { result ≡ record {
+          spent = self.now.spent;
+        } };
+
+    fn reset(&mut self)
+        ensures { self.new ≡ record self.old {
+          spent = 0;
+        } }
+    {
+        self.set(0);
+    }
+}
+"""
+        found = functions.functions_in(text, "src/meter.rt", set())
+        self.assertEqual([(it.name, it.body) for it in found],
+                         [("reset", "\n        self.set(0);\n")])
 
 
 if __name__ == "__main__":

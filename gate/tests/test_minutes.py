@@ -44,6 +44,12 @@ class Minutes(unittest.TestCase):
         self.assertEqual(minutes.changed(ALIKE, slow), {})
         self.assertEqual(minutes.changed(ALIKE, {**slow, "a1": (12.0, 16.0)}), {"a1": (6.0, 8.0)})
 
+    def test_edits_that_were_tried_in_part_keep_their_minutes(self):
+        self.assertEqual(minutes.changed(ALIKE, self.taken(a1=(4.5, None))), {})
+        self.assertEqual(minutes.changed(ALIKE, self.taken(a1=(5.0, None))), {"a1": (5.0, 6.0)})
+        slow = {crate: (2 * row[0], None) for crate, row in ALIKE.items()}
+        self.assertEqual(minutes.pace(ALIKE, slow), 2)
+
     def test_few_crates_give_no_pace(self):
         before = {crate: ALIKE[crate] for crate in ["a0", "a1"]}
         taken = {"a0": (8.0, 12.0), "a1": (4.0, 6.0)}
@@ -82,6 +88,11 @@ class Files(unittest.TestCase):
 
     def test_what_was_kept_has_no_row(self):
         self.assertIsNone(self.minutes_after([(("ocfl_tree", True), 30.0)]))
+
+    def test_crate_of_which_some_edits_were_tried_has_no_first_row(self):
+        with mock.patch.object(minutes, "PARTLY", {"ocfl_tree"}):
+            self.assertIsNone(self.minutes_after([(("ocfl_tree", False), 60.0),
+                                                  (("ocfl_tree", True), 30.0)]))
 
     def test_failed_gate_writes_nothing(self):
         commands.FAILURES.append("an edit")

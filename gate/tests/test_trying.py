@@ -135,7 +135,8 @@ class Steps(Rooms):
 
     def test_edits_of_what_is_not_proved_fail(self):
         proofs = {(name, "proof"): ([], 1, 1, lambda given, jobs: False) for name in self.made}
-        proving.fill(self.rt, listed("ocfl_digest"), {"ocfl_digest"})
+        noted = []
+        proving.fill(self.rt, listed("ocfl_digest"), {"ocfl_digest"}, noted.append)
         was = os.getcwd()
         self.addCleanup(os.chdir, was)
         os.chdir(self.room.name)
@@ -145,6 +146,16 @@ class Steps(Rooms):
         # (that nothing was changed holds all the same)
         self.assertIn("\nedits: 1 passed, %d failed\n" % (len(listed("ocfl_digest")) + 1),
                       out.getvalue())
+        self.assertEqual(noted, [set()])
+
+    def test_edits_count_as_refused_where_all_else_went_well(self):
+        """An edit over a proof that failed, or over kept work that was changed, does not count."""
+        good, bad = trying.Step([(True, "")], 1), trying.Step([(False, "")], 1)
+        both = trying.Step([(True, ""), (False, "")], 1)
+        given = {("low", "base", ()): good, ("low", "edits", ("a", "b")): both,
+                 ("low", "edits", ("c",)): good, ("low", "end", ()): good,
+                 ("high", "edits", ("d",)): good, ("high", "end", ()): bad}
+        self.assertEqual(trying.refused(given), {"a", "c"})
 
 
 class Bases(Rooms):

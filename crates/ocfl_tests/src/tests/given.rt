@@ -108,6 +108,31 @@ fn asked(alloc: Global, every: Option<u64>) -> Result<NightAsked, Fail> {
     })
 }
 
+/// A night that began then, by what is asked.
+fn given_by<'a>(alloc: Global, asked: &'a NightAsked, began: u64) -> Result<Given<'a>, Fail> {
+    Ok(Given {
+        asked,
+        began,
+        root: String::from_str(alloc, "/root")?,
+        known: Known::new(alloc),
+        shown: None,
+        program: String::new(alloc),
+    })
+}
+
+/// After cycle 7, whose report is closed or not.
+fn after_seven(is_closed: bool) -> Standing {
+    Standing {
+        cycle: 7,
+        runs: 1,
+        spent: 1,
+        has_ended: true,
+        is_closed,
+        is_whole: true,
+        left: 0,
+    }
+}
+
 #[test]
 fn nights_wait_for_the_next_cycle(rt: HostRuntime) -> Result<(), Fail> {
     let alloc = rt.alloc();
@@ -124,31 +149,13 @@ fn nights_wait_for_the_next_cycle(rt: HostRuntime) -> Result<(), Fail> {
         (None, true, 60, false),
     ] {
         let asked = asked(alloc, every)?;
-        let given = Given {
-            asked: &asked,
-            began: ended + since,
-            root: String::from_str(alloc, "/root")?,
-            known: Known::new(alloc),
-            shown: None,
-            program: String::new(alloc),
-        };
+        let given = given_by(alloc, &asked, ended + since)?;
         assert_eq!(rt; given.names().root, "/root");
         assert!(rt; text_of(&asked.known).is_none());
-        let began = Standing {
-            cycle: 7,
-            runs: 1,
-            spent: 1,
-            has_ended: true,
-            is_closed,
-            is_whole: true,
-            left: 0,
-        };
+        let began = after_seven(is_closed);
         assert_eq!(rt; find_wait(&rt, &given, began).is_some(), waits, "{since}");
-        assert_eq!(rt;
-            find_plan(&rt, &given, began)?.end == Some(0),
-            waits,
-            "{since}"
-        );
+        let plan = find_plan(&rt, &given, began)?;
+        assert_eq!(rt; plan.end == Some(0), waits, "{since}");
         assert_eq!(rt; given.about().began, ended + since);
         assert_eq!(rt; last_cost(began), Some(1));
     }

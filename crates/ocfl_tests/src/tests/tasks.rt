@@ -149,53 +149,31 @@ fn a_file_that_fails_is_said(rt: HostRuntime) -> Result<(), Fail> {
     Ok(())
 }
 
+/// What is said of a deed that ended with this note, if that is known for this reason.
+fn said_of(alloc: Global, deed: &Deed, note: &Note, why: Option<&str>) -> String {
+    let mut calls = Noted::new(alloc, false);
+    say_end(&mut calls, deed, note, why, "words");
+    let Noted { lines, .. } = calls;
+    lines
+}
+
 #[test]
 fn what_a_deed_ends_with_is_said(rt: HostRuntime) -> Result<(), Fail> {
     let alloc = rt.alloc();
+    let nothing = said_of(alloc, &Deed::Audit, &Note::Nothing, None);
+    assert_eq!(rt; nothing.as_str(), "");
+    let empty = said_of(alloc, &Deed::Audit, &Note::EmptyBranch, None);
+    assert_eq!(rt; empty.as_str(), "say no item\n");
     let check = Deed::Check(String::from_str(alloc, "a//b")?);
-    let place = place_of(alloc, "a b")?;
-    for (row, deed, note, why, wanted) in [
-        ("nothing", &Deed::Audit, Note::Nothing, None, ""),
-        (
-            "no item",
-            &check,
-            Note::NoItem,
-            None,
-            "say no item at a//b\n",
-        ),
-        (
-            "an empty branch",
-            &Deed::Audit,
-            Note::EmptyBranch,
-            None,
-            "say no item\n",
-        ),
-        (
-            "a bad path",
-            &check,
-            Note::BadPath,
-            None,
-            "say bad path\nsay words\n",
-        ),
-        (
-            "a place, and why",
-            &Deed::Audit,
-            Note::StoppedAt(place.try_clone()?),
-            Some("why"),
-            "say stopped at a b\nsay a b: why\n",
-        ),
-        (
-            "a place",
-            &Deed::Audit,
-            Note::StoppedAt(place),
-            None,
-            "say stopped at a b\n",
-        ),
-    ] {
-        let mut calls = Noted::new(alloc, false);
-        say_end(&mut calls, deed, &note, why, "words");
-        assert_eq!(rt; calls.lines.as_str(), wanted, "{row}");
-    }
+    let no_item = said_of(alloc, &check, &Note::NoItem, None);
+    assert_eq!(rt; no_item.as_str(), "say no item at a//b\n");
+    let bad = said_of(alloc, &check, &Note::BadPath, None);
+    assert_eq!(rt; bad.as_str(), "say bad path\nsay words\n");
+    let at = Note::StoppedAt(place_of(alloc, "a b")?);
+    let stopped = said_of(alloc, &Deed::Audit, &at, None);
+    assert_eq!(rt; stopped.as_str(), "say stopped at a b\n");
+    let with_why = said_of(alloc, &Deed::Audit, &at, Some("why"));
+    assert_eq!(rt; with_why.as_str(), "say stopped at a b\nsay a b: why\n");
     Ok(())
 }
 

@@ -13,7 +13,7 @@ use Rattle.ocfl_rules.specs.Due.{hashed_among}
 use Rattle.ocfl_rules.specs.Trail.{is_meta, content_openings, content_trail, unread_of, heads_of, inventory_of, places_of}
 use Rattle.ocfl_rules.proofs.Trails.{filter_append, none_unread}
 use Rattle.ocfl_item.specs.Looking.{IsFront, failed_place, failures_at, failures_by}
-use Rattle.ocfl_item.specs.Auditing.{Audits, Fails, FailedAt, IsMetadataRead, LiesIn, LieIn, in_listing, in_opening}
+use Rattle.ocfl_item.specs.Auditing.{Audits, Fails, FailedAt, IsMetadataRead, LiesIn, LieIn, LiesNear, in_listing, in_opening}
 use Rattle.ocfl_item.specs.{HeadFiles.{files_there}, declared.fault.Fault.{Fault}}
 use Rattle.ocfl_item.specs.declared.fault.Fault.TheVariants as fault
 
@@ -114,18 +114,27 @@ lies_left ds es p h = (h.0, (h.1.0, (among_left ds es h.0 h.1.1.0, h.1.1.1)))
 lies_right : (ds es : List Place) (p : Place) → LiesIn es p → LiesIn (ds ++ es) p
 lies_right ds es p h = (h.0, (h.1.0, (among_right ds es h.0 h.1.1.0, h.1.1.1)))
 
+lies_near : (further : Further) (root : StorageRoot) (ds es : List Place) (p : Place) → (LiesIn ds p → LiesIn es p) → LiesNear further root ds p → LiesNear further root es p
+lies_near None root ds es p more h = more h
+lies_near (Some k) root ds es p more (inl h) = inl (more h)
+lies_near (Some k) root ds es p more (inr h) = inr h
+
+right_in : (further : Further) (root : StorageRoot) (ds : List Place) (p : Place) → LiesIn ds p → LiesNear further root ds p
+right_in None root ds p h = h
+right_in (Some k) root ds p h = inl h
+
 near_both : (further : Further) (root : StorageRoot) (ds : List Place) (os os' : List Opening) → LieIn further root ds os → LieIn further root ds os' → LieIn further root ds (os ++ os')
 near_both further root ds os os' h k o i meta = by (among_either os os' o i)
   where
-    by : IsAmong os o ⊎ IsAmong os' o → LiesIn ds o.place
+    by : IsAmong os o ⊎ IsAmong os' o → LiesNear further root ds o.place
     by (inl j) = h o j meta
     by (inr j) = k o j meta
 
 near_left : (further : Further) (root : StorageRoot) (ds es : List Place) (os : List Opening) → LieIn further root ds os → LieIn further root (ds ++ es) os
-near_left further root ds es os h o i meta = lies_left ds es o.place (h o i meta)
+near_left further root ds es os h o i meta = lies_near further root ds (ds ++ es) o.place (lies_left ds es o.place) (h o i meta)
 
 pub near_on : (further : Further) (root : StorageRoot) (ds es : List Place) (os os' : List Opening) → LieIn further root ds os → LieIn further root es os' → LieIn further root (ds ++ es) (os ++ os')
-near_on further root ds es os os' h k = near_both further root (ds ++ es) os os' (near_left further root ds es os h) (λ o i meta. lies_right ds es o.place (k o i meta))
+near_on further root ds es os os' h k = near_both further root (ds ++ es) os os' (near_left further root ds es os h) (λ o i meta. lies_near further root es (ds ++ es) o.place (lies_right ds es o.place) (k o i meta))
 
 -- both in directories of the first
 pub near_within : (further : Further) (root : StorageRoot) (ds es : List Place) (os os' : List Opening) → LieIn further root ds os → LieIn further root ds os' → LieIn further root (ds ++ es) (os ++ os')
@@ -137,11 +146,16 @@ one_of o (n ∷ ns) p (inl e) = (n, e)
 one_of o (n ∷ ns) p (inr i) = one_of o ns p i
 
 -- files of o are in o
+pub files_in : (root : StorageRoot) (o : Place) (names : List Text) (trail : List Opening) → IsFront (places_of trail) (files_there root o names) → (x : Opening) → IsAmong trail x
+    → (n : Text) × (x.place ≡ o ++ n ∷ [])
+files_in root o names trail h x i =
+    let place : IsAmong (places_of trail) x.place = among_map (λ y. y.place) trail x i in
+    one_of o (filter (λ n. is_some (file_at root (o ++ n ∷ []))) names) x.place (subst (λ l. IsAmong l x.place) (sym h.1) (among_left (places_of trail) h.0 x.place place))
+
 pub files_near : (further : Further) (root : StorageRoot) (o : Place) (names : List Text) (trail : List Opening) → IsFront (places_of trail) (files_there root o names) → LieIn further root (o ∷ []) trail
 files_near further root o names trail h x i meta =
-    let place : IsAmong (places_of trail) x.place = among_map (λ y. y.place) trail x i in
-    let file = one_of o (filter (λ n. is_some (file_at root (o ++ n ∷ []))) names) x.place (subst (λ l. IsAmong l x.place) (sym h.1) (among_left (places_of trail) h.0 x.place place)) in
-    (o, (file.0, (inl refl, file.1)))
+    let file = files_in root o names trail h x i in
+    right_in further root (o ∷ []) x.place (o, (file.0, (inl refl, file.1)))
 
 -- ---- one call after the other
 

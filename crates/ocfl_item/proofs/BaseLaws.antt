@@ -126,14 +126,14 @@ module _ (root : StorageRoot) where
   base_stops e es m h none = unknown_stops Root es m none h.points
 
 module _ (further : Further) (root : StorageRoot) where
-  abbrev IsQuiet : Place → Type 0
+  abbrev pub IsQuiet : Place → Type 0
   IsQuiet p = (is_meta further root p ≡ true) × (inventory_of (zone root p) ≡ [])
 
-  front_quiet : (xs ys : List Place) → AllByRecursion IsQuiet (xs ++ ys) → AllByRecursion IsQuiet xs
+  pub front_quiet : (xs ys : List Place) → AllByRecursion IsQuiet (xs ++ ys) → AllByRecursion IsQuiet xs
   front_quiet [] ys h = tt
   front_quiet (x ∷ xs) ys h = (h.0, front_quiet xs ys h.1)
 
-  only_quiet : (trail : List Opening) → AllByRecursion IsQuiet (places_of trail) → (content_trail further root trail ≡ []) × (heads_of root trail ≡ [])
+  pub only_quiet : (trail : List Opening) → AllByRecursion IsQuiet (places_of trail) → (content_trail further root trail ≡ []) × (heads_of root trail ≡ [])
   only_quiet [] h = (refl, refl)
   only_quiet (x ∷ trail) h =
       let more = only_quiet trail h.1 in

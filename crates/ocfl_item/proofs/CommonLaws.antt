@@ -1,6 +1,6 @@
 -- Where nothing further has lines, a place has the lines that it has in each audit.
 use Rattle.std.proofs.Common.{◌≡◌, ℕ, ◌+◌, [], ◌∷◌, refl, ◌∙◌, ap, false, Option, Some, None, add-zero}
-use Rattle.std.specs.Prelude.{nat_lt}
+use Rattle.std.specs.Prelude.{nat_lt, ⊤}
 use Rattle.ocfl_tree.specs.{Place.{Place}, StorageRoot.{StorageRoot}}
 use Rattle.ocfl_rules.specs.Zone.{Zone, skipped, hierarchy, inside, zone, seen}
 use Rattle.ocfl_rules.specs.Inventories.{Further, version_inventory_in, version_inventory, version_cost, notes, is_hashed}
@@ -34,3 +34,16 @@ module _ (root : StorageRoot) (p : Place) (version : version_inventory root p �
 
   pub unnamed_unhashed : (further : Further) → named_at root p ≡ [] → is_hashed further root p ≡ false
   unnamed_unhashed further unnamed = hashed_alone further ∙ ap (λ ns. nat_lt 0 (cost_of ns None (seen root p))) unnamed
+
+-- an inventory of a version that is checked is at a place at most if these are not checked
+abbrev pub IsFree : Further → StorageRoot → Place → Type 0
+IsFree None root p = ⊤
+IsFree (Some k) root p = version_inventory root p ≡ None
+
+pub lines_free : (further : Further) (root : StorageRoot) (p : Place) → IsFree further root p → is_head (zone root p) ≡ false → (u : Option ℕ) → notes further root u p ≡ notes None root u p
+lines_free None root p h head u = refl
+lines_free (Some k) root p h head u = lines_alone root p h (Some k) head u
+
+pub unnamed_free : (further : Further) (root : StorageRoot) (p : Place) → IsFree further root p → named_at root p ≡ [] → is_hashed further root p ≡ false
+unnamed_free None root p h unnamed = ap (λ ns. nat_lt 0 (cost_of ns None (seen root p))) unnamed
+unnamed_free (Some k) root p h unnamed = unnamed_unhashed root p h (Some k) unnamed

@@ -5,7 +5,7 @@ use Rattle.std.proofs.{Math.Bool.{or-true}, lemmas.Bool.{false_from_ne_true}, le
 use Rattle.std.specs.Prelude.{cond, ◌||◌, ◌&&◌, not, min, AllPairs, Ok, Err, option_and_then}
 use Rattle.std.specs.List.{list_all}
 use Rattle.ocfl_tree.specs.{Place.{Text, Place}, StorageRoot.{StorageRoot, file_at, bytes_of}}
-use Rattle.ocfl_tree.specs.{Store.{Store, Did}, Calls.{opening}, Listing.{IsListing, kind_in}}
+use Rattle.ocfl_tree.specs.{Store.{Store, Did}, Calls.{opening}, Listing.{kind_at, kind_in}}
 use Rattle.ocfl_tree.specs.{declared.store.Entry.{Entry}, declared.store.Opening.{Opening}}
 use Rattle.ocfl_tree.specs.declared.store.Trouble.{Trouble}
 use Rattle.ocfl_tree.specs.declared.store.Trouble.TheVariants.{Device, Absent, Memory}
@@ -43,11 +43,11 @@ module _ (further : Further) (root : StorageRoot) (o : Place) (n : Text) (meta :
   file_not_hashed : is_hashed further root (o ++ n ∷ []) ≡ false
   file_not_hashed = false_from_ne_true (is_hashed further root (o ++ n ∷ [])) (λ e. true_not_false (sym meta ∙ hashed_no_meta further root (o ++ n ∷ []) e))
 
-  module _ (es : List Entry) (listing : IsListing root o es) where
+  module _ (es : List Entry) (tells : kind_in es n ≡ kind_at root o n) where
     stops_by : (s t : Store) (limit : ℕ) (trouble : Trouble) → s.tree ≡ root → is_file_kind (kind_in es n) ≡ true
         → StopsReading root s t (o ++ n ∷ []) limit trouble → FilesStop further root s t o (n ∷ []) (fault_by (o ++ n ∷ []) trouble)
     stops_by s t limit trouble over is k =
-        let there = file_there root o n es listing (kind_is_file (kind_in es n) is) in
+        let there = file_there root o n es tells (kind_is_file (kind_in es n) is) in
         let bytes : file_at root (o ++ n ∷ []) ≡ Some there.0 = ap (option_and_then bytes_of) there.1 in
         by trouble k bytes
       where
@@ -96,7 +96,7 @@ module _ (further : Further) (root : StorageRoot) (o : Place) (n : Text) (meta :
 
     pub file_absent : (s : Store) (limit : ℕ) → s.tree ≡ root → is_file_kind (kind_in es n) ≡ false → ReadsFile further root s s o n limit (Ok None)
     file_absent s limit over none =
-        let gone : file_at root (o ++ n ∷ []) ≡ None = no_file_there root o n es listing (kind_is_no_file (kind_in es n) none) in
+        let gone : file_at root (o ++ n ∷ []) ≡ None = no_file_there root o n es tells (kind_is_no_file (kind_in es n) none) in
         record { gives = (record { over = over; trail = []; did = did_nothing s; read = refl; opened = ap (λ b. map (λ m. o ++ m ∷ []) (cond (is_some b) (n ∷ []) [])) (sym gone) }, gone) }
 
   pub file_read : (s t : Store) (p : Place) (limit : ℕ) (b : Bounded) → s.tree ≡ root → p ≡ o ++ n ∷ [] → ReadsBounded root s t p limit b → ReadsFile further root s t o n limit (Ok (Some b))
@@ -220,11 +220,14 @@ pairs_unmapped f R xs all i j d l k =
     let two : get_or (map f xs) j (f d) ≡ f (get_or xs j d) = get_or-map f xs j d (f d) k in
     subst (λ y. R y (f (get_or xs j d))) one (subst (R (get_or (map f xs) i (f d))) two (all i j (f d) l (omega (arith, k, same))))
 
-module _ (root : StorageRoot) (o : Place) (z : zone root o ≡ inside o []) (ns : List Text) (meta : list_all (λ n. is_object_meta (n ∷ [])) ns ≡ true) (apart : AllPairs (λ n m. n ≢ m) ns) where
+module _ (root : StorageRoot) (o : Place) (ns : List Text) (apart : AllPairs (λ n m. n ≢ m) ns) where
   there_apart : AllPairs (λ p q. p ≢ q) (files_there root o ns)
   there_apart =
       map_pairs (λ n. o ++ n ∷ []) (λ p q. p ≢ q) (filter (λ n. is_some (file_at root (o ++ n ∷ []))) ns)
       (λ i j d l k e. AllPairs-filter (λ n m. n ≢ m) (λ n. is_some (file_at root (o ++ n ∷ []))) ns apart i j d l k (same_from_push o o _ _ e).1)
+
+  pub front_once : (trail : List Opening) → IsFront (places_of trail) (files_there root o ns) → AllPairs (λ a b. a.place ≢ b.place) trail
+  front_once trail h = pairs_unmapped (λ x. x.place) (λ p q. p ≢ q) trail (front_pairs (λ p q. p ≢ q) (places_of trail) (files_there root o ns) h there_apart)
 
 module _ (further : Further) (root : StorageRoot) (o : Place) (z : zone root o ≡ inside o []) (ns : List Text) (meta : list_all (λ n. is_object_meta (n ∷ [])) ns ≡ true) (apart : AllPairs (λ n m. n ≢ m) ns) where
   there_meta : (ms : List Text) → list_all (λ n. is_object_meta (n ∷ [])) ms ≡ true → list_all (is_meta further root) (files_there root o ms) ≡ true
@@ -258,7 +261,7 @@ module _ (further : Further) (root : StorageRoot) (o : Place) (z : zone root o �
   pub front_are_meta : (trail : List Opening) → IsFront (places_of trail) (files_there root o ns) → AreMeta further root trail
   front_are_meta trail h = record {
     meta = no_content trail (front_all (places_of trail) h.0 (ap (list_all (is_meta further root)) (sym h.1) ∙ there_meta ns meta));
-    once = pairs_unmapped (λ x. x.place) (λ p q. p ≢ q) trail (front_pairs (λ p q. p ≢ q) (places_of trail) (files_there root o ns) h (there_apart root o z ns meta apart));
+    once = front_once root o ns apart trail h;
   }
 
   abbrev pub some_is_meta : (s t : Store) → ReadsSome further root s t o ns → ReadsMeta further root s t

@@ -6,7 +6,7 @@ use Rattle.std.specs.Prelude.{cond, IfOk, ◌||◌, not, nat_le, AllPairs, Resul
 use Rattle.std.specs.declared.alloc.Global.{Global}
 use Rattle.ocfl_tree.proofs.Places.{text_eq-Decides}
 use Rattle.ocfl_tree.specs.{Place.{Text, Place, text_eq}, StorageRoot.{StorageRoot, file_at}}
-use Rattle.ocfl_tree.specs.{Listing.{IsListing}, Store.{Store}, declared.store.Entry.{Entry}}
+use Rattle.ocfl_tree.specs.{Listing.{IsListing, kind_at, kind_in}, Store.{Store}, declared.store.Entry.{Entry}}
 use Rattle.ocfl_inventory.specs.Note.{Note, plain}
 use Rattle.ocfl_inventory.specs.Declaration.{Declared, undeclared, known, unknown, several, declaration_name}
 use Rattle.ocfl_inventory.specs.{Entries.{meaning}, Reading.{algorithm_of}, Table.{Table, table_of}}
@@ -28,11 +28,12 @@ use Rattle.ocfl_rules.proofs.PathLaws.{notes_at}
 use Rattle.ocfl_item.specs.{Internal.Lines.{Adds, HasLines}, Ways.{IsObject}}
 use Rattle.ocfl_item.specs.Internal.Ways.{ReadsTable, IsDeclared, IsHeadOf, IsListedObject}
 use Rattle.ocfl_item.specs.HeadFiles.{OpensJust, ReadsFiles, FilesStop}
-use Rattle.ocfl_item.specs.Internal.HeadFiles.{IsFileAt, ReadsFile, ReadsSome, head_files, head_names, sidecars_for, table_in}
+use Rattle.ocfl_item.specs.Internal.HeadFiles.{HaveSidecars, IsFileAt, ReadsFile, ReadsSome, head_files, head_names, sidecars_for, table_in}
 use Rattle.ocfl_item.specs.{declared.fault.Fault.{Fault}, declared.lines.PlaceLines.{PlaceLines}}
 use Rattle.ocfl_item.specs.declared.fault.Fault.TheVariants as fault
 use Rattle.ocfl_item.proofs.HeadTrails.{inventory_alone, inventory_opened}
-use Rattle.ocfl_item.specs.Root.{root_at, root_by, root_in, root_notes_if}
+use Rattle.ocfl_item.specs.Root.{root_at, root_by, root_in, root_notes_if, root_view}
+use Rattle.ocfl_item.specs.declared.root.RootInventory.{RootInventory as MadeRoot}
 use Rattle.ocfl_item.proofs.{CommonLaws.{no_version}, LinesLaws.{adds_both, has_more}}
 use Rattle.ocfl_item.proofs.FileLaws.{file_is_meta, files_then, some_of, some_more, stop_more, stop_then, memory_after, some_is_meta, stop_is_meta}
 
@@ -59,8 +60,9 @@ module _ (root : StorageRoot) (o : Place) (es : List Entry) (h : IsObject root o
   one_apart i j d l k = absurd (omega (arith, l, k))
 
 module _ (further : Further) (root : StorageRoot) (o : Place) (es : List Entry) (h : IsObject root o es) where
-  pub table_read_from : (s t : Store) (r : Result (Option Table) Fault) → OpensJust further root s t o (inventory_name ∷ []) r → IfOk r (λ table. table ≡ table_at root o) → ReadsTable further root s t o r
-  table_read_from s t (Ok table) k is =
+  pub table_read_from : (s t : Store) (r : Result (Option Table × Option MadeRoot) Fault) → OpensJust further root s t o (inventory_name ∷ []) r
+      → IfOk r (λ read. (read.0 ≡ table_at root o) × (option_map root_view read.1 ≡ root_at further root o)) → ReadsTable further root s t o r
+  table_read_from s t (Ok read) k is =
       let some = some_of further root o s t (inventory_name ∷ []) k in
       record {
         gives = (
@@ -69,8 +71,9 @@ module _ (further : Further) (root : StorageRoot) (o : Place) (es : List Entry) 
             heads =
                 inventory_opened root o h.zone some.trail h.known some.opened;
           },
-          is,
+          is.0,
           inventory_alone root o h.zone k.trail some.opened,
+          is.1,
         );
       }
   table_read_from s t (Err why) k is = record {
@@ -252,6 +255,21 @@ pub reads_as : (further : Further) (root : StorageRoot) (o : Place) (es : List E
 reads_as further root o es s t n m limit r e meta here read =
     subst (λ x. ReadsFile further root s t o x limit r) e (read here.listing (file_is_meta further root o n here.zone (ap (λ x. is_object_meta (x ∷ [])) e ∙ meta)))
 
+-- a file was read of which some entries tell, by a name that is the same
+pub read_as : (further : Further) (root : StorageRoot) (o : Place) (es : List Entry) (s t : Store) (n m : Text) (limit : ℕ) (r : Result (Option Bounded) Fault) → n ≡ m
+    → kind_in es m ≡ kind_at root o m → is_meta further root (o ++ m ∷ []) ≡ true
+    → (kind_in es n ≡ kind_at root o n → is_meta further root (o ++ n ∷ []) ≡ true → ReadsFile further root s t o n limit r) → ReadsFile further root s t o m limit r
+read_as further root o es s t n m limit r e tells meta read =
+    subst (λ x. ReadsFile further root s t o x limit r) e (read (ap (kind_in es) e ∙ tells ∙ sym (ap (kind_at root o) e)) (ap (λ x. is_meta further root (o ++ x ∷ [])) e ∙ meta))
+
+-- the entries of an object tell of its sidecars
+pub object_sidecars : (further : Further) (root : StorageRoot) (o : Place) (es given : List Entry) → given ≡ es → IsListedObject root o es → HaveSidecars further root o given
+object_sidecars further root o es given same here = record {
+  told = (ap (λ xs. kind_in xs (sidecar_name Sha256)) same ∙ here.listing.each (sidecar_name Sha256), ap (λ xs. kind_in xs (sidecar_name Sha512)) same ∙ here.listing.each (sidecar_name Sha512));
+  short = file_is_meta further root o (sidecar_name Sha256) here.zone refl;
+  long = file_is_meta further root o (sidecar_name Sha512) here.zone refl;
+}
+
 module _ (further : Further) (root : StorageRoot) (o : Place) (z : zone root o ≡ inside o []) (v : Version) where
   pub known_lines : (none a b c d : PlaceLines) (r : Option RootInventory) → object_declared root o ≡ known v → HasLines none []
       → Adds none a (on (not (is_exact_declaration root o level.Object v)) (plain E007)) → Adds a b (inventory_file_notes root o (file_at root (o ++ inventory_name ∷ [])))
@@ -286,11 +304,19 @@ none_asked (Some bytes) = by (nat_le (length bytes) inventory_limit)
     by true = refl
     by false = refl
 
+root_of_known : (further : Further) (root : StorageRoot) (o : Place) (r : Option RootInventory) → is_known (object_declared root o) ≡ true
+    → r ≡ root_in further (file_at root (o ++ inventory_name ∷ [])) → r ≡ root_at further root o
+root_of_known None root o r same given = given ∙ none_asked (file_at root (o ++ inventory_name ∷ []))
+root_of_known (Some k) root o r same given =
+    given ∙ sym (ap (λ b. root_of_file (cond b (file_at root (o ++ inventory_name ∷ [])) None)) same ∙ root_by_file k (file_at root (o ++ inventory_name ∷ [])))
+
 pub known_root : (further : Further) (root : StorageRoot) (o : Place) (v : Version) (r : Option RootInventory) → object_declared root o ≡ known v
     → r ≡ root_in further (file_at root (o ++ inventory_name ∷ [])) → r ≡ root_at further root o
-known_root None root o v r same given = given ∙ none_asked (file_at root (o ++ inventory_name ∷ []))
-known_root (Some k) root o v r same given =
-    given ∙ sym (ap (λ d. root_of_file (cond (is_known d) (file_at root (o ++ inventory_name ∷ [])) None)) same ∙ root_by_file k (file_at root (o ++ inventory_name ∷ [])))
+known_root further root o v r same given = root_of_known further root o r (ap is_known same) given
+
+pub object_root : (further : Further) (root : StorageRoot) (o : Place) (es : List Entry) → IsObject root o es → (r : Option RootInventory)
+    → r ≡ root_in further (file_at root (o ++ inventory_name ∷ [])) → r ≡ root_at further root o
+object_root further root o es h r given = root_of_known further root o r h.known given
 
 stopped_root : (further : Further) (root : StorageRoot) (o : Place) → is_known (object_declared root o) ≡ false → None ≡ root_at further root o
 stopped_root None root o stops = refl

@@ -25,9 +25,12 @@ pub mod BaseLaws
 pub mod VisitLaws
 mod VisitPlaces
 mod VisitInside
+mod VersionItems
+mod VersionReads
 mod HeadReads
 mod HeadOpens
 pub mod AuditingLaws
 pub mod ShutLaws
 mod ShortLaws
 mod StopLaws
+mod NearLaws

@@ -7,7 +7,7 @@ use Rattle.std.specs.Option.{option_map}
 use Rattle.ocfl_tree.specs.Place.{Text, Place, text_cmp, text_eq, place_eq, child_name}
 use Rattle.ocfl_tree.specs.Ascending.{IsAmong, IsAscending}
 use Rattle.ocfl_tree.specs.StorageRoot.{StorageRoot, Leaf, file, dir, other, at, bytes_of, file_at, is_dir, is_dir_leaf, lookup, names_in}
-use Rattle.ocfl_tree.specs.Listing.{kind_of, kind_in, AreApart, IsOrdinary, IsListing}
+use Rattle.ocfl_tree.specs.Listing.{kind_of, kind_at, kind_in, AreApart, IsOrdinary, IsListing}
 use Rattle.ocfl_tree.specs.{declared.store.Entry.{Entry}, declared.store.Kind.{Kind}}
 use Rattle.ocfl_tree.specs.declared.store.Kind.TheVariants.{File, Dir, Other}
 use Rattle.ocfl_inventory.specs.Declaration.{is_declaration, declared, declared_by}
@@ -68,18 +68,21 @@ module _ (root : StorageRoot) (d : Place) (n : Text) (es : List Entry) (h : IsLi
   pub nothing_there : None ≡ kind_in es n → at root (d ++ n ∷ []) ≡ None
   nothing_there is = kind_none (at root (d ++ n ∷ [])) (is ∙ h.each n)
 
-  pub file_there : Some File ≡ kind_in es n → (bytes : Text) × (at root (d ++ n ∷ []) ≡ Some (file bytes))
-  file_there is = kind_file (at root (d ++ n ∷ [])) (is ∙ h.each n)
-
   pub dir_there : is_dir_kind (kind_in es n) ≡ is_dir root (d ++ n ∷ [])
   dir_there = ap is_dir_kind (h.each n) ∙ kind_dir (at root (d ++ n ∷ []))
+
+-- or at one of which some entries tell
+
+module _ (root : StorageRoot) (d : Place) (n : Text) (es : List Entry) (h : kind_in es n ≡ kind_at root d n) where
+  pub file_there : Some File ≡ kind_in es n → (bytes : Text) × (at root (d ++ n ∷ []) ≡ Some (file bytes))
+  file_there is = kind_file (at root (d ++ n ∷ [])) (is ∙ h)
 
   pub no_file_there : (Some File ≡ kind_in es n → ⊥) → file_at root (d ++ n ∷ []) ≡ None
   no_file_there none = by (at root (d ++ n ∷ [])) refl
     where
       by : (leaf : Option Leaf) → at root (d ++ n ∷ []) ≡ leaf → file_at root (d ++ n ∷ []) ≡ None
       by None e = ap (option_and_then bytes_of) e
-      by (Some (file bytes)) e = absurd (none (sym (h.each n ∙ ap (option_map kind_of) e)))
+      by (Some (file bytes)) e = absurd (none (sym (h ∙ ap (option_map kind_of) e)))
       by (Some dir) e = ap (option_and_then bytes_of) e
       by (Some other) e = ap (option_and_then bytes_of) e
 
@@ -225,7 +228,7 @@ module _ (root : StorageRoot) (d : Place) (es : List Entry) (ordinary : IsOrdina
 
   listed_to_model : (z : Text) → IsAmong (file_names es) z → IsAmong (files_in root d) z
   listed_to_model z i =
-      let k = file_there root d z es h (among_files es z ordinary.once i) in
+      let k = file_there root d z es (h.each z) (among_files es z ordinary.once i) in
       among_filter (λ n. is_some (file_at root (d ++ n ∷ []))) (names_in root d) z (entry_named root d z (file k.0) k.1)
       (ap (λ x. is_some (option_and_then bytes_of x)) k.1)
 

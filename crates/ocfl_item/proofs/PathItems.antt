@@ -37,15 +37,15 @@ module _ (root : StorageRoot) (p : Place) where
   inside_named o q x z e = ap (named_in root) z ∙ ap (λ y. elim y as (λ _. List Named) [ None ↦ [] | Some t ↦ named t q ]) e
 
   -- no digest is named if there is no table
-  pub untabled : IsTableAround root p None → named_at root p ≡ []
-  untabled h = by (zone root p) refl
+  pub untabled : (further : Further) → IsTableAround further root p None → named_at root p ≡ []
+  untabled further h = by (zone root p) refl
     where
       by : (z : Zone) → zone root p ≡ z → named_at root p ≡ []
       by skipped e = ap (named_in root) e
       by hierarchy e = ap (named_in root) e
       by (inside o q) e = inside_named o q None e (h o q e)
 
-  module _ (a : Around) (h : IsTableAround root p (Some a)) where
+  module _ (further : Further) (a : Around) (h : IsTableAround further root p (Some a)) where
     inner : drop (length a.place) p ≡ h.0
     inner = ap (drop (length a.place)) (zone_is root p a.place h.0 h.1).whole ∙ drop-append_seam a.place h.0
 

@@ -6,6 +6,7 @@ use Rattle.ocfl_tree.specs.{Place.{Place, Text}, StorageRoot.{StorageRoot}}
 use Rattle.ocfl_tree.specs.declared.store.Entry.{Entry}
 use Rattle.ocfl_inventory.specs.ListedPath.{is_version_name}
 use Rattle.ocfl_rules.specs.Zone.{inside, zone, is_entered, is_listed_in_object, is_listed_zone, beginnings}
+use Rattle.ocfl_rules.specs.Inventories.{Further}
 use Rattle.ocfl_item.specs.{Internal.Content.{content_at, content_in}, Around.{IsMet}}
 use Rattle.ocfl_item.specs.declared.meeting.Around.{Around}
 use Rattle.ocfl_rules.proofs.AuditExists.{zone_is}
@@ -13,8 +14,9 @@ use Rattle.ocfl_tree.proofs.Bools.{and_second}
 use Rattle.ocfl_item.proofs.LooksZones.{inside_step, zone_of_entered}
 
 -- an entry of a version directory
-pub record IsInVersion (root : StorageRoot) (o e : Place) (n : Text) : Type 0 where
+pub record IsInVersion (root : StorageRoot) (o d e : Place) (n : Text) : Type 0 where
   pub version : Text
+  pub directory : d ≡ o ++ version ∷ []
   pub zone : zone root e ≡ inside o (version ∷ n ∷ [])
   pub named : is_version_name version ≡ true
 
@@ -28,7 +30,7 @@ two_more zero r h n m = absurd (n (omega (arith, h)))
 two_more (suc zero) r h n m = absurd (m (omega (arith, h)))
 two_more (suc (suc s)) r h n m = omega arith
 
-module _ (root : StorageRoot) (d e : Place) (a : Around) (entry : Entry) (m : IsMet root d (Some a) entry e) (r : ℕ) (sub : r ≡ length e - length a.place) where
+module _ (further : Further) (root : StorageRoot) (d e : Place) (a : Around) (entry : Entry) (m : IsMet further root d (Some a) entry e) (r : ℕ) (sub : r ≡ length e - length a.place) where
   whole : e ≡ a.place ++ (m.part.0 ++ entry.name ∷ [])
   whole = m.is ∙ ap (λ x. x ++ entry.name ∷ []) (zone_is root d a.place m.part.0 m.part.1).whole ∙ append_assoc a.place m.part.0 (entry.name ∷ [])
 
@@ -49,13 +51,14 @@ module _ (root : StorageRoot) (d e : Place) (a : Around) (entry : Entry) (m : Is
       by [] k z = z
       by (v ∷ s) k z = absurd (omega (arith, k))
 
-  pub in_version : r ≡ 2 → IsInVersion root a.place e entry.name
-  in_version h = by m.part.0 (let l = long in omega (arith, l, sub, h)) zone_here listed_here
+  pub in_version : r ≡ 2 → IsInVersion root a.place d e entry.name
+  in_version h = by m.part.0 (let l = long in omega (arith, l, sub, h)) (zone_is root d a.place m.part.0 m.part.1).whole zone_here listed_here
     where
-      by : (s : Place) → length s ≡ 1 → zone root e ≡ inside a.place (s ++ entry.name ∷ []) → is_listed_in_object (Some a.table) s ≡ true → IsInVersion root a.place e entry.name
-      by [] k z l = absurd (omega (arith, k))
-      by (v ∷ []) k z l = record { version = v; zone = z; named = l }
-      by (v ∷ c ∷ s) k z l = absurd (omega (arith, k))
+      by : (s : Place) → length s ≡ 1 → d ≡ a.place ++ s → zone root e ≡ inside a.place (s ++ entry.name ∷ []) → is_listed_in_object (Some a.table) s ≡ true
+          → IsInVersion root a.place d e entry.name
+      by [] k is z l = absurd (omega (arith, k))
+      by (v ∷ []) k is z l = record { version = v; directory = is; zone = z; named = l }
+      by (v ∷ c ∷ s) k is z l = absurd (omega (arith, k))
 
   pub in_content : (r ≡ 1 → ⊥) → (r ≡ 2 → ⊥) → IsInContent root a e
   in_content n k = record { content = by m.part.0 few zone_here ∙ ap (λ q. Some (a.table, q)) (sym inner); listed = deep m.part.0 few zone_here listed_here }
@@ -78,5 +81,5 @@ module _ (root : StorageRoot) (d e : Place) (a : Around) (entry : Entry) (m : Is
       deep (v ∷ c ∷ s) k z l = ap (is_listed_zone root) z ∙ ap (λ x. is_listed_in_object x (v ∷ c ∷ (s ++ entry.name ∷ []))) m.part.2 ∙ l
 
 -- an entry that is met within an object, if that object is the one at hand
-pub met_within : (root : StorageRoot) (d e : Place) (around : Option Around) (a : Around) (entry : Entry) → around ≡ Some a → IsMet root d around entry e → IsMet root d (Some a) entry e
-met_within root d e around a entry is met = subst (λ x. IsMet root d x entry e) is met
+pub met_within : (further : Further) (root : StorageRoot) (d e : Place) (around : Option Around) (a : Around) (entry : Entry) → around ≡ Some a → IsMet further root d around entry e → IsMet further root d (Some a) entry e
+met_within further root d e around a entry is met = subst (λ x. IsMet further root d x entry e) is met

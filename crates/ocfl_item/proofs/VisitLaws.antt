@@ -1,5 +1,5 @@
 -- What is met at an entry.
-use Rattle.std.proofs.Common.{◌≡◌, ◌≢◌, ◌<◌, ◌≤◌, List, [], ◌∷◌, refl, sym, ◌∙◌, ap, subst, true, false, Bool, Option, Some, None, arith, length, map}
+use Rattle.std.proofs.Common.{◌≡◌, ◌≢◌, ◌⊎◌, inl, inr, ◌<◌, ◌≤◌, List, [], ◌∷◌, refl, sym, ◌∙◌, ap, subst, true, false, Bool, Option, Some, None, arith, length, map}
 use Rattle.std.proofs.lemmas.Bool.{le-leb, lt-ltb, le-ltb}
 use Rattle.std.specs.Prelude.{cond, nat_lt, nat_le, option_map, IfSome, IsErrAnd, Result, Ok, Err, ◌&&◌, ◌||◌, not, codes}
 use Rattle.std.specs.List.{list_all}
@@ -14,8 +14,8 @@ use Rattle.ocfl_inventory.specs.Table.{Table, named}
 use Rattle.ocfl_inventory.specs.{Declaration.{is_declaration}, ListedPath.{is_version_name}}
 use Rattle.ocfl_report.specs.declared.code.Code.{Code}
 use Rattle.ocfl_report.specs.declared.code.Code.TheVariants.{E001, E015, E024, S04, S05}
-use Rattle.ocfl_rules.specs.Zone.{Zone, skipped, hierarchy, inside, zone, seen, table_at, is_entered, is_listed_zone, is_listed_in_object, max_listed_depth, beginnings}
-use Rattle.ocfl_rules.specs.Inventories.{Further, notes, is_hashed}
+use Rattle.ocfl_rules.specs.Zone.{Zone, skipped, hierarchy, inside, zone, seen, inventory_name, table_at, is_entered, is_listed_zone, is_listed_in_object, max_listed_depth, beginnings}
+use Rattle.ocfl_rules.specs.Inventories.{Further, inventory_bytes, version_inventory_in, notes, is_hashed}
 use Rattle.ocfl_rules.specs.Lines.{cost_of, notes_in, object_notes, object_entry_notes, version_entry_notes, is_inventory_or_sidecar, is_empty, listed_dir_notes}
 use Rattle.ocfl_rules.specs.Head.{on}
 use Rattle.ocfl_rules.specs.Walk.{is_reached, seen_names}
@@ -26,15 +26,15 @@ use Rattle.ocfl_inventory.specs.declared.declaration.Level.TheVariants as level
 use Rattle.ocfl_item.specs.{Auditing.{FailedAt}, Looking.{IsFront, failures_by}, Internal.Content.{IsSight, content_in, content_at}}
 use Rattle.ocfl_item.specs.{Pending.{IsPending}, Internal.Lines.{HasLines, IsUnhashed}}
 use Rattle.ocfl_item.specs.{Root.{root_at, root_view}, Ways.{Enters, Stops, is_listable}}
-use Rattle.ocfl_item.specs.Meeting.{IsFolderAt, IsItemAt, IsRootAt, IsTableAt, IsVisit, Meets, MeetFails, Visits}
-use Rattle.ocfl_item.specs.Internal.Visiting.{HasRole, IsEntryAt, IsListedAt, IsPlainAt, IsShut}
+use Rattle.ocfl_item.specs.Meeting.{IsFolderAt, IsItemAt, IsRootAt, IsTableAt, IsVisit, Meets, MeetFails, OpensBeside, Visits}
+use Rattle.ocfl_item.specs.Internal.Visiting.{HasRole, IsEntryAt, IsListedAt, IsPlainAt, IsShut, is_checked}
 use Rattle.ocfl_item.specs.{declared.fault.Fault.{Fault}, declared.folder.Folder.{Folder}}
 use Rattle.ocfl_item.specs.declared.lines.PlaceLines.{PlaceLines}
 use Rattle.ocfl_item.specs.{declared.pending.Pending.{Pending}, declared.visit.Visit.{Visit}}
 use Rattle.ocfl_item.specs.declared.fault.Fault.TheVariants as fault
 use Rattle.ocfl_item.specs.declared.role.Role.TheVariants as role
 use Rattle.ocfl_item.specs.declared.sight.Sight.TheVariants as sight
-use Rattle.ocfl_item.proofs.{ContentLaws.{named_short, not_root}, CommonLaws.{lines_alone, no_version, unnamed_unhashed}, LooksZones.{dir_from_leaf, entered_from}}
+use Rattle.ocfl_item.proofs.{ContentLaws.{named_short, not_root}, CommonLaws.{IsFree, lines_alone, lines_free, no_version, unnamed_free, unnamed_unhashed}, LooksZones.{dir_from_leaf, entered_from}}
 use Rattle.ocfl_item.proofs.LooksEntries.{emptied, kind_file, not_emptied}
 use Rattle.ocfl_item.proofs.AuditingLaws.{front_all, front_none, near_none, none_once}
 use Rattle.ocfl_item.proofs.ShutLaws.{listed_shows, looked_at, no_head_unread, shut_no_dir, shut_zone}
@@ -79,6 +79,10 @@ no_notes root e h = short_notes root e [] h ∙ same_either (is_empty (names_in 
 
 -- ---- what was done
 
+pub opens_none : (further : Further) (root : StorageRoot) (e : Place) → OpensBeside further root e []
+opens_none None root e = refl
+opens_none (Some k) root e = λ o i. absurd i
+
 -- no file was opened
 abbrev pub meets_unopened : (further : Further) (root : StorageRoot) (s t : Store) (e : Place) (listings : List Place) → s.tree ≡ root → Did s t [] listings 0
     → listings ≡ on (is_looked_into root e) e → reads_inventory root e ≡ false → Meets further root s t e
@@ -90,7 +94,7 @@ meets_unopened further root s t e listings over did listed read = record {
   read = refl;
   meta = refl;
   once = none_once;
-  elsewhere = λ g k. refl;
+  elsewhere = λ g k. opens_none further root e;
   near = near_none further root listings;
   listed = listed;
   heads = sym (ap (λ b. on b e) read);
@@ -110,7 +114,7 @@ fails_unopened further root s t e why listings over did listed store = record {
   read = λ g. refl;
   meta = refl;
   once = none_once;
-  elsewhere = λ g k. refl;
+  elsewhere = λ g k. opens_none further root e;
   near = near_none further root listings;
   listed = listed;
   heads = front_none (on (reads_inventory root e) e);
@@ -278,13 +282,34 @@ object_plain further root e o n t z h = record {
   head = ap is_head z;
 }
 
-pub version_plain : (root : StorageRoot) (e o : Place) (v n : Text) (t : Table) → zone root e ≡ inside o (v ∷ n ∷ []) → table_at root o ≡ Some t
-    → IsPlainAt None root e (version_entry_notes root t e n (seen root e))
-version_plain root e o v n t z h = record {
-  lines = notes_at root None e (not_root root e o (v ∷ n ∷ []) z) ∙ ap (notes_in root e None) z ∙ ap (λ y. object_notes root e None y (v ∷ n ∷ [])) h;
-  unhashed = ap (λ ns. nat_lt 0 (cost_of ns None (seen root e))) (named_short root e o (v ∷ n ∷ []) z (omega arith));
+pub version_plain : (further : Further) (root : StorageRoot) (e o : Place) (v n : Text) (t : Table) → zone root e ≡ inside o (v ∷ n ∷ []) → table_at root o ≡ Some t → IsFree further root e
+    → IsPlainAt further root e (version_entry_notes root t e n (seen root e))
+version_plain further root e o v n t z h free = record {
+  lines = lines_free further root e free (ap is_head z) None ∙ notes_at root None e (not_root root e o (v ∷ n ∷ []) z) ∙ ap (notes_in root e None) z
+      ∙ ap (λ y. object_notes root e None y (v ∷ n ∷ [])) h;
+  unhashed = unnamed_free further root e free (named_short root e o (v ∷ n ∷ []) z (omega arith));
   head = ap is_head z;
 }
+
+-- what is no file, or has another name, is not checked
+pub no_file_unchecked : (further : Further) (n : Text) (k : Kind) → (k ≡ kind.Dir) ⊎ (k ≡ kind.Other) → is_checked further n k ≡ false
+no_file_unchecked None n k is = refl
+no_file_unchecked (Some c) n k (inl is) = ap (is_checked (Some c) n) is
+no_file_unchecked (Some c) n k (inr is) = ap (is_checked (Some c) n) is
+
+pub other_name_unchecked : (further : Further) (n : Text) (k : Kind) → k ≡ kind.File → text_eq n inventory_name ≡ false → is_checked further n k ≡ false
+other_name_unchecked None n k is differs = refl
+other_name_unchecked (Some c) n k is differs = ap (is_checked (Some c) n) is ∙ differs
+
+-- an entry of a version directory that is no inventory that is checked
+pub unchecked : (further : Further) (root : StorageRoot) (e o : Place) (v n : Text) (k : Kind) → IsEntryAt root e k → zone root e ≡ inside o (v ∷ n ∷ []) → is_checked further n k ≡ false → IsFree further root e
+unchecked None root e o v n k h z out = tt
+unchecked (Some c) root e o v n k h z out = ap (λ x. version_inventory_in x (seen root e)) z ∙ ap (option_map (λ bytes. (o, v, bytes))) (by k refl out)
+  where
+    by : (j : Kind) → k ≡ j → is_checked (Some c) n j ≡ false → inventory_bytes n (seen root e) ≡ None
+    by kind.File is g = let f = entry_file root e k h is in ap (inventory_bytes n) f.1 ∙ ap (λ b. cond b (Some f.0) None) g
+    by kind.Dir is g = ap (inventory_bytes n) (entry_dir root e k h is)
+    by kind.Other is g = ap (inventory_bytes n) (entry_other root e k h is)
 
 -- ---- at a place that is not entered
 
@@ -332,26 +357,29 @@ module _ (root : StorageRoot) (e o : Place) (v n : Text) (t : Table) (k : Kind) 
   in_version : (b : Bool) → is_version_name v ≡ true → text_eq n t.content ≡ b → is_listed_in_object (table_at root o) (v ∷ n ∷ []) ≡ b
   in_version b named is = ap (λ x. is_listed_in_object x (v ∷ n ∷ [])) table ∙ ap (λ x. x && text_eq n t.content) named ∙ is
 
-module _ (root : StorageRoot) (e o : Place) (v n : Text) (t : Table) (k : Kind) (h : IsEntryAt root e k) (z : zone root e ≡ inside o (v ∷ n ∷ [])) (table : table_at root o ≡ Some t) where
-  of_version : (leaf : Leaf) (ns : List Note) → seen root e ≡ Some leaf → version_entry_notes root t e n (Some leaf) ≡ ns → IsPlainAt None root e ns
-  of_version leaf ns s is = relined None root e (version_entry_notes root t e n (seen root e)) ns (ap (version_entry_notes root t e n) s ∙ is) (version_plain root e o v n t z table)
+module _ (further : Further) (root : StorageRoot) (e o : Place) (v n : Text) (t : Table) (k : Kind) (h : IsEntryAt root e k) (out : is_checked further n k ≡ false)
+    (z : zone root e ≡ inside o (v ∷ n ∷ [])) (table : table_at root o ≡ Some t) where
+  of_version : (leaf : Leaf) (ns : List Note) → seen root e ≡ Some leaf → version_entry_notes root t e n (Some leaf) ≡ ns → IsPlainAt further root e ns
+  of_version leaf ns s is =
+      relined further root e (version_entry_notes root t e n (seen root e)) ns (ap (version_entry_notes root t e n) s ∙ is)
+      (version_plain further root e o v n t z table (unchecked further root e o v n k h z out))
 
-  pub version_file_known : k ≡ kind.File → is_inventory_or_sidecar n ≡ true → HasRole None root e role.LeftAlone
+  pub version_file_known : k ≡ kind.File → is_inventory_or_sidecar n ≡ true → HasRole further root e role.LeftAlone
   version_file_known is b = let f = entry_file root e k h is in (of_version (file f.0) [] f.1 (ap (λ x. on (not x) (plain E015)) b), file_shut root e k h is)
 
-  pub version_file_other : k ≡ kind.File → is_inventory_or_sidecar n ≡ false → HasRole None root e (role.Plain E015)
+  pub version_file_other : k ≡ kind.File → is_inventory_or_sidecar n ≡ false → HasRole further root e (role.Plain E015)
   version_file_other is b = let f = entry_file root e k h is in (of_version (file f.0) (plain E015 ∷ []) f.1 (ap (λ x. on (not x) (plain E015)) b), file_shut root e k h is)
 
-  pub version_other : k ≡ kind.Other → HasRole None root e (role.Plain S04)
+  pub version_other : k ≡ kind.Other → HasRole further root e (role.Plain S04)
   version_other is = (of_version other (plain S04 ∷ []) (entry_other root e k h is) refl, other_shut root e k h is)
 
-  pub version_content : k ≡ kind.Dir → is_version_name v ≡ true → text_eq n t.content ≡ true → HasRole None root e role.Listed
+  pub version_content : k ≡ kind.Dir → is_version_name v ≡ true → text_eq n t.content ≡ true → HasRole further root e role.Listed
   version_content is named b = (
     listed_entry root e k h is (ap (is_listed_zone root) z ∙ in_version root e o v n t k h z table true named b),
     of_version dir (listed_dir_notes root e []) (entry_dir root e k h is) (ap (λ x. cond x (listed_dir_notes root e []) []) b),
   )
 
-  pub version_dir : k ≡ kind.Dir → is_version_name v ≡ true → text_eq n t.content ≡ false → HasRole None root e role.LeftAlone
+  pub version_dir : k ≡ kind.Dir → is_version_name v ≡ true → text_eq n t.content ≡ false → HasRole further root e role.LeftAlone
   version_dir is named b = (
     of_version dir [] (entry_dir root e k h is) (ap (λ x. cond x (listed_dir_notes root e []) []) b),
     shut_zone root e (not_root root e o (v ∷ n ∷ []) z) (ap (shows_entries root) z ∙ in_version root e o v n t k h z table false named b),

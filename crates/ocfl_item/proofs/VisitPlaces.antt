@@ -50,8 +50,8 @@ use Rattle.ocfl_item.proofs.CommonLaws.{lines_alone, no_version, unnamed_unhashe
 
 -- ---- an entry that is next
 
-pub entry_met : (root : StorageRoot) (d e : Place) (a : Option Around) (entry : Entry) → IsMet root d a entry e → IsEntryAt root e entry.kind
-entry_met root d e a entry m = record {
+pub entry_met : (further : Further) (root : StorageRoot) (d e : Place) (a : Option Around) (entry : Entry) → IsMet further root d a entry e → IsEntryAt root e entry.kind
+entry_met further root d e a entry m = record {
   way = ap (λ x. list_all (is_entered root) (beginnings x)) m.is ∙ all_beginnings_step (is_entered root) d entry.name ∙ m.reached;
   kind = ap (λ x. option_map kind_of (at root x)) m.is ∙ m.kind;
 }

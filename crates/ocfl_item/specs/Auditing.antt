@@ -1,9 +1,9 @@
 -- What calls above the store did to a store that tells its tree: one record if they succeed, and
 -- one for a fault.
-use Rattle.std.specs.Prelude.{◌≡◌, ◌&&◌, ℕ, ◌+◌, List, [], ◌∷◌, ◌++◌, true, false, filter, length, Option, Some}
+use Rattle.std.specs.Prelude.{◌≡◌, ◌⊎◌, ◌&&◌, ℕ, ◌+◌, List, [], ◌∷◌, ◌++◌, true, false, filter, length, Option, Some, None, is_some}
 use Rattle.ocfl_tree.specs.{Place.{Text, Place}, Ascending.{IsAmong}, StorageRoot.{StorageRoot}}
 use Rattle.ocfl_tree.specs.{Store.{Store, Did}, Calls.{opening}, declared.store.Opening.{Opening}}
-use Rattle.ocfl_rules.specs.Inventories.{Further, is_hashed}
+use Rattle.ocfl_rules.specs.Inventories.{Further, version_inventory, is_hashed}
 use Rattle.ocfl_rules.specs.Trail.{is_meta, content_trail, unread_of, heads_of}
 use Rattle.ocfl_rules.specs.Due.{hashed_among}
 use Rattle.ocfl_item.specs.Looking.{failures_at}
@@ -16,13 +16,24 @@ IsMetadataRead further root trail = filter (λ o. o.failed && is_meta further ro
 abbrev pub LiesIn : List Place → Place → Type 0
 LiesIn dirs p = (d : Place) × ((n : Text) × (IsAmong dirs d × (p ≡ d ++ n ∷ [])))
 
--- so does each declaration, inventory and sidecar that was opened
+-- a place is right in the directory of an inventory of a version that is seen
+abbrev pub LiesBeside : StorageRoot → Place → Place → Type 0
+LiesBeside root inventory p =
+    (is_some (version_inventory root inventory) ≡ true) × ((d : Place) × ((m : Text) × ((n : Text) × ((inventory ≡ d ++ m ∷ []) × (p ≡ d ++ n ∷ [])))))
+
+-- a place is right in one of these directories, or beside such an inventory if these are checked: all
+-- above what is seen was listed before
+abbrev pub LiesNear : Further → StorageRoot → List Place → Place → Type 0
+LiesNear None root dirs p = LiesIn dirs p
+LiesNear (Some k) root dirs p = LiesIn dirs p ⊎ ((inventory : Place) × LiesBeside root inventory p)
+
+-- so is each declaration, inventory and sidecar that was opened
 abbrev pub LieIn : Further → StorageRoot → List Place → List Opening → Type 0
-LieIn further root dirs trail = (o : Opening) → IsAmong trail o → is_meta further root o.place ≡ true → LiesIn dirs o.place
+LieIn further root dirs trail = (o : Opening) → IsAmong trail o → is_meta further root o.place ≡ true → LiesNear further root dirs o.place
 
 -- from s to t these places were audited: the content files of those that are hashed were opened, in
 -- order, and nothing failed but these openings; these directories were listed, and the inventories
--- of these objects opened, in order; of metadata only files right in these directories were opened
+-- of these objects opened, in order; of metadata only files near these directories were opened
 pub record Audits (further : Further) (root : StorageRoot) (s t : Store) (places listed heads : List Place) (trail : List Opening) : Type 0 where
   pub over : s.tree ≡ root
   pub did : Did s t trail listed (length (unread_of further root trail))

@@ -9,15 +9,21 @@ use Rattle.ocfl_rules.specs.Head.{on}
 use Rattle.ocfl_rules.specs.Trail.{content_trail, heads_of, is_head, reads_inventory}
 use Rattle.ocfl_rules.specs.Between.{is_looked_into}
 use Rattle.ocfl_rules.specs.Walk.{is_reached, seen_names}
-use Rattle.ocfl_item.specs.Auditing.{FailedAt, IsMetadataRead, LieIn}
+use Rattle.ocfl_item.specs.Auditing.{FailedAt, IsMetadataRead, LieIn, LiesBeside}
+use Rattle.ocfl_tree.specs.Ascending.{IsAmong}
 use Rattle.ocfl_item.specs.{Looking.{IsFront, failures_by}, Pending.{IsPending}, Root.{root_at, root_view}}
 use Rattle.ocfl_item.specs.{declared.fault.Fault.{Fault}, declared.folder.Folder.{Folder}}
 use Rattle.ocfl_item.specs.{declared.pending.Pending.{Pending}, declared.visit.Visit.{Visit}}
 use Rattle.ocfl_item.specs.declared.fault.Fault.TheVariants as fault
 
+-- what is opened at a place that is neither an object nor the storage root: nothing, but files right
+-- beside it if it is the inventory of a version and these are checked
+abbrev pub OpensBeside : Further → StorageRoot → Place → List Opening → Type 0
+OpensBeside None root e trail = trail ≡ []
+OpensBeside (Some k) root e trail = (o : Opening) → IsAmong trail o → LiesBeside root e o.place
+
 -- from s to t just what is looked into and read at one place was listed and read: this directory,
--- and the inventory of this object; no file was opened twice, none but right in this directory, and
--- none if there is neither an object nor the storage root
+-- and the inventory of this object; no file was opened twice, and none but near this directory
 pub record Meets (further : Further) (root : StorageRoot) (s t : Store) (e : Place) : Type 0 where
   pub over : s.tree ≡ root
   pub trail : List Opening
@@ -26,7 +32,7 @@ pub record Meets (further : Further) (root : StorageRoot) (s t : Store) (e : Pla
   pub read : IsMetadataRead further root trail
   pub meta : content_trail further root trail ≡ []
   pub once : AllPairs (λ a b. a.place ≢ b.place) trail
-  pub elsewhere : is_head (zone root e) ≡ false → e ≢ [] → trail ≡ []
+  pub elsewhere : is_head (zone root e) ≡ false → e ≢ [] → OpensBeside further root e trail
   pub listed : listings ≡ on (is_looked_into root e) e
   pub heads : heads_of root trail ≡ on (reads_inventory root e) e
   pub near : LieIn further root listings trail
@@ -40,7 +46,7 @@ pub record MeetFails (further : Further) (root : StorageRoot) (s t : Store) (e :
   pub read : failures_by why ≡ 0 → IsMetadataRead further root trail
   pub meta : content_trail further root trail ≡ []
   pub once : AllPairs (λ a b. a.place ≢ b.place) trail
-  pub elsewhere : is_head (zone root e) ≡ false → e ≢ [] → trail ≡ []
+  pub elsewhere : is_head (zone root e) ≡ false → e ≢ [] → OpensBeside further root e trail
   pub listed : IsFront listings (on (is_looked_into root e) e)
   pub heads : IsFront (heads_of root trail) (on (reads_inventory root e) e)
   pub near : LieIn further root listings trail

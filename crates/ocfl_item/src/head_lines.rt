@@ -103,7 +103,7 @@ fn add_unless_equal(
 }
 
 /// The digest that a sidecar names, if it is of the form.
-fn sum_of(algorithm: Algorithm, file: &Bounded) -> Option<Sum>
+pub(crate) fn sum_of(algorithm: Algorithm, file: &Bounded) -> Option<Sum>
     ensures { (text : Text) → IsBoundedTo side_limit text file.now
         → option_map sum_view result ≡ sidecar_of algorithm text }
 {
@@ -141,7 +141,7 @@ fn add_sidecar(
 }
 
 /// Appends the line of an inventory without sidecars.
-fn add_unless_any(lines: &mut PlaceLines, sidecars: &Sidecars) -> Result<(), AllocError>
+pub(crate) fn add_unless_any(lines: &mut PlaceLines, sidecars: &Sidecars) -> Result<(), AllocError>
     ensures place { OnOk result (lines.new.place ≡ lines.old.place) }
     ensures lines { (root : StorageRoot) (o : ModelPlace) → AreSidecars root o sidecars.now
         → OnOk result (Adds lines.old lines.new

@@ -1,11 +1,11 @@
 //! What calls did adds up, what stopped them, and which files are short.
 ghost use Rattle.std.specs.Prelude.{◌≡◌, ◌↔◌, ◌⊎◌, ◌<◌, ◌+◌, ◌++◌, ◌∷◌, [], ℕ, List, Option, Some, length};
-ghost use Rattle.std.specs.Prelude.{true, false};
+ghost use Rattle.std.specs.Prelude.{true, false, None, codes};
 ghost use Rattle.ocfl_tree.specs.{Place.{Place, Text}, Ascending.{IsAmong}, Store.{Store}};
 ghost use Rattle.ocfl_tree.specs.StorageRoot.{StorageRoot, file_at};
 ghost use Rattle.ocfl_tree.specs.declared.store.Opening.{Opening};
 ghost use Rattle.ocfl_rules.specs.Inventories.{Further, is_hashed};
-ghost use Rattle.ocfl_rules.specs.Trail.{is_meta, unread_of};
+ghost use Rattle.ocfl_rules.specs.{Objects.{IsVersionInventory}, Trail.{is_meta, unread_of}};
 ghost use Rattle.ocfl_item.specs.{Auditing.{Audits, Fails}, Judging.{HasShortFiles}};
 
 /// What calls did adds up, one after the other, up to a fault.
@@ -44,6 +44,23 @@ pub fn stops_name_the_call_that_failed()
         ⊎ ((before : List Opening) × ((given : ℕ)
         × ((trail ≡ before ++ record { place = q; given = given; failed = true } ∷ [])
         × (t.failed_listings ≡ s.failed_listings)))) }
+{}
+
+/// Metadata that is opened lies right in a directory that was listed. If the inventories of versions
+/// are checked, a sidecar may also lie right in the directory of a version whose inventory is seen.
+pub fn metadata_lies_in_listed_directories()
+    ensures listed { (root : StorageRoot) (s t : Store) (places listed heads : List Place)
+        (trail : List Opening) → Audits None root s t places listed heads trail → (o : Opening)
+        → IsAmong trail o → is_meta None root o.place ≡ true
+        → (d : Place) × ((n : Text) × (IsAmong listed d × (o.place ≡ d ++ n ∷ []))) }
+    ensures versions { (further : Further) (root : StorageRoot) (s t : Store)
+        (places listed heads : List Place) (trail : List Opening)
+        → Audits further root s t places listed heads trail → (o : Opening)
+        → IsAmong trail o → is_meta further root o.place ≡ true
+        → ((d : Place) × ((n : Text) × (IsAmong listed d × (o.place ≡ d ++ n ∷ []))))
+        ⊎ ((object : Place) × ((version : Text) × ((bytes : Text) × ((n : Text)
+        × (IsVersionInventory root (object ++ version ∷ codes "inventory.json" ∷ []) object version
+        bytes × (o.place ≡ object ++ version ∷ n ∷ [])))))) }
 {}
 
 /// A storage root has short files exactly if each of its files has fewer than 2^62 bytes.

@@ -1,8 +1,9 @@
 //! An object's own files: its declaration, its inventory and the sidecars. They are read for its
-//! head with its table, or for the table alone; a file of the storage root is read in the same way.
+//! head with its table, or for the table alone; a file of the storage root, and the sidecars in a
+//! version directory, are read in the same way.
 ghost use Rattle.std.specs.Prelude.{◌≡◌, ◌∷◌, ◌++◌, [], true, false, IfOk, IfSome, None, option_map};
 ghost use Rattle.std.specs.Prelude.{MatchOption, MatchResult, OnOk, not};
-ghost use Rattle.ocfl_tree.specs.{StorageRoot.{file_at}, Listing.{IsListing, kind_in}};
+ghost use Rattle.ocfl_tree.specs.{StorageRoot.{file_at}, Listing.{IsListing, kind_at, kind_in}};
 ghost use Rattle.ocfl_tree.specs.Store.{IfTold};
 ghost use Rattle.ocfl_inventory.specs.Note.{plain};
 ghost use Rattle.ocfl_inventory.specs.Declaration.{declaration_name as declaration_name_of};
@@ -15,9 +16,10 @@ ghost use Rattle.ocfl_rules.specs.Head.{sidecar_name as sidecar_name_of};
 ghost use Rattle.ocfl_rules.specs.{Inventories.{Further}, Trail.{is_meta}};
 ghost use Rattle.ocfl_rules.specs.Zone.{inside, inventory_name, object_declared, table_at, zone};
 ghost use Rattle.ocfl_item.specs.HeadFiles.{FilesStop, OpensJust, ReadsFiles};
-ghost use Rattle.ocfl_item.specs.Internal.HeadFiles.{IsFileAt, ReadsFile, head_files};
+ghost use Rattle.ocfl_item.specs.Internal.HeadFiles.{HaveSidecars, IsFileAt, ReadsFile};
+ghost use Rattle.ocfl_item.specs.Internal.HeadFiles.{head_files};
 ghost use Rattle.ocfl_item.specs.Internal.HeadFiles.{inventory_files, table_in};
-ghost use Rattle.ocfl_item.specs.{Internal.Lines.{Adds}, Root.{root_in, root_view}};
+ghost use Rattle.ocfl_item.specs.{Internal.Lines.{Adds}, Root.{root_at, root_by, root_in, root_view}};
 ghost use Rattle.ocfl_item.specs.Ways.{IsObject};
 ghost use Rattle.ocfl_item.specs.Internal.Ways.{IsDeclared, IsHeadOf, IsListedObject, is_file_kind};
 
@@ -27,7 +29,7 @@ use crate::folder::{Folder, fault_at};
 use crate::head_lines::{Sidecars, add_clean, add_declaration, add_inventory};
 use crate::lines::PlaceLines;
 use crate::names::{INVENTORY_NAME, sidecar_name};
-use crate::root::{RootInventory, add_root_note};
+use crate::root::{RootInventory, add_root_note, root_of};
 use ocfl_digest::{Algorithm, Bounded, read_bounded};
 use ocfl_inventory::{
     Declared, Level, SIDE_LIMIT, Table, Version, declaration_name, read_inventory,
@@ -56,20 +58,47 @@ fn file_named<'f>(entries: &'f [Entry], name: &str) -> Option<&'f Name>
     None
 }
 
-/// The place of the file of this name, if one is listed.
-fn place_of_file(folder: &Folder, name: &str) -> Result<Option<Place>, AllocError>
-    ensures { IfOk result (λ o. MatchOption o
-        (is_file_kind (kind_in folder.now.entries.items name.now) ≡ false)
-        (λ place. (place ≡ folder.now.place ++ name.now ∷ [])
-        × (is_file_kind (kind_in folder.now.entries.items name.now) ≡ true))) }
+/// The place of the file of this name, if it is among some entries of a directory.
+fn place_of_file(
+    directory: &Place,
+    entries: &[Entry],
+    name: &str,
+) -> Result<Option<Place>, AllocError>
+    ensures { IfOk result (λ o. MatchOption o (is_file_kind (kind_in entries.now name.now) ≡ false)
+        (λ place. (place ≡ directory.now ++ name.now ∷ [])
+        × (is_file_kind (kind_in entries.now name.now) ≡ true))) }
 {
-    let Some(name) = file_named(&folder.entries, name) else {
+    let Some(name) = file_named(entries, name) else {
         return Ok(None);
     };
-    Ok(Some(folder.place.child(name)?))
+    Ok(Some(directory.child(name)?))
 }
 
-/// What a file of a directory holds within a limit, if it is there.
+/// What a file of a directory holds within a limit, if it is among some of its entries.
+fn read_among<T: Tree>(
+    alloc: Global,
+    store: &mut T,
+    directory: &Place,
+    entries: &[Entry],
+    name: &str,
+    limit: usize,
+) -> Result<Option<Bounded>, Fault>
+    ensures told { IfTold T.told (T.state store.old) (λ root.
+        (further : Further) → kind_in entries.now name.now ≡ kind_at root directory.now name.now
+        → is_meta further root (directory.now ++ name.now ∷ []) ≡ true
+        → ReadsFile further root (T.state store.old) (T.state store.new) directory.now name.now limit
+        result) }
+{
+    let Some(place) = place_of_file(directory, entries, name)? else {
+        return Ok(None);
+    };
+    match read_bounded(alloc, store, &place, limit) {
+        Ok(file) => Ok(Some(file)),
+        Err(trouble) => Err(fault_at(place, trouble)),
+    }
+}
+
+/// What a file of a directory that was listed holds within a limit, if it is there.
 pub(crate) fn read_file<T: Tree>(
     store: &mut T,
     folder: &Folder,
@@ -82,16 +111,53 @@ pub(crate) fn read_file<T: Tree>(
         → ReadsFile further root (T.state store.old) (T.state store.new) folder.now.place name.now limit
         result) }
 {
-    let Some(place) = place_of_file(folder, name)? else {
-        return Ok(None);
-    };
-    match read_bounded(folder.alloc(), store, &place, limit) {
-        Ok(file) => Ok(Some(file)),
-        Err(trouble) => Err(fault_at(place, trouble)),
-    }
+    read_among(
+        folder.alloc(),
+        store,
+        &folder.place,
+        &folder.entries,
+        name,
+        limit,
+    )
 }
 
-/// What the sidecars hold that are there.
+/// What the sidecars of a directory hold that are among some of its entries.
+pub(crate) fn sidecars_among<T: Tree>(
+    alloc: Global,
+    store: &mut T,
+    directory: &Place,
+    entries: &[Entry],
+) -> Result<Sidecars, Fault>
+    ensures told { IfTold T.told (T.state store.old) (λ root.
+        (further : Further) → HaveSidecars further root directory.now entries.now
+        → MatchResult result
+        (λ sidecars. ReadsFiles further root (T.state store.old) (T.state store.new) directory.now
+        (sidecar_name_of Sha256 ∷ sidecar_name_of Sha512 ∷ [])
+        × IsFileAt root (directory.now ++ sidecar_name_of Sha256 ∷ []) side_limit sidecars.short
+        × IsFileAt root (directory.now ++ sidecar_name_of Sha512 ∷ []) side_limit sidecars.long)
+        (λ why. FilesStop further root (T.state store.old) (T.state store.new) directory.now
+        (sidecar_name_of Sha256 ∷ sidecar_name_of Sha512 ∷ []) why)) }
+{
+    let short = read_among(
+        alloc,
+        store,
+        directory,
+        entries,
+        sidecar_name(Algorithm::Sha256),
+        SIDE_LIMIT,
+    )?;
+    let long = read_among(
+        alloc,
+        store,
+        directory,
+        entries,
+        sidecar_name(Algorithm::Sha512),
+        SIDE_LIMIT,
+    )?;
+    Ok(Sidecars { short, long })
+}
+
+/// What the sidecars of an object hold that are there.
 fn read_sidecars<T: Tree>(store: &mut T, folder: &Folder) -> Result<Sidecars, Fault>
     ensures told { IfTold T.told (T.state store.old) (λ root.
         (further : Further) → IsListedObject root folder.now.place folder.now.entries.items
@@ -103,9 +169,7 @@ fn read_sidecars<T: Tree>(store: &mut T, folder: &Folder) -> Result<Sidecars, Fa
         (λ why. FilesStop further root (T.state store.old) (T.state store.new) folder.now.place
         (sidecar_name_of Sha256 ∷ sidecar_name_of Sha512 ∷ []) why)) }
 {
-    let short = read_file(store, folder, sidecar_name(Algorithm::Sha256), SIDE_LIMIT)?;
-    let long = read_file(store, folder, sidecar_name(Algorithm::Sha512), SIDE_LIMIT)?;
-    Ok(Sidecars { short, long })
+    sidecars_among(folder.alloc(), store, &folder.place, &folder.entries)
 }
 
 /// Appends the lines of an object's inventory and its sidecars, and gives its table, and what it is
@@ -208,34 +272,44 @@ pub(crate) fn head_lines<T: Tree>(
     Ok((lines, table, root))
 }
 
-/// The table of an inventory, if nothing stops.
-fn read_table(alloc: Global, bytes: &[u8]) -> Result<Option<Table>, AllocError>
-    ensures table { IfOk result (λ o. o ≡ table_of bytes.now) }
-    ensures fit { IfOk result (λ o. IfSome o (λ t. IsFit t)) }
+/// The table of an inventory, if nothing stops, and what it is if that is asked for.
+fn read_table(
+    alloc: Global,
+    further: Option<NewCodes>,
+    bytes: &[u8],
+) -> Result<(Option<Table>, Option<RootInventory>), AllocError>
+    ensures table { IfOk result (λ read. read.0 ≡ table_of bytes.now) }
+    ensures root { IfOk result (λ read. option_map root_view read.1
+        ≡ root_by further bytes.now (table_of bytes.now)) }
+    ensures fit { IfOk result (λ read. IfSome read.0 (λ t. IsFit t)) }
 {
     let read = read_inventory(alloc, bytes)?;
-    Ok(read.table)
+    let head = read.head;
+    let root = root_of(alloc, further, bytes, &read.table, head)?;
+    Ok((read.table, root))
 }
 
-/// The table of an object, if its head does not stop. No file but the inventory is opened for
-/// it.
+/// The table of an object, if its head does not stop, and what its root inventory is if that is
+/// asked for. No file but the inventory is opened for them.
 pub fn table_of_object<T: Tree>(
     alloc: Global,
     store: &mut T,
+    further: Option<NewCodes>,
     folder: &Folder,
-) -> Result<Option<Table>, Fault>
+) -> Result<(Option<Table>, Option<RootInventory>), Fault>
     ensures told { IfTold T.told (T.state store.old) (λ root.
         IsObject root folder.now.place folder.now.entries.items
-        → IfOk result (λ table. table ≡ table_at root folder.now.place)) }
+        → IfOk result (λ read. (read.0 ≡ table_at root folder.now.place)
+        × (option_map root_view read.1 ≡ root_at further root folder.now.place))) }
     ensures opened { IfTold T.told (T.state store.old) (λ root.
-        (further : Further) → IsObject root folder.now.place folder.now.entries.items
+        IsObject root folder.now.place folder.now.entries.items
         → OpensJust further root (T.state store.old) (T.state store.new) folder.now.place
         (inventory_name ∷ []) result) }
-    ensures fit { IfOk result (λ o. IfSome o (λ t. IsFit t)) }
+    ensures fit { IfOk result (λ read. IfSome read.0 (λ t. IsFit t)) }
 {
     match read_file(store, folder, INVENTORY_NAME, INVENTORY_LIMIT)? {
-        Some(Bounded::Whole(bytes)) => Ok(read_table(alloc, &bytes)?),
-        Some(Bounded::Over) => Ok(None),
-        None => Ok(None),
+        Some(Bounded::Whole(bytes)) => Ok(read_table(alloc, further, &bytes)?),
+        Some(Bounded::Over) => Ok((None, None)),
+        None => Ok((None, None)),
     }
 }

@@ -94,18 +94,18 @@ module _ {root : StorageRoot} {d : Place} {es : List Entry} {ps qs : List Pile} 
   seen_here : seen_names root d ≡ names_in root d
   seen_here = ap (λ b. cond b (names_in root d) []) at.reached
 
-  part_table : (a : Option Around) → IsPart root d a → IsTableAround root d a
+  part_table : (a : Option Around) → IsPart None root d a → IsTableAround None root d a
   part_table None z = λ o s e. absurd (let two : hierarchy ≡ inside o s = sym z ∙ e in cc)
   part_table (Some b) p = p
 
-  pub brought_end : (q : Place) (a : Option Around) → length q ≡ 0 → names_of left ≡ names_in root d → AreEntries root d left → IsPart root d a → IsBrought root d q ps qs a
+  pub brought_end : (q : Place) (a : Option Around) → length q ≡ 0 → names_of left ≡ names_in root d → AreEntries root d left → IsPart None root d a → IsBrought root d q ps qs a
   brought_end q a none names are part =
       let e : frames_of qs ≡ (d, seen_names root d) ∷ frames_of ps = ap frames_of top ∙ ap (λ ns. (d, ns) ∷ frames_of ps) (names ∙ sym seen_here) in
       subst (λ x. IsBrought root d x ps qs a) (sym (nil_from_length q none)) (record {
         stack = ap (seen_left (seen_places root)) e;
         listed = λ h. subst (IsListed root) (sym e) ((λ m i. i), h);
         entries = λ h. subst (HaveEntries root) (sym top) (are, h);
-        table = subst (λ x. IsTableAround root x a) (sym (append-nil d)) (part_table a part);
+        table = subst (λ x. IsTableAround None root x a) (sym (append-nil d)) (part_table a part);
       })
 
   module _ (n : Text) (whole : List Entry) (left_is : left ≡ left_above n whole) (names : names_of whole ≡ names_in root d) (are : AreEntries root d whole) where
@@ -125,7 +125,7 @@ module _ {root : StorageRoot} {d : Place} {es : List Entry} {ps qs : List Pile} 
       stack = h.stack ∙ ap (λ fr. seen_left (seen_places root) (listed_at root (d ++ n ∷ []) r fr)) frames_are;
       listed = λ k. h.listed (listed_left k);
       entries = λ k. h.entries (entries_left k);
-      table = subst (λ x. IsTableAround root x a) (append_one d r n) h.table;
+      table = subst (λ x. IsTableAround None root x a) (append_one d r n) h.table;
     }
 
     brought_stop : (r : Place) (a : Option Around) → IsShut root d n r a → IsBrought root d (n ∷ r) ps qs a

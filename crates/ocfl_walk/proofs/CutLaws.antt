@@ -306,8 +306,8 @@ module _ (root : StorageRoot) (d : Place) (n : Text) (q : Place) (j : IsJustBefo
 
 -- ---- the object around, one name further
 
-pub table_next : (root : StorageRoot) (d : Place) (n : Text) (a : Option Around) → IsTableAround root d a → seen root (d ++ n ∷ []) ≡ None → IsTableAround root (d ++ n ∷ []) a
-table_next root d n (Some b) h unseen = (h.0 ++ n ∷ [], inside_step root d b.place h.0 n h.1, h.2)
+pub table_next : (root : StorageRoot) (d : Place) (n : Text) (a : Option Around) → IsTableAround None root d a → seen root (d ++ n ∷ []) ≡ None → IsTableAround None root (d ++ n ∷ []) a
+table_next root d n (Some b) h unseen = (h.0 ++ n ∷ [], inside_step root d b.place h.0 n h.1, h.2, h.3)
 table_next root d n None h unseen = within
   where
     within : (o s : Place) → zone root (d ++ n ∷ []) ≡ inside o s → table_at root o ≡ None

@@ -1,5 +1,5 @@
 -- What was done on the way down to a place, and where that leads.
-use Rattle.std.proofs.Common.{true, false, Bool, filter, ◌≡◌, ◌≤◌, inl, inr, ℕ, List, [], ◌∷◌, ◌++◌, refl, sym, ◌∙◌, ap, subst, Some, None, arith, length, append_assoc}
+use Rattle.std.proofs.Common.{true, false, Bool, filter, ◌≡◌, ◌≤◌, inl, inr, ℕ, List, [], ◌∷◌, ◌++◌, refl, sym, ◌∙◌, ap, subst, Option, Some, None, arith, length, append_assoc}
 use Rattle.std.proofs.lemmas.List.{append-nil, length-append}
 use Rattle.std.specs.Prelude.{Ok, Err, cond}
 use Rattle.ocfl_tree.specs.{Place.{Place, text_eq}, Ascending.{IsAmong}, StorageRoot.{StorageRoot}}
@@ -11,6 +11,7 @@ use Rattle.ocfl_rules.specs.{Head.{on}, Trail.{heads_of, inventory_of, reads_inv
 use Rattle.ocfl_item.specs.{Looking.{IsFront, failures_by}, Ways.{AreInventories, Stops}}
 use Rattle.ocfl_item.specs.{Internal.Ways.{Opens, ReadsTable}, Around.{IsTableAround}}
 use Rattle.ocfl_item.specs.{Auditing.{LiesIn, LieIn}, declared.fault.Fault.{Fault}}
+use Rattle.ocfl_item.specs.declared.root.RootInventory.{RootInventory as MadeRoot}
 use Rattle.ocfl_walk.specs.Internal.Entering.{AreReached, Calls, NamesFailed, Descends, DescendFails, OpensIn, Opens as Opened}
 use Rattle.ocfl_rules.proofs.{AuditExists.{zone_is}, Trails.{content_behind, filter_append}}
 use Rattle.ocfl_item.proofs.AuditingLaws.{failed_behind, front_of_none, near_none, near_on, read_behind, heads_append}
@@ -238,17 +239,18 @@ module _ (root : StorageRoot) where
         };
       }
 
-  pub opened_none : (s t : Store) (o : Place) → ReadsTable None root s t o (Ok None) → Opened root s t o (Ok None)
-  opened_none s t o r = record { gives = (opens_read s t o r.gives.0 r.gives.2, sym r.gives.1) }
+  pub opened_none : (s t : Store) (o : Place) (table : Option Table) (x : Option MadeRoot) → ReadsTable None root s t o (Ok (table, x)) → table ≡ None → Opened root s t o (Ok None)
+  opened_none s t o table x r is = record { gives = (opens_read s t o r.gives.0 r.gives.2, sym r.gives.1 ∙ is) }
 
-  pub opened_memory : (s t : Store) (o : Place) (table : Table) → ReadsTable None root s t o (Ok (Some table)) → Opened root s t o (Err fault.Memory)
-  opened_memory s t o table r = record { gives = record { goes = opens_read s t o r.gives.0 r.gives.2; store = λ q e. absurd (memory_no_store q e) } }
+  pub opened_memory : (s t : Store) (o : Place) (table : Option Table) (x : Option MadeRoot) → ReadsTable None root s t o (Ok (table, x)) → Opened root s t o (Err fault.Memory)
+  opened_memory s t o table x r = record { gives = record { goes = opens_read s t o r.gives.0 r.gives.2; store = λ q e. absurd (memory_no_store q e) } }
 
-  pub opened_table : (s t : Store) (o p : Place) (table : Table) → ReadsTable None root s t o (Ok (Some table)) → p ≡ o → Opened root s t o (Ok (Some (record { place = p; table = table })))
-  opened_table s t o p table r e = record { gives = (opens_read s t o r.gives.0 r.gives.2, (e, sym r.gives.1)) }
+  pub opened_table : (s t : Store) (o p : Place) (given : Option Table) (x : Option MadeRoot) (table : Table) → ReadsTable None root s t o (Ok (given, x)) → given ≡ Some table → p ≡ o
+      → Opened root s t o (Ok (Some (record { place = p; table = table; root = x })))
+  opened_table s t o p given x table r is e = record { gives = (opens_read s t o r.gives.0 r.gives.2, (e, sym r.gives.1 ∙ is, r.gives.3)) }
 
   -- ---- what is shut
 
   -- if there is no object there is no table
-  pub plain_table : (p : Place) → is_plain (zone root p) ≡ true → IsTableAround root p None
+  pub plain_table : (p : Place) → is_plain (zone root p) ≡ true → IsTableAround None root p None
   plain_table p h o s z = absurd (true_not_false (sym h ∙ ap is_plain z))

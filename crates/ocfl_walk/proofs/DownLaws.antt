@@ -10,7 +10,7 @@ use Rattle.ocfl_rules.specs.{Walk.{is_reached}, Trail.{heads_of}}
 use Rattle.ocfl_item.specs.Ways.{Enters, Stops, way_below, is_listable, is_extensions_name, IsAt, IsObject}
 use Rattle.ocfl_item.specs.{Around.{IsPart, IsTableAround}, Looking.{IsFront, failures_by}}
 use Rattle.ocfl_item.specs.{declared.fault.Fault.{Fault}, declared.folder.Folder.{Folder}}
-use Rattle.ocfl_item.specs.declared.meeting.Around.{Around}
+use Rattle.ocfl_item.specs.{declared.meeting.Around.{Around}, Root.{root_at}}
 use Rattle.ocfl_walk.specs.Internal.Entering.{Descends, IsIn, IsShut, Leads, LeadsOn, Opens, OpensIn, may_open}
 use Rattle.ocfl_walk.specs.WalkCalls.{holder_of}
 use Rattle.ocfl_tree.proofs.Orders.{true_not_false}
@@ -55,34 +55,34 @@ module _ (root : StorageRoot) where
 
   -- ---- within an object
 
-  module _ (d : Place) (n : Text) (a : Around) (p : IsPart root d (Some a)) where
-    table_below : (r : Place) → IsTableAround root (d ++ n ∷ r) (Some a)
-    table_below r = (p.0 ++ n ∷ r, inside_on root d a.place p.0 (n ∷ r) p.1, p.2)
+  module _ (d : Place) (n : Text) (a : Around) (p : IsPart None root d (Some a)) where
+    table_below : (r : Place) → IsTableAround None root (d ++ n ∷ r) (Some a)
+    table_below r = (p.0 ++ n ∷ r, inside_on root d a.place p.0 (n ∷ r) p.1, p.2, p.3)
 
     zone_next : (on : Bool) → LeadsOn root d n (Some a) on → is_listed_zone root (zone root (d ++ n ∷ [])) ≡ on
     zone_next on h = ap (is_listed_zone root) (inside_step root d a.place p.0 n p.1) ∙ ap (λ x. is_listed_in_object x (p.0 ++ n ∷ [])) p.2 ∙ listed_step a.table p.0 n ∙ sym (h p.0 p.1 p.2)
 
-  pub in_object : (d : Place) (n : Text) (x : Option Around) (a : Around) → x ≡ Some a → IsPart root d x → LeadsOn root d n x true
+  pub in_object : (d : Place) (n : Text) (x : Option Around) (a : Around) → x ≡ Some a → IsPart None root d x → LeadsOn root d n x true
       → (old : List Entry) (s t : Store) (f : Folder) → IsAt root d old → Enters root s t (d ++ n ∷ []) f.place f.entries.items
       → IsIn root (d ++ n ∷ []) f x
   in_object d n None a is p on old s t f at k = absurd cc
   in_object d n (Some b) a is p on old s t f at k = record {
     place = k.is;
     here = record { listing = k.listing; reached = reach_on root d n at.reached (entered_from root (d ++ n ∷ []) k.listable (zone_next d n b p true on)) };
-    part = (p.0 ++ n ∷ [], inside_step root d b.place p.0 n p.1, p.2);
+    part = (p.0 ++ n ∷ [], inside_step root d b.place p.0 n p.1, p.2, p.3);
   }
 
   -- ---- what is shut
 
   -- if a name does not lead on
-  pub shut_off : (d : Place) (n : Text) (r : Place) (x : Option Around) → IsPart root d x → LeadsOn root d n x false → IsShut root d n r x
+  pub shut_off : (d : Place) (n : Text) (r : Place) (x : Option Around) → IsPart None root d x → LeadsOn root d n x false → IsShut root d n r x
   shut_off d n r None z h =
       let e : is_extensions_name d n ≡ true = not-false (is_extensions_name d n) (sym h) in
       shut_plain d n r (extensions_out d n e) (plain_extensions root d r n z e)
   shut_off d n r (Some a) p h = record { out = shut_out d n (out_of_zone root (d ++ n ∷ []) (zone_next d n a p false h)); table = table_below d n a p r }
 
   -- if no directory of it is listed
-  pub shut_unlisted : (d : Place) (n : Text) (r : Place) (x : Option Around) → IsPart root d x → is_listable root (d ++ n ∷ []) ≡ false → IsShut root d n r x
+  pub shut_unlisted : (d : Place) (n : Text) (r : Place) (x : Option Around) → IsPart None root d x → is_listable root (d ++ n ∷ []) ≡ false → IsShut root d n r x
   shut_unlisted d n r None z h = shut_plain d n r (not_entered root (d ++ n ∷ []) h) (plain_below root d r n z h)
   shut_unlisted d n r (Some a) p h = record { out = shut_out d n (not_entered root (d ++ n ∷ []) h); table = table_below d n a p r }
 
@@ -151,7 +151,7 @@ module _ (root : StorageRoot) where
         → Opens root t u (d ++ n ∷ []) (Ok (Some a)) → Leads root s u d n r None (Some a) (Ok (Some f))
     leads_object a f e is h =
         let open_ = open_object root (d ++ n ∷ []) f.entries.items a.table is h.gives.1.1 in
-        let part : IsPart root (d ++ n ∷ []) (Some a) = ([], z ∙ ap (λ x. inside x []) (sym h.gives.1.0), ap (table_at root) h.gives.1.0 ∙ h.gives.1.1) in
+        let part : IsPart None root (d ++ n ∷ []) (Some a) = ([], z ∙ ap (λ x. inside x []) (sym h.gives.1.0), ap (table_at root) h.gives.1.0 ∙ h.gives.1.1, h.gives.1.2 ∙ sym (ap (root_at None root) h.gives.1.0)) in
         record {
           gives = (
             record { goes = then 0 h.gives.0; all = λ x i k. subst (λ ls. IsAmong (((d ++ n ∷ []) ∷ ls) ++ rest) x) (sym h.gives.0.unlisted) i },

@@ -59,8 +59,8 @@ module _ (root : StorageRoot) where
       by false e j = absurd j
 
   -- which object holds the entry, if the directory is on the way to the last place
-  part_is : (last d : Place) (n : Text) (a : Option Around) → IsTableAround root last a → begins d last ≡ true → is_reached root d ≡ true
-      → place_cmp last (d ++ n ∷ []) ≡ Less → IsPart root d (still a (d ++ n ∷ []))
+  part_is : (last d : Place) (n : Text) (a : Option Around) → IsTableAround None root last a → begins d last ≡ true → is_reached root d ≡ true
+      → place_cmp last (d ++ n ∷ []) ≡ Less → IsPart None root d (still a (d ++ n ∷ []))
   part_is last d n a h b r l = by (zone root d) refl (reached_listed root d r)
     where
       x : Place
@@ -69,7 +69,7 @@ module _ (root : StorageRoot) where
       way : (w : Place) × (last ≡ d ++ w)
       way = begins_rest d last b
 
-      outside : (a : Option Around) → IsTableAround root last a → zone root d ≡ hierarchy → still a x ≡ None
+      outside : (a : Option Around) → IsTableAround None root last a → zone root d ≡ hierarchy → still a x ≡ None
       outside None k e = refl
       outside (Some o) k e = go (begins o.place x) refl
         where
@@ -90,7 +90,7 @@ module _ (root : StorageRoot) where
           go false f = refl
 
       within : (o q : Place) (table : Option Table) → zone root d ≡ inside o q → table_at root o ≡ table → is_listed_in_object table q ≡ true
-          → (a : Option Around) → IsTableAround root last a → IsPart root d (still a x)
+          → (a : Option Around) → IsTableAround None root last a → IsPart None root d (still a x)
       within o q None e f g a k = absurd (true_not_false (sym g))
       within o q (Some t) e f g None k =
           let z : zone root last ≡ inside o (q ++ way.0) = ap (zone root) way.1 ∙ inside_on root d o q way.0 e in
@@ -101,15 +101,15 @@ module _ (root : StorageRoot) where
           let whole : d ≡ o ++ q = (zone_is root d o q e).whole in
           let begun : begins c.place x ≡ true = subst (λ y. begins y x ≡ true) same
           (subst (λ y. begins o y ≡ true) (sym (ap (λ y. y ++ n ∷ []) whole ∙ append_assoc o q (n ∷ []))) (begins_front o (q ++ n ∷ []))) in
-          subst (IsPart root d) (sym (ap (λ y. cond y (Some c) None) begun)) (q, subst (λ y. zone root d ≡ inside y q) same e, k.2)
+          subst (IsPart None root d) (sym (ap (λ y. cond y (Some c) None) begun)) (q, subst (λ y. zone root d ≡ inside y q) same e, k.2, k.3)
 
-      by : (z : Zone) → zone root d ≡ z → is_listed_zone root z ≡ true → IsPart root d (still a x)
+      by : (z : Zone) → zone root d ≡ z → is_listed_zone root z ≡ true → IsPart None root d (still a x)
       by skipped e g = absurd (true_not_false (sym g))
-      by hierarchy e g = subst (IsPart root d) (sym (outside a h e)) e
+      by hierarchy e g = subst (IsPart None root d) (sym (outside a h e)) e
       by (inside o q) e g = within o q (table_at root o) e refl g a h
 
   pub entry_met : (last : Place) (ps new : List Pile) (entry : Entry) (x : Place) (a : Option Around) → IsOrderly last ps a → IsHeld root last ps a
-      → (t : IsTaken ps new entry) → x ≡ t.place ++ entry.name ∷ [] → IsMet root t.place (still a x) entry x
+      → (t : IsTaken ps new entry) → x ≡ t.place ++ entry.name ∷ [] → IsMet None root t.place (still a x) entry x
   entry_met last ps new entry x a o h t e =
       let listed : IsListed root (frames_of ((t.place, entry ∷ t.rest) ∷ t.others)) = subst (λ qs. IsListed root (frames_of qs)) t.old_is h.listed in
       let entries : HaveEntries root ((t.place, entry ∷ t.rest) ∷ t.others) = subst (HaveEntries root) t.old_is h.entries in
@@ -117,7 +117,7 @@ module _ (root : StorageRoot) where
       record {
         is = e;
         reached = reached;
-        part = subst (λ y. IsPart root t.place (still a y)) (sym e) (part_is last t.place entry.name a h.table (old_chain last ps new entry a o t).0 reached (entry_after last ps new entry a o t));
+        part = subst (λ y. IsPart None root t.place (still a y)) (sym e) (part_is last t.place entry.name a h.table (old_chain last ps new entry a o t).0 reached (entry_after last ps new entry a o t));
         kind = entries.0.0;
       }
 

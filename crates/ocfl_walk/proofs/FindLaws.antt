@@ -146,15 +146,15 @@ module _ (root : StorageRoot) where
 
   -- ---- at the last name
 
-  module _ (d e : Place) (n : Text) (a : Option Around) (is : e ≡ d ++ n ∷ []) (part : IsPart root d a) where
-    no_head : (b : Around) → IsPart root d (Some b) → is_head (zone root e) ≡ false
+  module _ (d e : Place) (n : Text) (a : Option Around) (is : e ≡ d ++ n ∷ []) (part : IsPart None root d a) where
+    no_head : (b : Around) → IsPart None root d (Some b) → is_head (zone root e) ≡ false
     no_head b p = ap (λ x. is_head (zone root x)) is ∙ ap is_head (inside_step root d b.place p.0 n p.1) ∙ by p.0
       where
         by : (s : Place) → is_head (inside b.place (s ++ n ∷ [])) ≡ false
         by [] = refl
         by (m ∷ s) = refl
 
-    own_inventory : (x : Option Around) → IsPart root d x → is_head (zone root e) ≡ true → may_open x (zone root e) ≡ e ∷ []
+    own_inventory : (x : Option Around) → IsPart None root d x → is_head (zone root e) ≡ true → may_open x (zone root e) ≡ e ∷ []
     own_inventory None p h = ap holder_of (head_zone root e h)
     own_inventory (Some b) p h = absurd (true_not_false (sym h ∙ no_head b p))
 
@@ -238,8 +238,8 @@ module _ (root : StorageRoot) where
     shut_finds s t h = finds_come s t (way_below d (n ∷ r)) (may_open old (zone root p)) [] few_old
         (subst (λ x. Comes root s t (way_below d (n ∷ r)) [] (may_open old (zone root x)) []) (sym is) h.gives.0)
 
-    pub shut_table : (s t : Store) → Leads root s t d n r old new (Ok None) → IsTableAround root p new
-    shut_table s t h = subst (λ x. IsTableAround root x new) (sym is) h.gives.1.table
+    pub shut_table : (s t : Store) → Leads root s t d n r old new (Ok None) → IsTableAround None root p new
+    shut_table s t h = subst (λ x. IsTableAround None root x new) (sym is) h.gives.1.table
 
     pub shut_unseen : (s t : Store) (m : Text) (q : Place) → r ≡ m ∷ q → Leads root s t d n r old new (Ok None) → seen root p ≡ None
     shut_unseen s t m q e h =
@@ -247,8 +247,8 @@ module _ (root : StorageRoot) where
 
   -- ---- an entry that is there, or not
 
-  listed_met : (d e : Place) (n : Text) (es : List Entry) (a : Option Around) (entry : Entry) → IsAt root d es → IsPart root d a → e ≡ d ++ n ∷ []
-      → entry.name ≡ n → kind_in es n ≡ Some entry.kind → IsMet root d a entry e
+  listed_met : (d e : Place) (n : Text) (es : List Entry) (a : Option Around) (entry : Entry) → IsAt root d es → IsPart None root d a → e ≡ d ++ n ∷ []
+      → entry.name ≡ n → kind_in es n ≡ Some entry.kind → IsMet None root d a entry e
   listed_met d e n es a entry at part is name there = record {
     is = is ∙ ap (λ x. d ++ x ∷ []) (sym name);
     reached = at.reached;
@@ -257,11 +257,11 @@ module _ (root : StorageRoot) where
   }
 
   pub visits_listed : (d e x : Place) (n : Text) (es given : List Entry) (a : Option Around) (entry : Entry) (s t : Store) (r : Result Visit Fault)
-      → IsAt root d es → IsPart root d a → e ≡ d ++ n ∷ [] → x ≡ e → given ≡ es → entry.name ≡ n → kind_in given n ≡ Some entry.kind
-      → ((c : Place) → IsMet root c a entry x → Visits None root s t x r) → Visits None root s t e r
+      → IsAt root d es → IsPart None root d a → e ≡ d ++ n ∷ [] → x ≡ e → given ≡ es → entry.name ≡ n → kind_in given n ≡ Some entry.kind
+      → ((c : Place) → IsMet None root c a entry x → Visits None root s t x r) → Visits None root s t e r
   visits_listed d e x n es given a entry s t r at part is place same name there told =
       let met = listed_met d e n es a entry at part is name (subst (λ ys. kind_in ys n ≡ Some entry.kind) same there) in
-      subst (λ y. Visits None root s t y r) place (told d (subst (IsMet root d a entry) (sym place) met))
+      subst (λ y. Visits None root s t y r) place (told d (subst (IsMet None root d a entry) (sym place) met))
 
   module _ (d e : Place) (n : Text) (es : List Entry) (at : IsAt root d es) (is : e ≡ d ++ n ∷ []) (none : kind_in es n ≡ None) where
     pub missing_unseen : seen root e ≡ None
@@ -270,9 +270,9 @@ module _ (root : StorageRoot) where
     pub missing_out : is_reached root e ≡ false
     missing_out = false_from_ne_true (is_reached root e) (λ h. some_not_none dir (sym missing_unseen ∙ seen_reached root e h))
 
-    pub missing_table : (a : Option Around) → IsPart root d a → IsTableAround root e a
+    pub missing_table : (a : Option Around) → IsPart None root d a → IsTableAround None root e a
     missing_table None z = λ o s h.
         let own = own_head root d n z o s (sym (ap (zone root) is) ∙ h) in
         let same : o ≡ e = own.0 ∙ sym is in
         absurd (some_not_none dir (sym missing_unseen ∙ ap (seen root) (sym same) ∙ head_seen root (is_closed root) e o s h))
-    missing_table (Some b) p = (p.0 ++ n ∷ [], ap (zone root) is ∙ inside_step root d b.place p.0 n p.1, p.2)
+    missing_table (Some b) p = (p.0 ++ n ∷ [], ap (zone root) is ∙ inside_step root d b.place p.0 n p.1, p.2, p.3)

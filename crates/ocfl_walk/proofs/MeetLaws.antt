@@ -1,6 +1,6 @@
 -- What is met at an entry, with the object that holds it.
 use Rattle.std.proofs.Common.{◌≡◌, [], ◌∷◌, ◌++◌, sym, ◌∙◌, ap, true, false, Bool, Option, Some, None, ◌≤◌, length}
-use Rattle.std.specs.Prelude.{cond, IfSome}
+use Rattle.std.specs.Prelude.{cond, IfSome, option_map}
 use Rattle.ocfl_tree.specs.{Place.{Place, Text}, StorageRoot.{StorageRoot}}
 use Rattle.ocfl_tree.specs.{declared.store.Entry.{Entry}, Listing.{IsOrdinary}}
 use Rattle.ocfl_tree.proofs.Places.{begins-itself}
@@ -10,6 +10,7 @@ use Rattle.ocfl_rules.specs.Zone.{skipped, hierarchy, inside, zone, table_at, ob
 use Rattle.ocfl_rules.specs.Walk.{is_extensions, step_zone}
 use Rattle.ocfl_item.specs.{declared.folder.Folder.{Folder}, Around.{IsMet, IsTableAround}}
 use Rattle.ocfl_item.specs.{Meeting.{IsFairFolder, IsTableAt}, declared.meeting.Around.{Around}}
+use Rattle.ocfl_item.specs.{declared.root.RootInventory.{RootInventory}, Root.{root_at, root_view}}
 use Rattle.ocfl_walk.specs.Internal.Standing.{IsAroundIf, around_of}
 use Rattle.ocfl_item.proofs.LooksZones.{inside_on}
 use Rattle.ocfl_rules.proofs.StepLaws.{zone_step}
@@ -24,19 +25,20 @@ own_head root d n h o s e = by (is_extensions root d n) (is_declared (object_dec
     by false true f = (cc, cc)
     by false false f = absurd cc
 
-pub table_met : (root : StorageRoot) (d x : Place) (entry : Entry) (a : Option Around) (table : Option Table) → IsMet root d a entry x → IsTableAt root x table
-    → IsTableAround root x (around_of a x table)
-table_met root d x entry a (Some t) m h = ([], h.0, h.1)
-table_met root d x entry None None m h = λ o s e.
+pub table_met : (root : StorageRoot) (d x : Place) (entry : Entry) (a : Option Around) (table : Option Table) (r : Option RootInventory) → IsMet None root d a entry x → IsTableAt root x table
+    → IfSome table (λ _. option_map root_view r ≡ root_at None root x) → IsTableAround None root x (around_of a x table r)
+table_met root d x entry a (Some t) r m h k = ([], h.0, h.1, k)
+table_met root d x entry None None r m h k = λ o s e.
     let own = own_head root d entry.name m.part o s (sym (ap (zone root) m.is) ∙ e) in
     let same : o ≡ x = own.0 ∙ sym m.is in
     let head : is_head (zone root x) ≡ true = ap is_head (e ∙ ap (inside o) own.1) in
     ap (table_at root) same ∙ h head
-table_met root d x entry (Some b) None m h = (m.part.0 ++ entry.name ∷ [], ap (zone root) m.is ∙ inside_on root d b.place m.part.0 (entry.name ∷ []) m.part.1, m.part.2)
+table_met root d x entry (Some b) None r m h k = (m.part.0 ++ entry.name ∷ [], ap (zone root) m.is ∙ inside_on root d b.place m.part.0 (entry.name ∷ []) m.part.1, m.part.2, m.part.3)
 
-pub around_fair : (x : Place) (a : Option Around) (table : Option Table) → IsAroundIf x a → IfSome table (λ t. IsFit t × (length x ≤ max_listed_depth)) → IsAroundIf x (around_of a x table)
-around_fair x a None h k = h
-around_fair x a (Some t) h k = record { holds = begins-itself x; depth = k.1; fit = k.0 }
+pub around_fair : (x : Place) (a : Option Around) (table : Option Table) (r : Option RootInventory) → IsAroundIf x a → IfSome table (λ t. IsFit t × (length x ≤ max_listed_depth))
+    → IsAroundIf x (around_of a x table r)
+around_fair x a None r h k = h
+around_fair x a (Some t) r h k = record { holds = begins-itself x; depth = k.1; fit = k.0 }
 
 pub ordinary : (root : StorageRoot) (x : Place) (f : Option Folder) → IfSome f (λ g. IsFairFolder x g) → IfSome f (λ g. IsOrdinary g.entries.items)
 ordinary root x None h = h

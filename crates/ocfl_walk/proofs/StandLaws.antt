@@ -33,7 +33,7 @@ after_on (Some a) x y h k = place_cmp_total.trans a x y h k
 module _ (root : StorageRoot) where
   -- with the listing of x on top if it is entered
   pub stands_top : (x : Place) (f : Option Folder) (ps : List Pile) (a : Option Around) → IsStack root x ((x, seen_names root x) ∷ frames_of ps) → IsListed root (frames_of ps) → HaveEntries root ps
-      → IsPileAt root x f → IsTableAround root x a → IsStanding root x (pushed f ps) a
+      → IsPileAt root x f → IsTableAround None root x a → IsStanding root x (pushed f ps) a
   stands_top x None ps a stack listed entries e z = record { stack = subst (λ ns. IsStack root x ((x, ns) ∷ frames_of ps)) e stack; listed = listed; entries = entries; table = z }
   stands_top x (Some g) ps a stack listed entries e z = record {
     stack = subst (λ d. IsStack root x ((d, left_names g) ∷ frames_of ps)) (sym e.0) (subst (λ ns. IsStack root x ((x, ns) ∷ frames_of ps)) (sym e.1) stack);
@@ -44,7 +44,7 @@ module _ (root : StorageRoot) where
 
   -- at an entry
   pub entry_stands : (last x : Place) (ps new : List Pile) (entry : Entry) (f : Option Folder) (a a' : Option Around) → HaveEntries root ps → IsTurn root last x ((x, seen_names root x) ∷ popped ps)
-      → IsTaken ps new entry → IsPileAt root x f → IsTableAround root x a' → IsStanding root x (pushed f new) a'
+      → IsTaken ps new entry → IsPileAt root x f → IsTableAround None root x a' → IsStanding root x (pushed f new) a'
   entry_stands last x ps new entry f a a' h t k m z =
       let left : popped ps ≡ frames_of new = ap popped k.old_is ∙ sym (ap frames_of k.new_is) in
       let listed : IsListed root (frames_of new) = subst (IsListed root) left t.listed.1 in
@@ -62,9 +62,9 @@ module _ (root : StorageRoot) where
       of a None e = absurd cc
       of a (Some q) e = (q, cc)
 
-      by : (a : Option Around) → IsTableAround root last a → path_from last a ≡ Some b → IsTableAround root b a
+      by : (a : Option Around) → IsTableAround None root last a → path_from last a ≡ Some b → IsTableAround None root b a
       by None z e = absurd cc
-      by (Some a) z e = let w = of a _ e in (w.0, ap (zone root) w.1 ∙ object_zone a.place z.0 w.0 last z.1, z.2)
+      by (Some a) z e = let w = of a _ e in (w.0, ap (zone root) w.1 ∙ object_zone a.place z.0 w.0 last z.1, z.2, z.3)
 
 -- ---- steps, one after the other
 

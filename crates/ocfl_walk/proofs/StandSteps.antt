@@ -94,10 +94,10 @@ module _ (old : Stand) (entry : Entry) (x : Place) (mid : Listings) (orderly : I
     entry_around = subst (λ y. IsAroundIf x (still y x)) (sym same) (still_around (spot_of old.last) x old.around there.1.object)
 
     pub entry_is_met : (root : StorageRoot) (l : Place) → old.last ≡ Some l → IsHeld root l (piles_in old.last old.listings.items) old.around
-        → IsMet root (taken (spot_of old.last)).place (still a x) entry x
+        → IsMet None root (taken (spot_of old.last)).place (still a x) entry x
     entry_is_met root l e st =
         let o = subst (λ y. IsOrderlyIf y (piles_in old.last old.listings.items) old.around) e orderly in
-        subst (λ y. IsMet root (taken (spot_of old.last)).place (still y x) entry x) (sym same)
+        subst (λ y. IsMet None root (taken (spot_of old.last)).place (still y x) entry x) (sym same)
         (entry_met root l (piles_in old.last old.listings.items) (piles_in old.last mid.items) entry x old.around o st (taken (spot_of old.last)) own)
 
   module _ (count : length mid.items ≡ length old.listings.items) (m : Met) (fair : IsFairMet x m) where

@@ -90,7 +90,7 @@ least_first s (p ∷ q ∷ ps) h = let k = ascending_from q ps h.1 in by k.0 k.1
 next_same : (t : Table) (s : Place) → IsAscending triple_cmp t.triples → least_path s (paths_of t) ≡ table.next_path t (Some s)
 next_same t s h = least_first s (paths_of t) (rises_triples t.triples h) ∙ sym (find_first (above s) (paths_of t))
 
-pub path_same : (root : StorageRoot) (last : Place) (a : Option Around) → IsTableAround root last a → IsFitIf a → next_path root last ≡ path_from last a
+pub path_same : (root : StorageRoot) (last : Place) (a : Option Around) → IsTableAround None root last a → IsFitIf a → next_path root last ≡ path_from last a
 path_same root last None h fit = by (zone root last) refl
   where
     none : (o s : Place) → (table : Option Table) → table ≡ None → next_path_of o s table ≡ None
@@ -168,7 +168,7 @@ module _ (root : StorageRoot) where
       by d (e ∷ es) (Some b) h = chosen d e es b (is_lt (place_cmp b (d ++ e.name ∷ [])))
 
   -- the turn that is chosen leads to the next place of the walk
-  pub turn_is : (last : Place) (ps : List Pile) (a : Option Around) → IsTableAround root last a → IsFitIf a
+  pub turn_is : (last : Place) (ps : List Pile) (a : Option Around) → IsTableAround None root last a → IsFitIf a
       → place_by root (trimmed ps) (turn_of (next_of (trimmed ps)) (path_from last a)) ≡ next_place root last (frames_of (trimmed ps))
   turn_is last ps a h fit =
       sym (ap (lesser (frames_of (trimmed ps)) (next_entry root (frames_of (trimmed ps)))) (path_same root last a h fit) ∙ turn_same ps (path_from last a))

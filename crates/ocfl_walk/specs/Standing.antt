@@ -92,7 +92,7 @@ pub record IsStanding (root : StorageRoot) (last : Place) (ps : List Pile) (arou
   pub stack : IsStack root last (frames_of ps)
   pub listed : IsListed root (frames_of ps)
   pub entries : HaveEntries root ps
-  pub table : IsTableAround root last around
+  pub table : IsTableAround None root last around
 
 -- the walk stands over this tree, with this last place
 abbrev pub StandsAt : StorageRoot → Stand → Option Place → Type 0

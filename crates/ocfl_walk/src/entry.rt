@@ -66,11 +66,12 @@ fn opened<T: Tree>(alloc: Global, store: &mut T, folder: &Folder) -> Result<Opti
         IsObject root folder.now.place folder.now.entries.items
         → Opens root (T.state store.old) (T.state store.new) folder.now.place result) }
 {
-    let Some(table) = table_of_object(alloc, store, folder)? else {
+    let (table, root) = table_of_object(alloc, store, None, folder)?;
+    let Some(table) = table else {
         return Ok(None);
     };
     let place = folder.place.try_clone()?;
-    Ok(Some(Around { place, table }))
+    Ok(Some(Around { place, table, root }))
 }
 
 /// What is below a directory of the storage hierarchy, or below an object, that was listed, if
@@ -133,7 +134,7 @@ pub(crate) fn down<T: Tree>(
     ensures fair { IfOk result (λ o. IsFairWay folder.now.place name.now object.old object.new o) }
     ensures told { IfTold T.told (T.state store.old) (λ root.
         IsAt root folder.now.place folder.now.entries.items
-        → IsPart root folder.now.place object.old → (r : Spot)
+        → IsPart None root folder.now.place object.old → (r : Spot)
         → Leads root (T.state store.old) (T.state store.new) folder.now.place name.now r object.old
         object.new result) }
 {
@@ -165,7 +166,7 @@ fn go_down<T: Tree>(
     ensures orderly { IfOk result (λ _. IsOrderly (folder.place ++ names.now)
         (piles_in stand.new.last stand.new.listings.items) stand.new.around) }
     ensures told { IfTold T.told (T.state store.old) (λ root.
-        IsAt root folder.place folder.entries.items → IsPart root folder.place stand.old.around
+        IsAt root folder.place folder.entries.items → IsPart None root folder.place stand.old.around
         → let may = may_open stand.old.around
         (zone root (folder.place ++ names.now)) in MatchResult result
         (λ _. Comes root (T.state store.old) (T.state store.new)

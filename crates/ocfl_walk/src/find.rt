@@ -35,13 +35,15 @@ fn item_in<T: Tree>(
 ) -> Result<Option<Pending>, Fault>
     ensures told { IfTold T.told (T.state store.old) (λ root.
         IsAt root folder.now.place folder.now.entries.items
-        → IsPart root folder.now.place around.now
+        → IsPart None root folder.now.place around.now
         → place.now ≡ folder.now.place ++ name.now ∷ []
         → FindsItem root (T.state store.old) (T.state store.new) (place.now ∷ [])
         (may_open around.now (zone root place.now)) place.now result) }
 {
     match entry_named(&folder.entries, name) {
-        Some(entry) => Ok(visit_entry(alloc, store, around, place.try_clone()?, entry)?.item),
+        Some(entry) => Ok(
+            visit_entry(alloc, store, None, around, place.try_clone()?, entry, &[])?.item,
+        ),
         None => Ok(visit_path(alloc, around, place)?),
     }
 }
@@ -58,7 +60,7 @@ pub(crate) fn find_below<T: Tree>(
 ) -> Result<Option<Pending>, Fault>
     requires { IsAroundIf folder.place around }
     ensures told { IfTold T.told (T.state store.old) (λ root.
-        IsAt root folder.place folder.entries.items → IsPart root folder.place around
+        IsAt root folder.place folder.entries.items → IsPart None root folder.place around
         → place.now ≡ folder.place ++ name.now ∷ rest.now
         → FindsItem root (T.state store.old) (T.state store.new)
         (way_below folder.place (name.now ∷ rest.now))

@@ -24,7 +24,9 @@ use crate::end::End;
 use crate::listing::{keep_from, sorted_if};
 use arrayvec::ArrayVec;
 use ocfl_inventory::Table;
-use ocfl_item::{Around, Fault, Folder, Pending, Visit, visit_base, visit_entry, visit_path};
+use ocfl_item::{
+    Around, Fault, Folder, Pending, RootInventory, Visit, visit_base, visit_entry, visit_path,
+};
 use ocfl_tree::{Entry, Name, Place, Tree, is_text};
 use std::alloc::{AllocError, Global};
 
@@ -272,33 +274,34 @@ fn around_at(
     around: Option<Around>,
     place: &Place,
     table: Option<Table>,
+    root: Option<RootInventory>,
 ) -> Result<Option<Around>, AllocError>
-    ensures { IfOk result (λ a. a ≡ around_of around place.now table) }
+    ensures { IfOk result (λ a. a ≡ around_of around place.now table root) }
 {
     let Some(table) = table else {
         return Ok(around);
     };
     let place = place.try_clone()?;
-    Ok(Some(Around { place, table }))
+    Ok(Some(Around { place, table, root }))
 }
 
 /// What was met by a visit, its listing in order, with the object that its place is in.
 fn met_by(around: Option<Around>, place: &Place, visit: Visit) -> Result<Met, AllocError>
     ensures fair { IsFairVisit place.now visit
-        → IsAroundIf place.now (around_of around place.now visit.table)
+        → IsAroundIf place.now (around_of around place.now visit.table visit.root)
         → IfOk result (λ m. IsFairMet place.now m) }
     ensures told { (root : StorageRoot) → IsFairVisit place.now visit
         → IsVisit None root place.now visit
-        → IsTableAround root place.now (around_of around place.now visit.table)
+        → IsTableAround None root place.now (around_of around place.now visit.table visit.root)
         → IfOk result (λ m. IsMeeting root place.now m) }
 {
     let Visit {
         item,
         folder,
         table,
-        ..
+        root,
     } = visit;
-    let around = around_at(around, place, table)?;
+    let around = around_at(around, place, table, root)?;
     let folder = sorted_if(folder);
     Ok(Met {
         item,
@@ -318,14 +321,14 @@ fn meet<T: Tree>(
     ensures fair { IsAroundIf place.now (still around place.now)
         → IfOk result (λ m. IsFairMet place.now m) }
     ensures told { IfTold T.told (T.state store.old) (λ root.
-        (d : Spot) → IsMet root d (still around place.now) entry.now place.now
+        (d : Spot) → IsMet None root d (still around place.now) entry.now place.now
         → MatchResult result
         (λ m. Meets None root (T.state store.old) (T.state store.new) place.now
         × IsMeeting root place.now m)
         (λ why. MeetFails None root (T.state store.old) (T.state store.new) place.now why)) }
 {
     let around = still_around(around, place);
-    let visit = visit_entry(alloc, store, &around, place.try_clone()?, entry)?;
+    let visit = visit_entry(alloc, store, None, &around, place.try_clone()?, entry, &[])?;
     Ok(met_by(around, place, visit)?)
 }
 

@@ -1,7 +1,8 @@
 -- Which files of an object are read for its head, and what was read of them.
-use Rattle.std.specs.Prelude.{ℕ, List, Option, Some, None, Result, MatchResult, option_and_then, nat_le, length, ◌≡◌, [], ◌∷◌, ◌++◌, if◌then◌else◌}
+use Rattle.std.specs.Prelude.{ℕ, List, Option, Some, None, true, Result, MatchResult, option_and_then, nat_le, length, ◌≡◌, [], ◌∷◌, ◌++◌, if◌then◌else◌}
 use Rattle.ocfl_tree.specs.{Place.{Text, Place}, StorageRoot.{StorageRoot, file_at}}
 use Rattle.ocfl_tree.specs.{Store.{Store, Did}, declared.store.Opening.{Opening}}
+use Rattle.ocfl_tree.specs.declared.store.Entry.{Entry}
 use Rattle.ocfl_digest.specs.{Bounded.{IsBoundedTo}, declared.bounded.Bounded.{Bounded}}
 use Rattle.ocfl_digest.specs.declared.algorithm.Algorithm.TheVariants.{Sha256, Sha512}
 use Rattle.ocfl_inventory.specs.Declaration.{Declared, undeclared, known, unknown, several, declaration_name}
@@ -9,8 +10,8 @@ use Rattle.ocfl_inventory.specs.declared.declaration.Level.TheVariants.{Object}
 use Rattle.ocfl_inventory.specs.{declared.declaration.Version.{Version}, Table.{Table, table_of}}
 use Rattle.ocfl_rules.specs.Inventories.{Further}
 use Rattle.ocfl_rules.specs.{Zone.{inventory_name, inventory_limit}, Head.{sidecar_name}}
-use Rattle.ocfl_rules.specs.Trail.{places_of}
-use Rattle.ocfl_item.specs.{Looking.{IsFront}, Auditing.{IsMetadataRead}}
+use Rattle.ocfl_rules.specs.Trail.{is_meta, places_of}
+use Rattle.ocfl_item.specs.{Looking.{IsFront}, Around.{TellOfSidecars}, Auditing.{IsMetadataRead}}
 use Rattle.ocfl_item.specs.declared.fault.Fault.{Fault}
 use Rattle.ocfl_item.specs.HeadFiles.{files_there, ReadsFiles, FilesStop}
 
@@ -22,6 +23,12 @@ IsFileAt root p limit (Some b) = (bytes : Text) × (file_at root p ≡ Some byte
 -- the file of one name was read
 pub record ReadsFile (further : Further) (root : StorageRoot) (s t : Store) (o : Place) (name : Text) (limit : ℕ) (r : Result (Option Bounded) Fault) : Type 0 where
   pub gives : MatchResult r (λ f. ReadsFiles further root s t o (name ∷ []) × IsFileAt root (o ++ name ∷ []) limit f) (FilesStop further root s t o (name ∷ []))
+
+-- some entries of o tell of its sidecars, which are metadata
+pub record HaveSidecars (further : Further) (root : StorageRoot) (o : Place) (es : List Entry) : Type 0 where
+  pub told : TellOfSidecars root o es
+  pub short : is_meta further root (o ++ sidecar_name Sha256 ∷ []) ≡ true
+  pub long : is_meta further root (o ++ sidecar_name Sha512 ∷ []) ≡ true
 
 -- the first of them were opened, and nothing else
 pub record ReadsSome (further : Further) (root : StorageRoot) (s t : Store) (o : Place) (names : List Text) : Type 0 where

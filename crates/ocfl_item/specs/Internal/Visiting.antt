@@ -1,7 +1,7 @@
 -- What is known of an entry that the walk comes to.
-use Rattle.std.specs.Prelude.{AllPairs, ◌≢◌, ◌≡◌, ◌≤◌, List, [], ◌∷◌, cond, length, Result, MatchResult, true, false, Option, Some, None, option_map}
+use Rattle.std.specs.Prelude.{AllPairs, ◌≢◌, ◌≡◌, ◌≤◌, List, [], ◌∷◌, Bool, cond, length, Result, MatchResult, true, false, Option, Some, None, option_map}
 use Rattle.std.specs.List.{list_all}
-use Rattle.ocfl_tree.specs.{Place.{Place}, StorageRoot.{StorageRoot, at, is_dir}}
+use Rattle.ocfl_tree.specs.{Place.{Text, Place, text_eq}, StorageRoot.{StorageRoot, at, is_dir}}
 use Rattle.ocfl_tree.specs.{Listing.{kind_of, IsListing}, declared.store.Entry.{Entry}}
 use Rattle.ocfl_tree.specs.{declared.store.Kind.{Kind}, Store.{Store, Did}}
 use Rattle.ocfl_tree.specs.declared.store.Opening.{Opening}
@@ -9,9 +9,9 @@ use Rattle.ocfl_tree.specs.declared.store.Kind.TheVariants as kind
 use Rattle.ocfl_inventory.specs.{Note.{Note, plain}, Declaration.{undeclared}}
 use Rattle.ocfl_inventory.specs.Entries.{meaning, PointsAtOne}
 use Rattle.ocfl_inventory.specs.declared.declaration.Declared.{Declared as MadeDeclared}
-use Rattle.ocfl_inventory.specs.Table.{Table}
+use Rattle.ocfl_inventory.specs.{Table.{Table}, ListedPath.{is_version_name}}
 use Rattle.ocfl_inventory.specs.declared.declaration.Level.TheVariants as level
-use Rattle.ocfl_rules.specs.Zone.{hierarchy, inside, zone, is_entered, is_listed_zone, object_declared, root_declared, beginnings, is_declared, max_listed_depth}
+use Rattle.ocfl_rules.specs.Zone.{hierarchy, inside, zone, table_at, inventory_name, is_entered, is_listed_zone, object_declared, root_declared, beginnings, is_declared, max_listed_depth}
 use Rattle.ocfl_rules.specs.Lines.{listed_dir_notes}
 use Rattle.ocfl_rules.specs.Inventories.{Further, notes, is_hashed}
 use Rattle.ocfl_rules.specs.Between.{is_looked_into}
@@ -36,6 +36,21 @@ pub record IsPlainAt (further : Further) (root : StorageRoot) (e : Place) (ns : 
   pub lines : notes further root None e ≡ ns
   pub unhashed : is_hashed further root e ≡ false
   pub head : is_head (zone root e) ≡ false
+
+-- whether an entry of a version directory is an inventory that is checked
+abbrev pub is_checked : Further → Text → Kind → Bool
+is_checked None n k = false
+is_checked (Some c) n kind.File = text_eq n inventory_name
+is_checked (Some c) n kind.Dir = false
+is_checked (Some c) n kind.Other = false
+
+-- the inventory in the directory of the version v of an object whose head does not stop
+pub record IsInventoryAt (root : StorageRoot) (e o : Place) (v : Text) : Type 0 where
+  pub here : IsEntryAt root e kind.File
+  pub zone : zone root e ≡ inside o (v ∷ inventory_name ∷ [])
+  pub named : is_version_name v ≡ true
+  pub table : Table
+  pub goes_on : table_at root o ≡ Some table
 
 -- a directory that is entered if it is not too deep
 pub record IsListedAt (root : StorageRoot) (e : Place) : Type 0 where

@@ -65,9 +65,12 @@ is_file_kind (Some kind.File) = true
 is_file_kind (Some kind.Dir) = false
 is_file_kind (Some kind.Other) = false
 
--- an object's table, with its inventory read for it, and no other file
-pub record ReadsTable (further : Further) (root : StorageRoot) (s t : Store) (o : Place) (r : Result (Option Table) Fault) : Type 0 where
-  pub gives : MatchResult r (λ table. (opens : Opens further root s t o) × (table ≡ table_at root o) × AreInventories root opens.reads.trail) (λ why. (stop : OpensStop further root s t o why) × AreInventories root stop.stops.trail)
+-- an object's table, and what its root inventory is if that is asked for, with its inventory read
+-- for them, and no other file
+pub record ReadsTable (further : Further) (root : StorageRoot) (s t : Store) (o : Place) (r : Result (Option Table × Option MadeRoot) Fault) : Type 0 where
+  pub gives : MatchResult r
+      (λ read. (opens : Opens further root s t o) × (read.0 ≡ table_at root o) × AreInventories root opens.reads.trail × (option_map root_view read.1 ≡ root_at further root o))
+      (λ why. (stop : OpensStop further root s t o why) × AreInventories root stop.stops.trail)
 
 -- the lines of an object's head, its table, and what its root inventory is if that is asked for
 abbrev pub IsHeadOf : Further → StorageRoot → Place → PlaceLines × Option Table × Option MadeRoot → Type 0

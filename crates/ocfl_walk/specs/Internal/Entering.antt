@@ -1,5 +1,5 @@
 -- The entry at a place: the listings on the way to it, of each what is above it.
-use Rattle.std.specs.Prelude.{◌≡◌, ◌≤◌, ℕ, List, [], ◌∷◌, ◌++◌, Bool, not, false, Option, Some, None, Result, MatchOption, MatchResult, length, filter}
+use Rattle.std.specs.Prelude.{◌≡◌, ◌≤◌, ℕ, List, [], ◌∷◌, ◌++◌, Bool, not, false, Option, Some, None, Result, MatchOption, MatchResult, length, filter, option_map}
 use Rattle.std.specs.List.{AllByRecursion}
 use Rattle.ocfl_tree.specs.{Place.{Text, Place}, StorageRoot.{StorageRoot, max_entries}}
 use Rattle.ocfl_tree.specs.{Store.{Store, Did}, Listing.{IsOrdinary}, declared.store.Entry.{Entry}}
@@ -14,7 +14,7 @@ use Rattle.ocfl_item.specs.Auditing.{FailedAt, IsMetadataRead, LieIn}
 use Rattle.ocfl_item.specs.Ways.{way_below, is_extensions_name, is_listable, AreInventories, Enters, InHierarchy, IsAt, Stops}
 use Rattle.ocfl_item.specs.{Around.{IsTableAround, IsPart}, Meeting.{IsFairFolder}}
 use Rattle.ocfl_item.specs.{declared.fault.Fault.{Fault}, declared.folder.Folder.{Folder}}
-use Rattle.ocfl_item.specs.declared.meeting.Around.{Around}
+use Rattle.ocfl_item.specs.{declared.meeting.Around.{Around}, Root.{root_at, root_view}}
 use Rattle.ocfl_walk.specs.WalkCalls.{AreAllListed, IsRootFirst, holder_of}
 use Rattle.ocfl_walk.specs.Standing.{Pile, frames_of, HaveEntries}
 use Rattle.ocfl_walk.specs.Internal.Standing.{IsChain, IsAroundIf}
@@ -94,7 +94,7 @@ pub record OpensInFails (root : StorageRoot) (s t : Store) (o : Place) (why : Fa
 pub record Opens (root : StorageRoot) (s t : Store) (o : Place) (r : Result (Option Around) Fault) : Type 0 where
   pub gives : MatchResult r
       (λ next. OpensIn root s t o 0
-      × MatchOption next (table_at root o ≡ None) (λ a. (a.place ≡ o) × (table_at root o ≡ Some a.table)))
+      × MatchOption next (table_at root o ≡ None) (λ a. (a.place ≡ o) × (table_at root o ≡ Some a.table) × (option_map root_view a.root ≡ root_at None root o)))
       (λ why. OpensInFails root s t o why)
 
 -- ---- one name further
@@ -126,13 +126,13 @@ IsFairWay d n old new o = MatchOption o (new ≡ old) (λ f. IsFairFolder (d ++ 
 -- if it is not entered, all below it has the table of what is around it, if there is one
 pub record IsShut (root : StorageRoot) (d : Place) (n : Text) (r : Place) (around : Option Around) : Type 0 where
   pub out : is_reached root (d ++ n ∷ []) ≡ false
-  pub table : IsTableAround root (d ++ n ∷ r) around
+  pub table : IsTableAround None root (d ++ n ∷ r) around
 
 -- if it is entered
 pub record IsIn (root : StorageRoot) (e : Place) (f : Folder) (around : Option Around) : Type 0 where
   pub place : f.place ≡ e
   pub here : IsAt root e f.entries.items
-  pub part : IsPart root e around
+  pub part : IsPart None root e around
 
 -- from d by the name n, on the way to d ++ n ∷ r
 pub record Leads (root : StorageRoot) (s t : Store) (d : Place) (n : Text) (r : Place) (old new : Option Around) (x : Result (Option Folder) Fault) : Type 0 where
@@ -157,7 +157,7 @@ pub record IsBrought (root : StorageRoot) (d q : Place) (old new : List Pile) (a
   pub stack : seen_left (seen_places root) (frames_of new) ≡ seen_left (seen_places root) (listed_at root d q (frames_of old))
   pub listed : IsListed root (frames_of old) → IsListed root (frames_of new)
   pub entries : HaveEntries root old → HaveEntries root new
-  pub table : IsTableAround root (d ++ q) around
+  pub table : IsTableAround None root (d ++ q) around
 
 -- the start of a walk: the storage root and at most the directories on the way to p were listed,
 -- each once and all that are entered, and at most the inventory of the object that holds p was

@@ -13,6 +13,7 @@ use Rattle.ocfl_rules.specs.Walk.{seen_names}
 use Rattle.ocfl_rules.specs.Stack.{NoneSeenBetween, NoneSeenAbove, Frame, IsStack, IsListed}
 use Rattle.ocfl_item.specs.{Around.{IsTableAround}, declared.folder.Folder.{Folder}}
 use Rattle.ocfl_item.specs.declared.meeting.Around.{Around}
+use Rattle.ocfl_item.specs.declared.root.RootInventory.{RootInventory}
 use Rattle.ocfl_walk.specs.{Ends.{is_past}, declared.end.End.{End}, declared.stand.Turn.{Turn}}
 use Rattle.ocfl_walk.specs.declared.stand.Stand.{Stand}
 use Rattle.ocfl_walk.specs.Standing.{levels, back, Pile, pile_of, frames_of, piles_in, HaveEntries}
@@ -69,7 +70,7 @@ IsOrderlyStand s = IsOrderlyIf s.last (piles_in s.last s.listings.items) s.aroun
 pub record IsHeld (root : StorageRoot) (stood : Place) (ps : List Pile) (around : Option Around) : Type 0 where
   pub listed : IsListed root (frames_of ps)
   pub entries : HaveEntries root ps
-  pub table : IsTableAround root stood around
+  pub table : IsTableAround None root stood around
 
 -- ---- a step
 
@@ -133,10 +134,10 @@ abbrev pub still : Option Around → Place → Option Around
 still None e = None
 still (Some a) e = if begins a.place e then Some a else None
 
--- the object that a place is in, with the table that was met there if it is one
-abbrev pub around_of : Option Around → Place → Option Table → Option Around
-around_of around e None = around
-around_of around e (Some t) = Some (record { place = e; table = t })
+-- the object that a place is in, with what was met there if it is one
+abbrev pub around_of : Option Around → Place → Option Table → Option RootInventory → Option Around
+around_of around e None r = around
+around_of around e (Some t) r = Some (record { place = e; table = t; root = r })
 
 abbrev pub IsBelowNext : Place → Option Place → Type 0
 IsBelowNext b None = ⊤

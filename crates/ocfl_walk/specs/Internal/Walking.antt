@@ -24,7 +24,7 @@ IsPileAt root e o = MatchOption o (seen_names root e ≡ []) (λ f. (f.place ≡
 pub record IsMeeting (root : StorageRoot) (e : Place) (m : Met) : Type 0 where
   pub item : IsItemAt None root e m.item
   pub folder : IsPileAt root e m.folder
-  pub table : IsTableAround root e m.around
+  pub table : IsTableAround None root e m.around
 
 -- ---- the same of any store
 

@@ -42,12 +42,14 @@ fn listed(alloc: Global, store: &mut MemTree, path: &str) -> Result<Folder, Fail
 /// The object `o` with its table.
 fn object(alloc: Global, store: &mut MemTree) -> Result<Option<Around>, Fail> {
     let folder = listed(alloc, store, "o")?;
-    let Some(table) = table_of_object(alloc, store, &folder).map_err(said)? else {
+    let (table, root) = table_of_object(alloc, store, None, &folder).map_err(said)?;
+    let Some(table) = table else {
         return Ok(None);
     };
     Ok(Some(Around {
         place: folder.place,
         table,
+        root,
     }))
 }
 
@@ -63,7 +65,7 @@ fn met(
     for entry in &folder.entries {
         if entry.name.as_str() == name {
             let place = folder.place.child(&entry.name)?;
-            return visit_entry(alloc, store, around, place, entry).map_err(said);
+            return visit_entry(alloc, store, None, around, place, entry, &[]).map_err(said);
         }
     }
     Err("no entry of this name".into())

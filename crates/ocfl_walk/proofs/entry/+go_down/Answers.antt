@@ -1,4 +1,4 @@
-use Rattle.std.proofs.Common.{◌≡◌, ◌∙◌, ◌<◌, sym, ap, subst, arith, rules, length, ◌++◌, Some}
+use Rattle.std.proofs.Common.{◌≡◌, ◌∙◌, ◌<◌, sym, ap, subst, arith, rules, length, ◌++◌, None, Some}
 use Rattle.std.proofs.lemmas.Result.{err_from_is_err_and}
 use Rattle.ocfl_item.specs.{Ways.{IsAt}, Around.{IsPart}, declared.folder.Folder.{Folder}}
 use Rattle.ocfl_walk.specs.{Standing.{piles_in}, Internal.Entering.{IsComing}}
@@ -70,7 +70,7 @@ returns-in-Some-inner-clause-told g t c = λ h root over at part.
     (piles_in c.go_down.new.stand.last c.go_down.new.stand.listings.items) c.go_down.new.stand.around leads c.go_down.result
     (c.go_down.ensures.told h root (leads.gives.0.goes.calls.did.tree ∙ over)
     (subst (λ e. IsAt root e c.in-Some-inner.inner.entries.items) (sym leads.gives.1.place) leads.gives.1.here)
-    (subst (λ e. IsPart root e c.down.new.object) (sym leads.gives.1.place) leads.gives.1.part))
+    (subst (λ e. IsPart None root e c.down.new.object) (sym leads.gives.1.place) leads.gives.1.part))
 
 pub returns-in-Some-inner-clause-orderly : goal.returns-in-Some-inner-clause-orderly
 returns-in-Some-inner-clause-orderly g t c =

@@ -1,4 +1,4 @@
-use Rattle.std.proofs.Common.{◌∙◌, sym, ap, subst, length, ◌++◌, Some}
+use Rattle.std.proofs.Common.{◌∙◌, sym, ap, subst, length, ◌++◌, None, Some}
 use Rattle.std.proofs.lemmas.Result.{err_from_is_err_and}
 use Rattle.ocfl_item.specs.Around.{IsPart}
 use Rattle.ocfl_walk.specs.Standing.{folders_from, piles_in, spot_of}
@@ -55,4 +55,4 @@ returns-clause-told g c = λ h root over.
     start_goes root (g.T.Tree.state c.args.store.now) (g.T.Tree.state c.known_root.new.store) c.args.after.now over k.0 (g.T.Tree.state c.go_down.new.store)
     c.in-Some.base.place c.deref.result.now base.place (c.deref.ensures.value ∙ c.in_ok-names.ensures) c.args.stand.now c.go_down.new.stand
     c.requires.listings c.requires.around (c.go_down.ensures.last ∙ c.requires.last) c.go_down.result
-    (c.go_down.ensures.told h root (k.0.tree ∙ over) k.1.here (subst (IsPart root c.in-Some.base.place) (sym c.requires.around) k.1.zone))
+    (c.go_down.ensures.told h root (k.0.tree ∙ over) k.1.here (subst (IsPart None root c.in-Some.base.place) (sym c.requires.around) k.1.zone))

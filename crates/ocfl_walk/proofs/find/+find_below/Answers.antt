@@ -40,6 +40,6 @@ returns-in-Some-inner g t c = record {
       item_further root c.args.folder.place c.args.name.now c.args.rest.now c.args.place.now c.args.around c.down.new.object is (g.T.Tree.state c.args.store.now)
       (g.T.Tree.state c.down.new.store) (g.T.Tree.state c.find_below.new.store) c.in-Some-inner.inner _ c.find_below.result parts.0 leads
       (c.find_below.ensures.told h root (leads.gives.0.goes.calls.did.tree ∙ over)
-      (subst (λ x. IsAt root x c.in-Some-inner.inner.entries.items) (sym e) leads.gives.1.here) (subst (λ x. IsPart root x c.down.new.object) (sym e) leads.gives.1.part)
+      (subst (λ x. IsAt root x c.in-Some-inner.inner.entries.items) (sym e) leads.gives.1.here) (subst (λ x. IsPart None root x c.down.new.object) (sym e) leads.gives.1.part)
       (further c.args.place.now c.args.folder.place c.in-Some-inner.inner.place c.args.name.now _ c.args.rest.now is e parts.0));
 }

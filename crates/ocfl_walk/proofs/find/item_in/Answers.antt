@@ -17,7 +17,7 @@ returns-in_err-visit_entry-in-Some g c = record {
       let p = err_from_is_err_and c.from_residual-in_err-visit_entry-in-Some.result c.from_residual-in_err-visit_entry-in-Some.ensures.1 in
       let v = visits_listed root c.args.folder.now.place c.args.place.now _ c.args.name.now c.args.folder.now.entries.items _
       c.args.around.now c.in-Some.entry.now (g.T.Tree.state c.args.store.now) (g.T.Tree.state c.visit_entry.new.store) (Err c.in_err-visit_entry-in-Some.field-0.0) at part is
-      c.in_ok-try_clone-in-Some.ensures c.deref.ensures.value c.in-Some.ensures.0 c.in-Some.ensures.1 (c.in_err-visit_entry-in-Some.ensures.told h root over) in
+      c.in_ok-try_clone-in-Some.ensures c.deref.ensures.value c.in-Some.ensures.0 c.in-Some.ensures.1 (λ d met. c.in_err-visit_entry-in-Some.ensures.told h root over d met tt) in
       rw (p.1, p.2) (item_unmet root c.args.folder.now.place c.args.place.now c.args.name.now c.args.around.now is part (g.T.Tree.state c.args.store.now)
       (g.T.Tree.state c.visit_entry.new.store) c.in_err-visit_entry-in-Some.field-0.0 v);
 }
@@ -27,7 +27,7 @@ returns-in_ok-visit_entry-in-Some g c = record {
   told = λ h root over at part is.
       let v = visits_listed root c.args.folder.now.place c.args.place.now _ c.args.name.now c.args.folder.now.entries.items _
       c.args.around.now c.in-Some.entry.now (g.T.Tree.state c.args.store.now) (g.T.Tree.state c.visit_entry.new.store) (Ok c.in_ok-visit_entry-in-Some.field-0) at part is
-      c.in_ok-try_clone-in-Some.ensures c.deref.ensures.value c.in-Some.ensures.0 c.in-Some.ensures.1 (c.in_ok-visit_entry-in-Some.ensures.told h root over) in
+      c.in_ok-try_clone-in-Some.ensures c.deref.ensures.value c.in-Some.ensures.0 c.in-Some.ensures.1 (λ d met. c.in_ok-visit_entry-in-Some.ensures.told h root over d met tt) in
       item_met root c.args.folder.now.place c.args.place.now c.args.name.now c.args.around.now is part (g.T.Tree.state c.args.store.now)
       (g.T.Tree.state c.visit_entry.new.store) c.in_ok-visit_entry-in-Some.field-0 v;
 }

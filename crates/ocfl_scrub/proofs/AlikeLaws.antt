@@ -160,20 +160,20 @@ module _ (root : StorageRoot) (s t a : Store) (over : a.tree ≡ root) where
 
   -- ---- a walk
 
-  pub walks_elsewhere : (from to : Option Place) → Walks root s t from to → (b : Store) × (IsAlike s t a b × Walks root a b from to)
-  walks_elsewhere from to w = audits_alike (λ b. Walks root a b from to) w.audits (λ b h. record { trail = w.trail; audits = h })
+  pub walks_elsewhere : (from to : Option Place) → Walks None root s t from to → (b : Store) × (IsAlike s t a b × Walks None root a b from to)
+  walks_elsewhere from to w = audits_alike (λ b. Walks None root a b from to) w.audits (λ b h. record { trail = w.trail; audits = h })
 
   -- with this left of the open file and of the largest read
-  pub walks_with : (rest : Option Text) (largest : ℕ) (from to : Option Place) → Walks root s t from to → (b : Store) × ((b.rest ≡ rest) × (b.largest ≡ largest) × Walks root a b from to)
+  pub walks_with : (rest : Option Text) (largest : ℕ) (from to : Option Place) → Walks None root s t from to → (b : Store) × ((b.rest ≡ rest) × (b.largest ≡ largest) × Walks None root a b from to)
   walks_with rest largest from to w =
       let b : Store = done_with s t a _ _ _ w.audits.did rest largest in
       (b, (refl, refl, record { trail = w.trail; audits = audits_with rest largest _ _ _ _ w.audits }))
 
-  pub out_elsewhere : (from : Option Place) (e : End) → WalksOut root s t from e → (b : Store) × (IsAlike s t a b × WalksOut root a b from e)
-  out_elsewhere from e w = audits_alike (λ b. WalksOut root a b from e) w.audits (λ b h. record { trail = w.trail; audits = h })
+  pub out_elsewhere : (from : Option Place) (e : End) → WalksOut None root s t from e → (b : Store) × (IsAlike s t a b × WalksOut None root a b from e)
+  out_elsewhere from e w = audits_alike (λ b. WalksOut None root a b from e) w.audits (λ b h. record { trail = w.trail; audits = h })
 
-  pub lost_elsewhere : (from : Option Place) (e : End) (why : Fault) → FailsOut root s t from e why → (b : Store) × (IsAlike s t a b × FailsOut root a b from e why)
-  lost_elsewhere from e why w = fails_alike (λ b. FailsOut root a b from e why) w.fails (λ b h. record {
+  pub lost_elsewhere : (from : Option Place) (e : End) (why : Fault) → FailsOut None root s t from e why → (b : Store) × (IsAlike s t a b × FailsOut None root a b from e why)
+  lost_elsewhere from e why w = fails_alike (λ b. FailsOut None root a b from e why) w.fails (λ b h. record {
     trail = w.trail;
     listed = w.listed;
     heads = w.heads;
@@ -182,7 +182,7 @@ module _ (root : StorageRoot) (s t a : Store) (over : a.tree ≡ root) where
     heads_front = w.heads_front;
   })
 
-  pub gives_elsewhere : (last : Option Place) (e : End) (next : Walk) (o : Option Pending) → GivesOut root s t last e next o → (b : Store) × (IsAlike s t a b × GivesOut root a b last e next o)
+  pub gives_elsewhere : (last : Option Place) (e : End) (next : Walk) (o : Option Pending) → GivesOut None root s t last e next o → (b : Store) × (IsAlike s t a b × GivesOut None root a b last e next o)
   gives_elsewhere last e next None g = let w = out_elsewhere last e g.0 in (w.0, (w.1.0, (w.1.1, g.1, g.2)))
   gives_elsewhere last e next (Some p) g = let w = walks_elsewhere last (Some p.place) g.0 in (w.0, (w.1.0, (w.1.1, g.1, g.2, g.3)))
 

@@ -46,11 +46,11 @@ take_items root os (suc n) (p ∷ ps) = ap (λ is. item_of None root (unread_of 
 
 -- ---- after a walk that went down to where the pass over a part begins
 
-module _ (root : StorageRoot) (part : Part) (s t : Store) (from : Option Place) (g : GoesDown root s t (entry part from)) where
+module _ (root : StorageRoot) (part : Part) (s t : Store) (from : Option Place) (g : GoesDown None root s t (entry part from)) where
   -- what was read on the way down has no part in the items
   walked : (os : List Opening) (ps : List Place) → items_at None root (g.trail ++ os) ps ≡ items_at None root os ps
   unfolding items_at
-  walked os ps = ap (λ v. map (item_of None root v) ps) (unread_behind None root g.trail os (g.audits.opened ∙ none_hashed root))
+  walked os ps = ap (λ v. map (item_of None root v) ps) (unread_behind None root g.trail os (g.audits.opened ∙ none_hashed None root))
 
   -- the items of the part are those of what is due before the end
   pub above_at : (os : List Opening) → items_in root (g.trail ++ os) part from ≡ items_at None root os (due_in root (end_of part) (stand root part from))
@@ -62,14 +62,14 @@ module _ (root : StorageRoot) (part : Part) (s t : Store) (from : Option Place) 
 
 -- ---- a pass over all items of a part
 
-module _ (root : StorageRoot) (part : Part) (s t u : Store) (old new : Option (List ℕ)) (stood last : Option Place) (finding : Bool) (g : GoesDown root s t (entry part None)) where
+module _ (root : StorageRoot) (part : Part) (s t u : Store) (old new : Option (List ℕ)) (stood last : Option Place) (finding : Bool) (g : GoesDown None root s t (entry part None)) where
   pub finish_part : (h : Finishes root (end_of part) t u old new (stand root part None) stood finding)
       → last ≡ last_or None (due_in root (end_of part) (stand root part None)) → AuditsWithin (call_of root s u old new) part last finding
   finish_part h last_is =
       let all : List Place = due_in root (end_of part) (stand root part None) in
       let items : items_at None root h.trail all ≡ items_in root (g.trail ++ h.trail) part None = sym (above_at root part s t None g h.trail) in
       let at_places : all ≡ places (items_in root (g.trail ++ h.trail) part None) = sym (places_of_items root h.trail all) ∙ ap places items in
-      let below : Audits None root t u all (looked_in root part None None) (read_in root part None None) h.trail = audits_as (looked_all root part None) (read_all root part None) h.audits in
+      let below : Audits None root t u all (looked_in root part None None) (read_in root part None None) h.trail = audits_as None (looked_all root part None) (read_all root part None) h.audits in
       record {
         trail = g.trail ++ h.trail;
         looks = subst (λ ps. LooksOver (call_of root s u old new) part None None ps (g.trail ++ h.trail)) at_places (looks_over root part s t u old new None g None all h.trail
@@ -121,7 +121,7 @@ nothing_out items old last why other = record {
 
 -- no walk was started
 pub unstarted : (root : StorageRoot) (part : Part) (s t : Store) (old : Option (List ℕ)) (why : Fault)
-    → GoDownFails root s t (entry part None) why → AuditStopsWithin (call_of root s t old old) part None false (halt.Fault why)
+    → GoDownFails None root s t (entry part None) why → AuditStopsWithin (call_of root s t old old) part None false (halt.Fault why)
 unfolding nothing_out
 unstarted root part s t old why g = record {
   trail = g.trail;

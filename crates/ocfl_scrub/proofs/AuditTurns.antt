@@ -22,14 +22,14 @@ use Rattle.ocfl_scrub.proofs.LoopLaws.{GivesNext, GivesItem, gives_item, walked_
 pub record HasTaken (root : StorageRoot) (part : Part) (s t : Store) (old new : Option (List ℕ)) (walk : Walk) (last : Option Place) (finding : Bool) : Type 0 where
   pub begun : Store
   pub stood : Option Place
-  pub down : GoesDown root s begun (entry part None)
-  pub stands : Stands root walk stood
+  pub down : GoesDown None root s begun (entry part None)
+  pub stands : Stands None root walk stood
   pub beyond : HasGoneOn (end_of part) (stand root part None) stood
   pub passes : Passes root (end_of part) begun t old new (stand root part None) stood finding
   pub last_is : last ≡ last_or None passes.done
 
-pub nothing_taken : (root : StorageRoot) (part : Part) (s t : Store) (old : Option (List ℕ)) (walk : Walk) → GoesDown root s t (entry part None)
-    × Stands root walk (stand root part None) → HasTaken root part s t old old walk None false
+pub nothing_taken : (root : StorageRoot) (part : Part) (s t : Store) (old : Option (List ℕ)) (walk : Walk) → GoesDown None root s t (entry part None)
+    × Stands None root walk (stand root part None) → HasTaken root part s t old old walk None false
 unfolding passes_none
 nothing_taken root part s t old walk there = record {
   begun = t;
@@ -47,7 +47,7 @@ module _ {root : StorageRoot} {s t : Store} {old mid : Option (List ℕ)} {walk 
     -- nothing is left before the end
     pub audit_ended : o ≡ None → AuditsWithin (call_of root s u old mid) part last finding
     audit_ended is =
-        let gives : GivesOut root t u h.stood (end_of part) next None = subst (GivesOut root t u h.stood (end_of part) next) is (gave (passes_over h.passes) h.stood h.stands) in
+        let gives : GivesOut None root t u h.stood (end_of part) next None = subst (GivesOut None root t u h.stood (end_of part) next) is (gave (passes_over h.passes) h.stood h.stands) in
         let all = all_done root (end_of part) h.begun t u old mid (stand root part None) h.stood finding h.beyond h.passes gives.1 in
         finish_part root part s h.begun u old mid h.stood last finding h.down
         (passes_finish root (end_of part) h.begun t u old mid (stand root part None) h.stood finding h.beyond h.passes gives.0 gives.1) (h.last_is ∙ ap (last_or None) all)
@@ -79,7 +79,7 @@ module _ {root : StorageRoot} {s t : Store} {old mid : Option (List ℕ)} {walk 
 
   -- the walk did not get to its next item
   pub audit_lost : (why : Fault)
-      → (t.tree ≡ root → (p : Option Place) → Stands root walk p → FailsOut root t u p (end_of part) why) → AuditStopsWithin (call_of root s u old mid) part last finding (halt.Fault why)
+      → (t.tree ≡ root → (p : Option Place) → Stands None root walk p → FailsOut None root t u p (end_of part) why) → AuditStopsWithin (call_of root s u old mid) part last finding (halt.Fault why)
   unfolding passes_lost
   audit_lost why lost = halt_part root part s h.begun u old mid h.stood last finding h.down (halt.Fault why)
       (passes_lost root (end_of part) h.begun t u old mid (stand root part None) h.stood finding h.beyond h.passes why (lost (passes_over h.passes) h.stood h.stands)) h.last_is

@@ -100,7 +100,7 @@ none_opened (x ∷ trail) h = absurd cc
 
 -- of a front of one place
 one_of_front : (root : StorageRoot) (p : Place) (begun rest : List Place) (trail : List Opening) → p ∷ [] ≡ begun ++ rest → places_of trail ≡ hashed_among None root begun → IsOne root p trail
-one_of_front root p [] rest trail e h = inl (none_opened trail (h ∙ none_hashed root))
+one_of_front root p [] rest trail e h = inl (none_opened trail (h ∙ none_hashed None root))
 one_of_front root p (q ∷ []) rest trail e h = one_or_none root p trail (h ∙ ap (λ x. hashed_among None root (x ∷ [])) (let f : q ≡ p = cc in f))
 one_of_front root p (q ∷ r ∷ begun) rest trail e h = absurd cc
 
@@ -125,7 +125,7 @@ module _ (root : StorageRoot) (p : Place) where
   place_bare o e h = subst (IsItemAt None root p) e h
 
   module _ (s t : Store) where
-    pub nothing_there : (old : Option (List ℕ)) → GoesDown root s t (Some p) → notes None root None p ≡ [] → Checks (call_of root s t old old) p false false
+    pub nothing_there : (old : Option (List ℕ)) → GoesDown None root s t (Some p) → notes None root None p ≡ [] → Checks (call_of root s t old old) p false false
     nothing_there old g none =
         let e : checked_item root g.trail p ≡ [] = none_item root g.trail p none in
         record {
@@ -136,7 +136,7 @@ module _ (root : StorageRoot) (p : Place) where
             over = g.audits.over;
             did = g.audits.did;
             read = g.audits.read;
-            opened = g.audits.opened ∙ none_hashed root
+            opened = g.audits.opened ∙ none_hashed None root
                 ∙ sym (lines_free root p none);
             heads_are = g.audits.heads_are;
             near = g.audits.near;
@@ -148,7 +148,7 @@ module _ (root : StorageRoot) (p : Place) where
           found_is = sym (ap found e);
         }
 
-    pub not_gone_down : (old : Option (List ℕ)) (why : Fault) → GoDownFails root s t (Some p) why → CheckStops (call_of root s t old old) p (halt.Fault why)
+    pub not_gone_down : (old : Option (List ℕ)) (why : Fault) → GoDownFails None root s t (Some p) why → CheckStops (call_of root s t old old) p (halt.Fault why)
     not_gone_down old why g = record {
       trail = g.trail;
       begun = [];
@@ -163,9 +163,9 @@ module _ (root : StorageRoot) (p : Place) where
       part_of = fault_of_nothing why (text (checked_item root g.trail p));
     }
 
-  module _ (s t u : Store) (old new : Option (List ℕ)) (g : GoesDown root s t (Some p)) (some : notes None root None p ≢ []) where
+  module _ (s t u : Store) (old new : Option (List ℕ)) (g : GoesDown None root s t (Some p)) (some : notes None root None p ≢ []) where
     meta : content_trail None root g.trail ≡ []
-    meta = g.audits.opened ∙ none_hashed root
+    meta = g.audits.opened ∙ none_hashed None root
 
     just_then : (trail : List Opening) → IsOne root p trail → IsJustFor root p g.listed g.heads (g.trail ++ trail)
     just_then trail one = record { listed_front = g.listed_front; heads_front = g.heads_front; once = then_one root p g.trail trail meta g.once one }
@@ -177,7 +177,7 @@ module _ (root : StorageRoot) (p : Place) where
           trail = g.trail ++ k.trail;
           listed = g.listed;
           heads = g.heads;
-          audits = audits_as (append-nil g.listed) (append-nil g.heads) (audits_on None root s t u [] (p ∷ []) g.listed [] g.heads [] g.trail k.trail g.audits k.audits);
+          audits = audits_as None (append-nil g.listed) (append-nil g.heads) (audits_on None root s t u [] (p ∷ []) g.listed [] g.heads [] g.trail k.trail g.audits k.audits);
           files_lie = checked_lie root s t p g;
           just = just_then k.trail (one_or_none root p k.trail k.alone);
           wrote = subst (λ is. Appends old new (text is)) (sym items) k.wrote;
@@ -210,13 +210,13 @@ pub check_stopped : (root : StorageRoot) (s t : Store) (old new : Option (List �
     → end ≡ Stopped why → CheckStops (call_of root s t old new) p why → CheckEnds (call_of root s t old new) p item finding end
 check_stopped root s t old new p item finding why end e w = subst (λ x. CheckEnds (call_of root s t old new) p item finding x) (sym e) w
 
-pub check_took : (root : StorageRoot) (s t u : Store) (old new : Option (List ℕ)) (p q : Place) (cost : ℕ) (finding : Bool) → q ≡ p → GoesDown root s t (Some p)
+pub check_took : (root : StorageRoot) (s t u : Store) (old new : Option (List ℕ)) (p q : Place) (cost : ℕ) (finding : Bool) → q ≡ p → GoesDown None root s t (Some p)
     → notes None root None p ≢ [] → Takes (call_of root t u old new) q cost finding
     → Checks (call_of root s u old new) p true finding
 check_took root s t u old new p q cost finding e g some k = down_and_taken root p s t u old new g some cost finding (subst (λ x. Takes (call_of root t u old new) x cost finding) e k)
 
 pub check_missed : (root : StorageRoot) (s t u : Store) (old new : Option (List ℕ)) (p q : Place) (item finding : Bool) (why : ReportStop) (end : AuditStatus)
-    → end ≡ Stopped why → q ≡ p → GoesDown root s t (Some p) → notes None root None p ≢ []
+    → end ≡ Stopped why → q ≡ p → GoesDown None root s t (Some p) → notes None root None p ≢ []
     → Misses (call_of root t u old new) q why → CheckEnds (call_of root s u old new) p item finding end
 check_missed root s t u old new p q item finding why end f e g some k =
     check_stopped root s u old new p item finding why end f (down_and_missed root p s t u old new g some why (subst (λ x. Misses (call_of root t u old new) x why) e k))

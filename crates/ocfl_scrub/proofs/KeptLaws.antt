@@ -37,7 +37,7 @@ module _ {root : StorageRoot} {part : Part} {s t : Store} {old new : Option (Lis
   met_ready m h = record {
     before = h.there;
     after = t;
-    gives = subst (λ o. Gives root h.there t o m.walk (Some m.item)) (stood_is h.paid) h.item.gives;
+    gives = subst (λ o. Gives None root h.there t o m.walk (Some m.item)) (stood_is h.paid) h.item.gives;
     in_front = h.item.in_front;
   }
 
@@ -66,7 +66,7 @@ root_listed None = tt
 root_listed (Some []) = ([], refl)
 root_listed (Some (n ∷ q)) = (_, refl)
 
-goes_down : (root : StorageRoot) (p : Option Place) → GoesDown root (nothing_asked root) (all_listed root (way_of p)) p
+goes_down : (root : StorageRoot) (p : Option Place) → GoesDown None root (nothing_asked root) (all_listed root (way_of p)) p
 goes_down root p = record {
   trail = [];
   listed = way_of p;

@@ -62,31 +62,31 @@ no_pass pass old limits from end short works unspent is =
 
 -- ---- a walk that begins
 
-module _ (root : StorageRoot) (part : Part) (s t u : Store) (from : Option Place) (walk : Walk) (there : GoesDown root s t (entry part from) × Stands root walk (stand root part from)) where
-  gives_there : (next : Walk) (o : Option Pending) → GivesNext root (end_of part) t u walk next o → GivesOut root t u (stand root part from) (end_of part) next o
+module _ (root : StorageRoot) (part : Part) (s t u : Store) (from : Option Place) (walk : Walk) (there : GoesDown None root s t (entry part from) × Stands None root walk (stand root part from)) where
+  gives_there : (next : Walk) (o : Option Pending) → GivesNext root (end_of part) t u walk next o → GivesOut None root t u (stand root part from) (end_of part) next o
   gives_there next o gave = gave (audits_over there.0.audits) (stand root part from) there.1
 
   -- the walk gave nothing
   pub begun_ended : (next : Walk) (o : Option Pending) → GivesNext root (end_of part) t u walk next o → o ≡ None → TakesNothing root part from status.Ended s u
   begun_ended next o gave is old l =
       let h = stands_first root part s t old walk from l there in
-      let gives : GivesOut root t u (stand root part from) (end_of part) next None = subst (GivesOut root t u (stand root part from) (end_of part) next) is (gives_there next o gave) in
-      run_ended part h.0 u next (subst (λ x. GivesOut root t u x (end_of part) next None) (sym h.1) gives)
+      let gives : GivesOut None root t u (stand root part from) (end_of part) next None = subst (GivesOut None root t u (stand root part from) (end_of part) next) is (gives_there next o gave) in
+      run_ended part h.0 u next (subst (λ x. GivesOut None root t u x (end_of part) next None) (sym h.1) gives)
 
   -- it met an item
   pub begun_ahead : (m : Met) (o : Option Pending) → GivesNext root (end_of part) t u walk m.walk o → o ≡ Some m.item → IfSome o (λ p. is_past (end_of part) p.place ≡ false) → IsAhead root part from m s u
   begun_ahead m o gave is before = record {
     begun = t;
     down = there.0;
-    gives = subst (GivesOut root t u (stand root part from) (end_of part) m.walk) is (gives_there m.walk o gave);
+    gives = subst (GivesOut None root t u (stand root part from) (end_of part) m.walk) is (gives_there m.walk o gave);
     in_front = subst (λ x. IfSome x (λ p. is_past (end_of part) p.place ≡ false)) is before;
   }
 
   -- it did not get to one
-  pub begun_lost : (why : Fault) → (t.tree ≡ root → (p : Option Place) → Stands root walk p → FailsOut root t u p (end_of part) why) → TakesNothing root part from (status.Stopped (halt.Fault why)) s u
+  pub begun_lost : (why : Fault) → (t.tree ≡ root → (p : Option Place) → Stands None root walk p → FailsOut None root t u p (end_of part) why) → TakesNothing root part from (status.Stopped (halt.Fault why)) s u
   begun_lost why lost old l =
       let h = stands_first root part s t old walk from l there in
-      run_lost part h.0 u why (subst (λ x. FailsOut root t u x (end_of part) why) (sym h.1) (lost (audits_over there.0.audits) (stand root part from) there.1))
+      run_lost part h.0 u why (subst (λ x. FailsOut None root t u x (end_of part) why) (sym h.1) (lost (audits_over there.0.audits) (stand root part from) there.1))
 
 -- ---- a walk that is kept
 
@@ -96,8 +96,8 @@ pub record PassesFrom (call : Call) (part : Part) (p : Place) (from : Option Pla
   pub begun : Store
   pub there : Store
   pub behind : Store
-  pub down : GoesDown call.root before begun (entry part from)
-  pub way : Walks call.root begun there (stand call.root part from) (Some p)
+  pub down : GoesDown None call.root before begun (entry part from)
+  pub way : Walks None call.root begun there (stand call.root part from) (Some p)
   pub alike : IsAlike call.before call.after there behind
   pub ends : EndsAt (call_of call.root before behind call.old call.new) part from limits pass
   pub looks : LooksAbove call part p
@@ -171,8 +171,8 @@ module _ (root : StorageRoot) (part : Part) (s t : Store) (old new : Option (Lis
     begun = h.begun;
     there = h.there;
     behind = h.behind;
-    down = subst (λ x. GoesDown root h.before h.begun (entry part x)) begins.from_is h.down;
-    way = subst (λ x. Walks root h.begun h.there (stand root part x) (Some p)) begins.from_is h.way;
+    down = subst (λ x. GoesDown None root h.before h.begun (entry part x)) begins.from_is h.down;
+    way = subst (λ x. Walks None root h.begun h.there (stand root part x) (Some p)) begins.from_is h.way;
     alike = h.alike;
     runs = runs_from root part h.before h.behind old new c b from pass.last l pass.spent pass.files pass.found pass.end begins h.ends.0 reached state e f;
     looks = h.looks;

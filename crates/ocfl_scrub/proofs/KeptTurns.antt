@@ -101,12 +101,12 @@ module _ {root : StorageRoot} {s t : Store} {old mid : Option (List ℕ)} {m : M
             looks = λ met.
                 let k = h.looked met in
                 let there = looked_took k.looked v mid new cost more (took (looked_over k.looked) k.pending) in
-                let gives : GivesOut root v w (Some q.place) (end_of part) next None = subst (GivesOut root v w (Some q.place) (end_of part) next) is (gave (looked_over there) (Some q.place) k.stands) in
+                let gives : GivesOut None root v w (Some q.place) (end_of part) next None = subst (GivesOut None root v w (Some q.place) (end_of part) next) is (gave (looked_over there) (Some q.place) k.stands) in
                 above_ended there (met_lies root part from m met) w old new gives.0;
             ends = λ d a rest largest ahead.
                 let x = stood d a rest largest ahead in
-                let gives : GivesOut root v w x.1.1.paid.stood (end_of part) next None =
-                subst (GivesOut root v w x.1.1.paid.stood (end_of part) next) is (gave (alike_tree x.1.0 ∙ over) x.1.1.paid.stood x.1.1.stands) in
+                let gives : GivesOut None root v w x.1.1.paid.stood (end_of part) next None =
+                subst (GivesOut None root v w x.1.1.paid.stood (end_of part) next) is (gave (alike_tree x.1.0 ∙ over) x.1.1.paid.stood x.1.1.stands) in
                 let y = gives_elsewhere root v w x.0 (alike_there x.1.0 ∙ ahead_over ahead) x.1.1.paid.stood (end_of part) next None gives in
                 (y.0, (alike_then x.1.0 y.1.0, (run_ended part x.1.1 y.0 next y.1.1, tt)));
           }
@@ -119,7 +119,7 @@ module _ {root : StorageRoot} {s t : Store} {old mid : Option (List ℕ)} {m : M
                 looked = λ met.
                     let k = h.looked met in
                     let there = looked_took k.looked v mid new cost more (took (looked_over k.looked) k.pending) in
-                    let gives : GivesOut root v w (Some q.place) (end_of part) next (Some r) = subst (GivesOut root v w (Some q.place) (end_of part) next) is (gave (looked_over there) (Some q.place) k.stands) in
+                    let gives : GivesOut None root v w (Some q.place) (end_of part) next (Some r) = subst (GivesOut None root v w (Some q.place) (end_of part) next) is (gave (looked_over there) (Some q.place) k.stands) in
                     record {
                       looked = looked_on there w r.place (due_beyond root (Some q.place) r.place (due None root (Some r.place)) gives.3) in_front gives.0;
                       pending = gives.2;
@@ -127,14 +127,14 @@ module _ {root : StorageRoot} {s t : Store} {old mid : Option (List ℕ)} {m : M
                     };
                 meets = λ d a rest largest ahead.
                     let x = stood d a rest largest ahead in
-                    let gives : GivesOut root v w x.1.1.paid.stood (end_of part) next (Some r) =
-                    subst (GivesOut root v w x.1.1.paid.stood (end_of part) next) is (gave (alike_tree x.1.0 ∙ over) x.1.1.paid.stood x.1.1.stands) in
+                    let gives : GivesOut None root v w x.1.1.paid.stood (end_of part) next (Some r) =
+                    subst (GivesOut None root v w x.1.1.paid.stood (end_of part) next) is (gave (alike_tree x.1.0 ∙ over) x.1.1.paid.stood x.1.1.stands) in
                     let y = gives_elsewhere root v w x.0 (alike_there x.1.0 ∙ ahead_over ahead) x.1.1.paid.stood (end_of part) next (Some r) gives in
                     (y.0, (alike_then x.1.0 y.1.0, run_meets part x.1.1 y.0 next r y.1.1 in_front));
               }
 
         -- the walk did not get to its next item
-        pub way_lost : (why : Fault) → (v.tree ≡ root → (p : Option Place) → Stands root walk p → FailsOut root v w p (end_of part) why)
+        pub way_lost : (why : Fault) → (v.tree ≡ root → (p : Option Place) → Stands None root walk p → FailsOut None root v w p (end_of part) why)
             → PassesOn (call_of root s w old new) part m from l (pass_of (Some place) charged started either (status.Stopped (halt.Fault why)) None)
         way_lost why lost = record {
           looks = λ met.

@@ -14,7 +14,7 @@ use Rattle.ocfl_scrub.specs.Starting.{FilesLieIn, entry, looked_in, read_in, Loo
 use Rattle.ocfl_scrub.specs.declared.stop.ReportStop.TheVariants as halt
 use Rattle.ocfl_scrub.specs.Taking.{stop_place}
 
-module _ (root : StorageRoot) (part : Part) (s t u : Store) (old new : Option (List ℕ)) (from : Option Place) (g : GoesDown root s t (entry part from)) where
+module _ (root : StorageRoot) (part : Part) (s t u : Store) (old new : Option (List ℕ)) (from : Option Place) (g : GoesDown None root s t (entry part from)) where
   pub looks_over : (to : Option Place) (done : List Place) (os : List Opening)
       → FilesLieIn root done (g.listed ++ looked_in root part from to) → Audits None root t u done (looked_in root part from to) (read_in root part from to) os
       → LooksOver (call_of root s u old new) part from to done (g.trail ++ os)
@@ -45,7 +45,7 @@ module _ (root : StorageRoot) (part : Part) (s t u : Store) (old new : Option (L
 
 -- it did not come to where it begins
 unfoldable pub stops_above : (root : StorageRoot) (part : Part) (s t : Store) (old new : Option (List ℕ)) (from : Option Place) (why : Fault)
-    (g : GoDownFails root s t (entry part from) why) → StopsLooking (call_of root s t old new) part from [] g.trail (halt.Fault why)
+    (g : GoDownFails None root s t (entry part from) why) → StopsLooking (call_of root s t old new) part from [] g.trail (halt.Fault why)
 stops_above root part s t old new from why g =
     let no_directory : IsFront [] (looked_in root part from None) = (looked_in root part from None, refl) in
     let no_head : IsFront [] (read_in root part from None) = (read_in root part from None, refl) in

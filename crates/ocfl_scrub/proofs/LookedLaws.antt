@@ -55,7 +55,7 @@ pub record Looked (root : StorageRoot) (part : Part) (s t : Store) (p q : Place)
 pub record HasLooked (root : StorageRoot) (part : Part) (s t : Store) (p : Place) (walk : Walk) (q : Pending) : Type 0 where
   pub looked : Looked root part s t p q.place
   pub pending : IsPending None root q
-  pub stands : Stands root walk (Some q.place)
+  pub stands : Stands None root walk (Some q.place)
 
 pub looked_first : (root : StorageRoot) (part : Part) (s : Store) (from : Option Place) (m : Met) → s.tree ≡ root → IsMet root part from m
     → HasLooked root part s s m.item.place m.walk m.item
@@ -64,7 +64,7 @@ looked_first root part s from m over h = record {
     gone = gone_self (end_of part) (Some m.item.place);
     done = [];
     trail = [];
-    audits = audits_as (sym (looked_self root (Some m.item.place))) (sym (read_self root (Some m.item.place))) (audits_nothing None root s over);
+    audits = audits_as None (sym (looked_self root (Some m.item.place))) (sym (read_self root (Some m.item.place))) (audits_nothing None root s over);
   };
   pending = h.gives.2;
   stands = h.gives.1;
@@ -79,16 +79,16 @@ module _ {root : StorageRoot} {part : Part} {s t : Store} {p q : Place} (h : Loo
     gone = h.gone;
     done = h.done ++ q ∷ [];
     trail = h.trail ++ k.trail;
-    audits = audits_as (append-nil (looked_between root (Some p) (Some q))) (append-nil (read_between root (Some p) (Some q)))
+    audits = audits_as None (append-nil (looked_between root (Some p) (Some q))) (append-nil (read_between root (Some p) (Some q)))
         (audits_on None root s t v h.done (q ∷ []) _ [] _ [] h.trail k.trail h.audits k.audits);
   }
 
-  pub looked_on : (v : Store) (r : Place) → IsBeyond (Some q) r → is_past (end_of part) r ≡ false → Walks root t v (Some q) (Some r) → Looked root part s v p r
+  pub looked_on : (v : Store) (r : Place) → IsBeyond (Some q) r → is_past (end_of part) r ≡ false → Walks None root t v (Some q) (Some r) → Looked root part s v p r
   looked_on v r far before w = record {
     gone = gone_next (end_of part) (Some p) (Some q) r h.gone far before;
     done = h.done ++ [];
     trail = h.trail ++ w.trail;
-    audits = audits_as (looked_next root (end_of part) (Some p) (Some q) h.gone r far) (read_next root (end_of part) (Some p) (Some q) h.gone r far)
+    audits = audits_as None (looked_next root (end_of part) (Some p) (Some q) h.gone r far) (read_next root (end_of part) (Some p) (Some q) h.gone r far)
         (audits_on None root s t v h.done [] _ _ _ _ h.trail w.trail h.audits w.audits);
   }
 
@@ -132,7 +132,7 @@ module _ {root : StorageRoot} {part : Part} {s t : Store} {p q : Place} (h : Loo
           (subst (λ hs. IsFront hs (read_in root part (Some p) None)) (sym (append-nil (read_between root (Some p) (Some q)))) read_begins)
 
       -- nothing is left before the end
-      pub above_ended : WalksOut root t v (Some q) (end_of part) → LooksAbove (call_of root s v old new) part p
+      pub above_ended : WalksOut None root t v (Some q) (end_of part) → LooksAbove (call_of root s v old new) part p
       above_ended w =
           let both = audits_on None root s t v h.done [] _ _ _ _ h.trail w.trail h.audits w.audits in
           above _ _ (h.trail ++ w.trail) _ both.did both.heads_are
@@ -140,7 +140,7 @@ module _ {root : StorageRoot} {part : Part} {s t : Store} {p q : Place} (h : Loo
           (subst (λ hs. IsFront hs (read_in root part (Some p) None)) (sym read_left) (front_all (read_in root part (Some p) None)))
 
       -- the walk did not get to its next item
-      pub above_lost : (why : Fault) → FailsOut root t v (Some q) (end_of part) why → LooksAbove (call_of root s v old new) part p
+      pub above_lost : (why : Fault) → FailsOut None root t v (Some q) (end_of part) why → LooksAbove (call_of root s v old new) part p
       above_lost why w =
           let both = audits_fail None root s t v h.done [] _ _ _ _ h.trail w.trail _ h.audits w.fails in
           above _ _ (h.trail ++ w.trail) _ both.did both.heads_are

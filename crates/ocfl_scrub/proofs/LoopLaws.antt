@@ -20,24 +20,24 @@ next_short walk next {o} {q} is on place e = let went : GoesOn walk next (Some q
 
 -- what a walk gives that stands over the tree
 abbrev pub GivesNext : StorageRoot → End → Store → Store → Walk → Walk → Option Pending → Type 0
-GivesNext root e t u walk next o = t.tree ≡ root → (last : Option Place) → Stands root walk last → GivesOut root t u last e next o
+GivesNext root e t u walk next o = t.tree ≡ root → (last : Option Place) → Stands None root walk last → GivesOut None root t u last e next o
 
 -- an item that a walk gives: it is after where the walk stood, and before the end
 pub record GivesItem (root : StorageRoot) (e : End) (t u : Store) (stood : Option Place) (next : Walk) (q : Pending) : Type 0 where
-  pub gives : Gives root t u stood next (Some q)
+  pub gives : Gives None root t u stood next (Some q)
   pub above : IsBeyond stood q.place
   pub in_front : is_past e q.place ≡ false
 
 pub gives_item : (root : StorageRoot) (e : End) (t u : Store) (walk next : Walk) (stood : Option Place) (o : Option Pending) (q : Pending)
-    → GivesNext root e t u walk next o → t.tree ≡ root → Stands root walk stood
+    → GivesNext root e t u walk next o → t.tree ≡ root → Stands None root walk stood
     → o ≡ Some q → IfSome o (λ p. is_past e p.place ≡ false) → GivesItem root e t u stood next q
 gives_item root e t u walk next stood o q gave over stands is before =
-    let gives : Gives root t u stood next (Some q) = subst (GivesOut root t u stood e next) is (gave over stood stands) in
+    let gives : Gives None root t u stood next (Some q) = subst (GivesOut None root t u stood e next) is (gave over stood stands) in
     record {
       gives = gives;
       above = due_beyond root stood q.place (due None root (Some q.place)) gives.3;
       in_front = subst (λ x. IfSome x (λ p. is_past e p.place ≡ false)) is before;
     }
 
-pub walked_over : {root : StorageRoot} {s t : Store} {from to : Option Place} → Walks root s t from to → t.tree ≡ root
+pub walked_over : {root : StorageRoot} {s t : Store} {from to : Option Place} → Walks None root s t from to → t.tree ≡ root
 walked_over w = w.audits.did.tree ∙ w.audits.over

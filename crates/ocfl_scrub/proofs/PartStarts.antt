@@ -196,7 +196,7 @@ filter_up_to test ps (Some b) =
 module _ (root : StorageRoot) (part : Part) (above : Option Place) where
   pub due_starts : before_end (end_of part) (due None root (stand root part above)) ≡ due_within root part above
   unfolding due
-  due_starts = leaves root part (due None root) (due_from root) (λ p. refl) above
+  due_starts = leaves root part (due None root) (due_from None root) (λ p. refl) above
 
   pub looked_starts : (to : Option Place) → before_end (end_of part) (looked_between root (stand root part above) to) ≡ looked_in root part above to
   unfolding looked_between

@@ -85,10 +85,10 @@ module _ (root : StorageRoot) (p : Place) (w : List Opening) (meta : content_tra
   pub walked_items : (os : List Opening) → items_at None root (w ++ os) (p ∷ []) ≡ items_at None root os (p ∷ [])
   walked_items os = items_behind root w os [] (p ∷ []) (tt, tt) meta
 
-module _ (root : StorageRoot) (t u v : Store) (last to : Option Place) (w : Walks root t u last to) where
+module _ (root : StorageRoot) (t u v : Store) (last to : Option Place) (w : Walks None root t u last to) where
   walk_then : (qs : List Place) (os : List Opening) → Audits None root u v qs [] [] os → Audits None root t v qs (looked_between root last to) (read_between root last to) (w.trail ++ os)
   walk_then qs os k =
-      audits_as (append-nil (looked_between root last to)) (append-nil (read_between root last to)) (audits_on None root t u v [] qs _ [] _ [] w.trail os w.audits k)
+      audits_as None (append-nil (looked_between root last to)) (append-nil (read_between root last to)) (audits_on None root t u v [] qs _ [] _ [] w.trail os w.audits k)
 
   walk_then_fails : (qs : List Place) (os : List Opening) (failed : Option Place) → Fails None root u v qs [] [] os failed
       → Fails None root t v qs (looked_between root last to) (read_between root last to) (w.trail ++ os) failed
@@ -155,7 +155,7 @@ unfoldable pub passes_none : (root : StorageRoot) (e : End) (s : Store) (old : O
 passes_none root e s old from over = record {
   done = [];
   trail = [];
-  audits = audits_as (sym (looked_self root from)) (sym (read_self root from)) (audits_nothing None root s over);
+  audits = audits_as None (sym (looked_self root from)) (sym (read_self root from)) (audits_nothing None root s over);
   due_are = refl;
   inside = refl;
   last_is = refl;
@@ -178,7 +178,7 @@ pub due_beyond : (root : StorageRoot) (last : Option Place) (p : Place) (rest : 
 due_beyond root last p rest e = among_beyond root last p (subst (λ zs. IsAmong zs p) (sym e) (inl refl))
 
 -- what is due is not before a directory that was listed on the way to it
-pub ahead_of : (root : StorageRoot) (last : Option Place) (d : Place) → IsWithin (next_due root last) d → (y : Place) → IsAmong (due None root last) y → is_lt (place_cmp y d) ≡ false
+pub ahead_of : (root : StorageRoot) (last : Option Place) (d : Place) → IsWithin (next_due None root last) d → (y : Place) → IsAmong (due None root last) y → is_lt (place_cmp y d) ≡ false
 ahead_of root last d near y i = by (due None root last) refl near i
   where
     by : (ps : List Place) → due None root last ≡ ps → IsWithin (slice_get ps 0) d → IsAmong ps y → is_lt (place_cmp y d) ≡ false
@@ -188,13 +188,13 @@ ahead_of root last d near y i = by (due None root last) refl near i
         let up : IsAscending place_cmp (p ∷ ps) = subst (IsAscending place_cmp) e (due_ascends root last) in
         not_less_or y p d (not_below p y (before_each place_cmp p ps up.0 y j)) n
 
-pub lost_ahead : (root : StorageRoot) (t u : Store) (last : Option Place) (e : End) (why : Fault) (w : FailsOut root t u last e why) (d y : Place)
+pub lost_ahead : (root : StorageRoot) (t u : Store) (last : Option Place) (e : End) (why : Fault) (w : FailsOut None root t u last e why) (d y : Place)
     → IsAmong w.listed d → IsAmong (due None root last) y → is_lt (place_cmp y d) ≡ false
 unfolding looked_between
 lost_ahead root t u last e why w d y i j =
     let front = subst (λ ps. IsAmong ps d) (sym w.listed_front.1) (among_left w.listed w.listed_front.0 d i) in
-    let there = (among_from_filter (λ z. not (is_past e z)) (looked_between root last (next_due root last)) d front).0 in
-    ahead_of root last d (from_between _ last (next_due root last) d there).2 y j
+    let there = (among_from_filter (λ z. not (is_past e z)) (looked_between root last (next_due None root last)) d front).0 in
+    ahead_of root last d (from_between _ last (next_due None root last) d there).2 y j
 
 -- and what is above the last place is not before one that was listed up to there
 pub up_ahead : (root : StorageRoot) (from last : Option Place) (d y : Place) → IsAmong (up_to_last (looked_between root) from last) d → IsAmong (due None root last) y → is_lt (place_cmp y d) ≡ false
@@ -209,7 +209,7 @@ module _ (root : StorageRoot) (e : End) (s t u : Store) (old mid : Option (List 
   halves = ap (before_end e) h.due_are ∙ filter_append (λ z. not (is_past e z)) h.done (due None root last) ∙ ap (λ ps. ps ++ due_in root e last) h.inside
 
   module _ (p : Place) (up : IsBeyond last p) (least : due None root last ≡ p ∷ due None root (Some p)) (in_front : is_past e p ≡ false)
-      (w : Walks root t u last (Some p)) (v : Store) (new : Option (List ℕ)) where
+      (w : Walks None root t u last (Some p)) (v : Store) (new : Option (List ℕ)) where
     pub due_with : due None root from ≡ h.done ++ ((p ∷ []) ++ due None root (Some p))
     due_with = h.due_are ∙ ap (λ ps. h.done ++ ps) least
 
@@ -239,7 +239,7 @@ module _ (root : StorageRoot) (e : End) (s t u : Store) (old mid : Option (List 
         record {
           done = h.done ++ p ∷ [];
           trail = h.trail ++ (w.trail ++ k.trail);
-          audits = audits_as (looked_next root e from last low p up) (read_next root e from last low p up) (audits_on None root s t v h.done (p ∷ []) _ _ _ _ h.trail (w.trail ++ k.trail) h.audits both);
+          audits = audits_as None (looked_next root e from last low p up) (read_next root e from last low p up) (audits_on None root s t v h.done (p ∷ []) _ _ _ _ h.trail (w.trail ++ k.trail) h.audits both);
           due_are = due_with ∙ sym (append_assoc h.done (p ∷ []) (due None root (Some p)));
           inside = filter_append (λ z. not (is_past e z)) h.done (p ∷ []) ∙ ap (λ ps. ps ++ before_end e (p ∷ [])) h.inside ∙ ap (λ b. h.done ++ cond (not b) (p ∷ []) []) in_front;
           last_is = sym (last_append from h.done p);
@@ -308,7 +308,7 @@ module _ (root : StorageRoot) (e : End) (s t u : Store) (old mid : Option (List 
       items_before root h.trail os h.done [] (front_ascends root from h.done [] (due None root last) due_done) opened
 
   -- the walk did not get there
-  unfoldable pub passes_lost : (why : Fault) → FailsOut root t u last e why → Halts root e s u old mid from last finding (halt.Fault why)
+  unfoldable pub passes_lost : (why : Fault) → FailsOut None root t u last e why → Halts root e s u old mid from last finding (halt.Fault why)
   passes_lost why w =
       let trail : List Opening = h.trail ++ w.trail in
       let before : items_at None root trail h.done ≡ items_at None root h.trail h.done = walked_on w.trail w.fails.opened in
@@ -344,10 +344,10 @@ module _ (root : StorageRoot) (e : End) (s t u : Store) (old mid : Option (List 
   pub all_done : due_in root e last ≡ [] → h.done ≡ due_in root e from
   all_done none = sym (halves ∙ ap (λ ps. h.done ++ ps) none ∙ append-nil h.done)
 
-  pub finished_items : (w : WalksOut root t u last e) → due_in root e last ≡ [] → items_at None root h.trail h.done ≡ items_at None root (h.trail ++ w.trail) (due_in root e from)
+  pub finished_items : (w : WalksOut None root t u last e) → due_in root e last ≡ [] → items_at None root h.trail h.done ≡ items_at None root (h.trail ++ w.trail) (due_in root e from)
   finished_items w none = sym (walked_on w.trail w.audits.opened) ∙ ap (items_at None root (h.trail ++ w.trail)) (all_done none)
 
-  unfoldable pub passes_finish : WalksOut root t u last e → due_in root e last ≡ [] → Finishes root e s u old mid from last finding
+  unfoldable pub passes_finish : WalksOut None root t u last e → due_in root e last ≡ [] → Finishes root e s u old mid from last finding
   passes_finish w none =
       let trail : List Opening = h.trail ++ w.trail in
       let done_is = all_done none in
@@ -356,7 +356,7 @@ module _ (root : StorageRoot) (e : End) (s t u : Store) (old mid : Option (List 
       record {
         trail = trail;
         audits = subst (λ ps. Audits None root s u ps (before_end e (looked_between root from None)) (before_end e (read_between root from None)) trail) (append-nil h.done ∙ done_is)
-            (audits_as (looked_end root e from last low) (read_end root e from last low) joined);
+            (audits_as None (looked_end root e from last low) (read_end root e from last low) joined);
         last_is = h.last_is ∙ ap (last_or from) done_is;
         wrote = subst (λ is. Appends old mid (text is)) before h.wrote;
         found_is = h.found_is ∙ ap found before;

@@ -82,7 +82,7 @@ pays_none root end s old from l spent files over e f = record {
 
 module _ (root : StorageRoot) (end : End) (s t u : Store) (old mid : Option (List ℕ)) (from last : Option Place) (l : Limits) (spent files : ℕ)
     (finding : Bool) (low : HasGoneOn end from last) (h : Pays root end s t old mid from last l spent files finding) where
-  module _ (p : Place) (up : IsBeyond last p) (least : due None root last ≡ p ∷ due None root (Some p)) (in_front : is_past end p ≡ false) (w : Walks root t u last (Some p)) where
+  module _ (p : Place) (up : IsBeyond last p) (least : due None root last ≡ p ∷ due None root (Some p)) (in_front : is_past end p ≡ false) (w : Walks None root t u last (Some p)) where
     module _ (v : Store) (new : Option (List ℕ)) (may : is_hashed None root p ≡ true → IsWithinBoth l spent files) where
       unfoldable pub pays_took : (cost charged started : ℕ) (more either : Bool) → Takes (call_of root u v mid new) p cost more → charged ≡ spent + cost
           → started ≡ files + files_of cost → either ≡ (finding || more)
@@ -119,7 +119,7 @@ module _ (root : StorageRoot) (end : End) (s t u : Store) (old mid : Option (Lis
           done = g.done;
           trail = trail;
           audits = subst (λ ps. Audits None root s u ps (looked_between root from (Some p)) (read_between root from (Some p)) trail) (append-nil g.done)
-              (audits_as (looked_next root end from last low p up) (read_next root end from last low p up) joined);
+              (audits_as None (looked_next root end from last low p up) (read_next root end from last low p up) joined);
           due_are = halves root end s t u old mid from last finding low g ∙ ap (λ ps. g.done ++ ps) (due_next root end s t u old mid from last finding low g p up least in_front w u mid);
           in_front = in_front;
           last_is = g.last_is;
@@ -131,7 +131,7 @@ module _ (root : StorageRoot) (end : End) (s t u : Store) (old mid : Option (Lis
         }
 
   -- the walk did not get there
-  unfoldable pub pays_lost : (why : Fault) → FailsOut root t u last end why → PaysHalting root end s u old mid from last l spent files finding (halt.Fault why)
+  unfoldable pub pays_lost : (why : Fault) → FailsOut None root t u last end why → PaysHalting root end s u old mid from last l spent files finding (halt.Fault why)
   unfolding passes_lost
   pays_lost why w = record {
     halts = passes_lost root end s t u old mid from last finding low h.passes why w;
@@ -140,7 +140,7 @@ module _ (root : StorageRoot) (end : End) (s t u : Store) (old mid : Option (Lis
   }
 
   -- nothing is left
-  pub pays_finish : WalksOut root t u last end → due_in root end last ≡ [] → PaysAll root end s u old mid from last l spent files finding
+  pub pays_finish : WalksOut None root t u last end → due_in root end last ≡ [] → PaysAll root end s u old mid from last l spent files finding
   unfolding passes_finish
   pays_finish w none = record {
     finishes = passes_finish root end s t u old mid from last finding low h.passes w none;

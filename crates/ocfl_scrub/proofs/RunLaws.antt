@@ -84,7 +84,7 @@ next_of (inr c) f = inr c
 -- ---- after a walk that went down to where the pass over a part begins
 
 module _ (root : StorageRoot) (part : Part) (s t u : Store) (old new : Option (List ℕ)) (from stood last : Option Place) (l : Limits)
-    (spent files : ℕ) (finding : Bool) (g : GoesDown root s t (entry part from)) where
+    (spent files : ℕ) (finding : Bool) (g : GoesDown None root s t (entry part from)) where
   module _ (os : List Opening) (done later : List Place) (due_are : due_in root (end_of part) (stand root part from) ≡ done ++ later) where
     are : items_in root (g.trail ++ os) part from ≡ items_at None root os done ++ items_at None root os later
     are = above_are root part s t from g os done later due_are
@@ -125,7 +125,7 @@ module _ (root : StorageRoot) (part : Part) (s t u : Store) (old new : Option (L
       let k = h.finishes in
       let all : List Place = due_in root (end_of part) (stand root part from) in
       runs_of k.trail all [] (sym (append-nil all)) h.counts None (nothing_stops root k.trail l spent files) (none_first root k.trail) (λ p d b n. tt)
-      (audits_as (looked_all root part from) (read_all root part from) k.audits) k.wrote k.found_is last_is
+      (audits_as None (looked_all root part from) (read_all root part from) k.audits) k.wrote k.found_is last_is
 
   -- the limits were reached
   pub spent_all : (h : PaysUpTo root (end_of part) t u old new (stand root part from) stood l spent files finding) → last ≡ last_or from h.done
@@ -133,7 +133,7 @@ module _ (root : StorageRoot) (part : Part) (s t u : Store) (old new : Option (L
   spent_all h last_is =
       runs_of h.trail h.done (h.next ∷ due_in root (end_of part) (Some h.next)) h.due_are h.counts (Some h.next)
       (unpaid_stops root h.trail l spent files h.next _ h.hashed h.reached) (some_first root h.trail h.next _) (λ p d b n. before_next p h.next d b.0 n)
-      (audits_as (looked_to root part from h.next h.in_front) (read_to root part from h.next h.in_front) h.audits) h.wrote h.found_is last_is
+      (audits_as None (looked_to root part from h.next h.in_front) (read_to root part from h.next h.in_front) h.audits) h.wrote h.found_is last_is
 
   -- there was a fault
   pub stopped : (why : ReportStop) (h : PaysHalting root (end_of part) t u old new (stand root part from) stood l spent files finding why) → last ≡ last_or from h.halts.done
@@ -193,7 +193,7 @@ lent_place None from e = e
 lent_place (Some p) from e = e
 
 -- no walk was started
-pub not_run : (root : StorageRoot) (part : Part) (s t : Store) (old : Option (List ℕ)) (from : Option Place) (l : Limits) (why : Fault) → GoDownFails root s t (entry part from) why
+pub not_run : (root : StorageRoot) (part : Part) (s t : Store) (old : Option (List ℕ)) (from : Option Place) (l : Limits) (why : Fault) → GoDownFails None root s t (entry part from) why
     → RunStopsWithin (call_of root s t old old) part from from l 0 0 false (halt.Fault why)
 unfolding nothing_out stops_above
 not_run root part s t old from l why g = record {

@@ -49,7 +49,7 @@ charged_item limits m cost charged started hashed e h c may f g = paid_item (lim
 pub record HasPaid (root : StorageRoot) (part : Part) (s t : Store) (old new : Option (List ℕ)) (from last : Option Place) (l : Limits) (spent files : ℕ) (finding : Bool) : Type 0 where
   pub begun : Store
   pub stood : Option Place
-  pub down : GoesDown root s begun (entry part from)
+  pub down : GoesDown None root s begun (entry part from)
   pub beyond : HasGoneOn (end_of part) (stand root part from) stood
   pub pays : Pays root (end_of part) begun t old new (stand root part from) stood l spent files finding
   pub last_is : last ≡ last_or from pays.passes.done
@@ -57,7 +57,7 @@ pub record HasPaid (root : StorageRoot) (part : Part) (s t : Store) (old new : O
 -- and the walk stands there still
 pub record HasStood (root : StorageRoot) (part : Part) (s t : Store) (old new : Option (List ℕ)) (walk : Walk) (from last : Option Place) (l : Limits) (spent files : ℕ) (finding : Bool) : Type 0 where
   pub paid : HasPaid root part s t old new from last l spent files finding
-  pub stands : Stands root walk paid.stood
+  pub stands : Stands None root walk paid.stood
 
 -- or it has met the next item
 pub record HasMet (root : StorageRoot) (part : Part) (s t : Store) (old new : Option (List ℕ)) (walk : Walk) (q : Pending) (from last : Option Place) (l : Limits) (spent files : ℕ) (finding : Bool) : Type 0 where
@@ -66,7 +66,7 @@ pub record HasMet (root : StorageRoot) (part : Part) (s t : Store) (old new : Op
   pub item : GivesItem root (end_of part) there t paid.stood walk q
 
 nothing_paid : (root : StorageRoot) (part : Part) (s t : Store) (old : Option (List ℕ)) (from : Option Place) (l : Limits) (spent files : ℕ) → spent ≡ 0 → files ≡ 0
-    → GoesDown root s t (entry part from) → HasPaid root part s t old old from from l spent files false
+    → GoesDown None root s t (entry part from) → HasPaid root part s t old old from from l spent files false
 unfolding passes_none pays_none
 nothing_paid root part s t old from l spent files e f down = record {
   begun = t;
@@ -78,7 +78,7 @@ nothing_paid root part s t old from l spent files e f down = record {
 }
 
 pub stands_first : (root : StorageRoot) (part : Part) (s t : Store) (old : Option (List ℕ)) (walk : Walk) (from : Option Place) (l : Limits)
-    → GoesDown root s t (entry part from) × Stands root walk (stand root part from) → (h : HasStood root part s t old old walk from from l 0 0 false) × (h.paid.stood ≡ stand root part from)
+    → GoesDown None root s t (entry part from) × Stands None root walk (stand root part from) → (h : HasStood root part s t old old walk from from l 0 0 false) × (h.paid.stood ≡ stand root part from)
 unfolding nothing_paid passes_none pays_none
 stands_first root part s t old walk from l there = (record { paid = nothing_paid root part s t old from l 0 0 refl refl there.0; stands = there.1 }, refl)
 
@@ -94,7 +94,7 @@ met_first root part s t old m from l spent files e f h = record {
 module _ {root : StorageRoot} {s t : Store} {old mid : Option (List ℕ)} {walk : Walk} {from last : Option Place} {l : Limits} {spent files : ℕ} {finding : Bool} (part : Part)
     (h : HasStood root part s t old mid walk from last l spent files finding) (u : Store) where
   -- nothing is left before the end
-  pub run_ended : (next : Walk) → GivesOut root t u h.paid.stood (end_of part) next None → RunsWithin (call_of root s u old mid) part from last l spent files finding None
+  pub run_ended : (next : Walk) → GivesOut None root t u h.paid.stood (end_of part) next None → RunsWithin (call_of root s u old mid) part from last l spent files finding None
   run_ended next gives =
       let k = h.paid in
       let all = all_done root (end_of part) k.begun t u old mid (stand root part from) k.stood finding k.beyond k.pays.passes gives.1 in
@@ -102,14 +102,14 @@ module _ {root : StorageRoot} {s t : Store} {old mid : Option (List ℕ)} {walk 
       (pays_finish root (end_of part) k.begun t u old mid (stand root part from) k.stood l spent files finding k.beyond k.pays gives.0 gives.1) (k.last_is ∙ ap (last_or from) all)
 
   -- the walk did not get to its next item
-  pub run_lost : (why : Fault) → FailsOut root t u h.paid.stood (end_of part) why → RunStopsWithin (call_of root s u old mid) part from last l spent files finding (halt.Fault why)
+  pub run_lost : (why : Fault) → FailsOut None root t u h.paid.stood (end_of part) why → RunStopsWithin (call_of root s u old mid) part from last l spent files finding (halt.Fault why)
   unfolding passes_lost pays_lost
   run_lost why lost =
       let k = h.paid in
       stopped root part s k.begun u old mid from k.stood last l spent files finding k.down (halt.Fault why)
       (pays_lost root (end_of part) k.begun t u old mid (stand root part from) k.stood l spent files finding k.beyond k.pays why lost) k.last_is
 
-  pub run_meets : (next : Walk) (q : Pending) → GivesOut root t u h.paid.stood (end_of part) next (Some q) → is_past (end_of part) q.place ≡ false
+  pub run_meets : (next : Walk) (q : Pending) → GivesOut None root t u h.paid.stood (end_of part) next (Some q) → is_past (end_of part) q.place ≡ false
       → HasMet root part s u old mid next q from last l spent files finding
   run_meets next q gives before = record {
     there = t;

@@ -91,7 +91,7 @@ front_of_one p false = (p ∷ [], refl)
 
 none_or_hashed : (root : StorageRoot) (p : Place) (part : Bool) → cond part (hashed_among None root (p ∷ [])) [] ≡ hashed_among None root (cond part (p ∷ []) [])
 none_or_hashed root p true = refl
-none_or_hashed root p false = sym (none_hashed root)
+none_or_hashed root p false = sym (none_hashed None root)
 
 -- the item was not judged
 pub unjudged : (root : StorageRoot) (s t : Store) (old : Option (List ℕ)) (p : Place) → JudgeFails None root s t p → Misses (call_of root s t old old) p (halt.Fault fault.Memory)

@@ -212,7 +212,7 @@ module _ (root : StorageRoot) where
 
 -- ---- a check
 
-module _ (root : StorageRoot) (s t : Store) (p : Place) (g : GoesDown root s t (Some p)) where
+module _ (root : StorageRoot) (s t : Store) (p : Place) (g : GoesDown None root s t (Some p)) where
   pub checked_lie : FilesLieIn root (p ∷ []) g.listed
   checked_lie q (inl e) h =
       let k = hashed_within root q h in

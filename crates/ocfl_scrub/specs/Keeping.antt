@@ -24,7 +24,7 @@ met_at kept = met_in kept.met
 pub record IsMet (root : StorageRoot) (part : Part) (from : Option Place) (m : Met) : Type 0 where
   pub before : Store
   pub after : Store
-  pub gives : Gives root before after (stand root part from) m.walk (Some m.item)
+  pub gives : Gives None root before after (stand root part from) m.walk (Some m.item)
   pub in_front : is_past (end_of part) m.item.place ≡ false
 
 abbrev pub IsReadyIn : StorageRoot → Part → Option Place → Option Met → Type 0
@@ -53,8 +53,8 @@ pub record GoesOnFrom (call : Call) (part : Part) (p : Place) (c : Cursor) (limi
   pub begun : Store
   pub there : Store
   pub behind : Store
-  pub down : GoesDown call.root before begun (entry part (place_in c.state))
-  pub way : Walks call.root begun there (stand call.root part (place_in c.state)) (Some p)
+  pub down : GoesDown None call.root before begun (entry part (place_in c.state))
+  pub way : Walks None call.root begun there (stand call.root part (place_in c.state)) (Some p)
   pub alike : IsAlike call.before call.after there behind
   pub runs : RunsFromWithin (call_of call.root before behind call.old call.new) part c limits ran
   pub looks : LooksAbove call part p

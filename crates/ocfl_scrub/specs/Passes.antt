@@ -30,8 +30,8 @@ EndsAt call part from limits pass =
 -- from s to t a walk went down to where a run above a place begins, and met an item
 pub record IsAhead (root : StorageRoot) (part : Part) (from : Option Place) (m : Met) (s t : Store) : Type 0 where
   pub begun : Store
-  pub down : GoesDown root s begun (entry part from)
-  pub gives : Gives root begun t (stand root part from) m.walk (Some m.item)
+  pub down : GoesDown None root s begun (entry part from)
+  pub gives : Gives None root begun t (stand root part from) m.walk (Some m.item)
   pub in_front : is_past (end_of part) m.item.place ≡ false
 
 -- a pass that took nothing ended so, whatever its limits and what was written before

@@ -51,7 +51,7 @@ pub fn check<T: Tree, W: Write>(
     ensures told { WhereTold T.told T.state W.contents store.old store.new out.old out.new (λ call.
         CheckEnds call place.now result.item result.found result.end) }
 {
-    let pending = match item_at(alloc, store, place) {
+    let pending = match item_at(alloc, store, None, place) {
         Ok(Some(pending)) => pending,
         Ok(None) => {
             return CheckEnd {

@@ -118,18 +118,19 @@ pub(crate) fn set_out<T: Tree>(
 ) -> Result<Walk, Fault>
     ensures told { IfTold T.told (T.state store.old) (λ root.
         let above = option_map (λ p. p.now) above.entry in MatchResult result
-        (λ walk. GoesDown root (T.state store.old) (T.state store.new)
-        (entry (part_of part.now) above) × Stands root walk (stand root (part_of part.now) above))
-        (λ why. GoDownFails root (T.state store.old) (T.state store.new)
+        (λ walk. GoesDown None root (T.state store.old) (T.state store.new)
+        (entry (part_of part.now) above)
+        × Stands None root walk (stand root (part_of part.now) above))
+        (λ why. GoDownFails None root (T.state store.old) (T.state store.new)
         (entry (part_of part.now) above) why)) }
 {
     let Some(first) = part.first_place() else {
-        return Walk::start(alloc, store, above);
+        return Walk::start(alloc, store, None, above);
     };
     if is_before(above, first) {
-        Walk::start_at(alloc, store, first)
+        Walk::start_at(alloc, store, None, first)
     } else {
-        Walk::start(alloc, store, above)
+        Walk::start(alloc, store, None, above)
     }
 }
 

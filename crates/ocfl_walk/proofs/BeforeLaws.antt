@@ -12,7 +12,7 @@ use Rattle.ocfl_rules.specs.Audit.{candidates}
 use Rattle.ocfl_rules.specs.Between.{looked_between, read_between, up_to}
 use Rattle.ocfl_rules.specs.Due.{due, item_places, places_after}
 use Rattle.ocfl_rules.specs.Lines.{is_empty}
-use Rattle.ocfl_rules.specs.Inventories.{notes}
+use Rattle.ocfl_rules.specs.Inventories.{Further, notes}
 use Rattle.ocfl_rules.proofs.AuditExists.{seen_candidate}
 use Rattle.ocfl_rules.proofs.BelowLaws.{less_from}
 use Rattle.ocfl_rules.proofs.BetweenLaws.{directories, from_directory, from_object, looked_seen, objects, read_seen}
@@ -159,13 +159,9 @@ module _ (root : StorageRoot) (p : Place) where
   from_up_to ps None = refl
   from_up_to ps (Some b) = filter_swap (λ q. not (is_lt (place_cmp b q))) (λ q. not (is_lt (place_cmp q p))) ps
 
-  pub item_candidate : (x : Place) → IsAmong (item_places None root) x → IsAmong (candidates root) x
+  pub item_candidate : (further : Further) (x : Place) → IsAmong (item_places further root) x → IsAmong (candidates root) x
   unfolding item_places
-  item_candidate x i = (among_ascending place_cmp_exact (candidates root) x).1 (among_from_filter (λ y. not (is_empty (notes None root None y))) (ascending place_cmp (candidates root)) x i).0
-
-  pub due_from : due None root (place_before root p) ≡ places_from p (item_places None root)
-  unfolding due
-  due_from = from_after (item_places None root) item_candidate
+  item_candidate further x i = (among_ascending place_cmp_exact (candidates root) x).1 (among_from_filter (λ y. not (is_empty (notes further root None y))) (ascending place_cmp (candidates root)) x i).0
 
   pub looked_from : (to : Option Place) → looked_between root (place_before root p) to ≡ places_from p (looked_between root None to)
   unfolding looked_between
@@ -174,6 +170,10 @@ module _ (root : StorageRoot) (p : Place) where
   pub read_from : (to : Option Place) → read_between root (place_before root p) to ≡ places_from p (read_between root None to)
   unfolding read_between
   read_from to = ap (λ xs. up_to xs to) (from_after (objects root) (λ x i. seen_candidate root x dir (read_seen root x (from_object root x i)).0)) ∙ from_up_to (objects root) to
+
+pub due_from : (further : Further) (root : StorageRoot) (p : Place) → due further root (place_before root p) ≡ places_from p (item_places further root)
+unfolding due
+due_from further root p = from_after root p (item_places further root) (item_candidate root p further)
 
 -- ---- the directory of a place
 

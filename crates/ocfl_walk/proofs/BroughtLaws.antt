@@ -5,6 +5,7 @@ use Rattle.std.specs.{Prelude.{cond, Result, Ok, Err, IfOk, MatchResult}, Orderi
 use Rattle.ocfl_tree.specs.{Place.{Text, Place, text_cmp}, Ascending.{IsAscending, IsBeforeAll}}
 use Rattle.ocfl_tree.specs.{StorageRoot.{StorageRoot, names_in, max_entries}, Store.{Store}}
 use Rattle.ocfl_tree.specs.{Listing.{kind_at}, declared.store.Entry.{Entry}}
+use Rattle.ocfl_rules.specs.Inventories.{Further}
 use Rattle.ocfl_rules.specs.{Zone.{hierarchy, inside, zone}, Walk.{seen_names}}
 use Rattle.ocfl_rules.specs.Stack.{IsListed, listed_at, seen_left, seen_places}
 use Rattle.ocfl_item.specs.{Ways.{IsAt, way_below}, Around.{IsPart, IsTableAround}}
@@ -90,22 +91,22 @@ orderly_at d e r q n ps a (Err why) same is h = tt
 
 -- ---- on a store that tells its tree
 
-module _ {root : StorageRoot} {d : Place} {es : List Entry} {ps qs : List Pile} {left : List Entry} (at : IsAt root d es) (top : qs ≡ (d, left) ∷ ps) where
+module _ (further : Further) {root : StorageRoot} {d : Place} {es : List Entry} {ps qs : List Pile} {left : List Entry} (at : IsAt root d es) (top : qs ≡ (d, left) ∷ ps) where
   seen_here : seen_names root d ≡ names_in root d
   seen_here = ap (λ b. cond b (names_in root d) []) at.reached
 
-  part_table : (a : Option Around) → IsPart None root d a → IsTableAround None root d a
+  part_table : (a : Option Around) → IsPart further root d a → IsTableAround further root d a
   part_table None z = λ o s e. absurd (let two : hierarchy ≡ inside o s = sym z ∙ e in cc)
   part_table (Some b) p = p
 
-  pub brought_end : (q : Place) (a : Option Around) → length q ≡ 0 → names_of left ≡ names_in root d → AreEntries root d left → IsPart None root d a → IsBrought root d q ps qs a
+  pub brought_end : (q : Place) (a : Option Around) → length q ≡ 0 → names_of left ≡ names_in root d → AreEntries root d left → IsPart further root d a → IsBrought further root d q ps qs a
   brought_end q a none names are part =
       let e : frames_of qs ≡ (d, seen_names root d) ∷ frames_of ps = ap frames_of top ∙ ap (λ ns. (d, ns) ∷ frames_of ps) (names ∙ sym seen_here) in
-      subst (λ x. IsBrought root d x ps qs a) (sym (nil_from_length q none)) (record {
+      subst (λ x. IsBrought further root d x ps qs a) (sym (nil_from_length q none)) (record {
         stack = ap (seen_left (seen_places root)) e;
         listed = λ h. subst (IsListed root) (sym e) ((λ m i. i), h);
         entries = λ h. subst (HaveEntries root) (sym top) (are, h);
-        table = subst (λ x. IsTableAround None root x a) (sym (append-nil d)) (part_table a part);
+        table = subst (λ x. IsTableAround further root x a) (sym (append-nil d)) (part_table a part);
       })
 
   module _ (n : Text) (whole : List Entry) (left_is : left ≡ left_above n whole) (names : names_of whole ≡ names_in root d) (are : AreEntries root d whole) where
@@ -120,15 +121,15 @@ module _ {root : StorageRoot} {d : Place} {es : List Entry} {ps qs : List Pile} 
         subst (HaveEntries root) (sym top)
         (subst (AreEntries root d) (sym left_is) (left_all (λ (e : Entry). is_lt (text_cmp n e.name)) (λ e. kind_at root d e.name ≡ Some e.kind) whole are), h)
 
-    brought_on : (r : Place) (new : List Pile) (a : Option Around) → IsBrought root (d ++ n ∷ []) r qs new a → IsBrought root d (n ∷ r) ps new a
+    brought_on : (r : Place) (new : List Pile) (a : Option Around) → IsBrought further root (d ++ n ∷ []) r qs new a → IsBrought further root d (n ∷ r) ps new a
     brought_on r new a h = record {
       stack = h.stack ∙ ap (λ fr. seen_left (seen_places root) (listed_at root (d ++ n ∷ []) r fr)) frames_are;
       listed = λ k. h.listed (listed_left k);
       entries = λ k. h.entries (entries_left k);
-      table = subst (λ x. IsTableAround None root x a) (append_one d r n) h.table;
+      table = subst (λ x. IsTableAround further root x a) (append_one d r n) h.table;
     }
 
-    brought_stop : (r : Place) (a : Option Around) → IsShut root d n r a → IsBrought root d (n ∷ r) ps qs a
+    brought_stop : (r : Place) (a : Option Around) → IsShut further root d n r a → IsBrought further root d (n ∷ r) ps qs a
     brought_stop r a h = record {
       stack = ap (seen_left (seen_places root)) frames_are ∙ sym (start_stops root (seen_places root) (d ++ n ∷ []) r ((d, above_of n (seen_names root d)) ∷ frames_of ps) h.out);
       listed = listed_left;
@@ -138,29 +139,29 @@ module _ {root : StorageRoot} {d : Place} {es : List Entry} {ps qs : List Pile} 
 
     module _ (s t : Store) (r q : Place) (is : q ≡ n ∷ r) (old new : Option Around) where
       -- no further
-      pub came_stop : Leads root s t d n r old new (Ok None) → Comes root s t (way_below d q) [] (may_open old (zone root (d ++ q))) [] × IsBrought root d q ps qs new
-      came_stop h = subst (λ x. Comes root s t (way_below d x) [] (may_open old (zone root (d ++ x))) [] × IsBrought root d x ps qs new) (sym is) (h.gives.0, brought_stop r new h.gives.1)
+      pub came_stop : Leads further root s t d n r old new (Ok None) → Comes further root s t (way_below d q) [] (may_open old (zone root (d ++ q))) [] × IsBrought further root d q ps qs new
+      came_stop h = subst (λ x. Comes further root s t (way_below d x) [] (may_open old (zone root (d ++ x))) [] × IsBrought further root d x ps qs new) (sym is) (h.gives.0, brought_stop r new h.gives.1)
 
       -- and on
-      module _ (u : Store) (inner : Folder) (rs : List Pile) (a : Option Around) (h : Leads root s t d n r old new (Ok (Some inner))) where
+      module _ (u : Store) (inner : Folder) (rs : List Pile) (a : Option Around) (h : Leads further root s t d n r old new (Ok (Some inner))) where
         -- what comes of the way on from a directory
         abbrev Onwards : Store → Place → Place → List Pile → Option Around → Result Unit Fault → Type 0
-        Onwards v c x from may res = MatchResult res (λ _. Comes root v u (way_below c x) [] (may_open may (zone root (c ++ x))) [] × IsBrought root c x from rs a)
-            (λ why. DescendFails root v u (way_below c x) (may_open may (zone root (c ++ x))) why)
+        Onwards v c x from may res = MatchResult res (λ _. Comes further root v u (way_below c x) [] (may_open may (zone root (c ++ x))) [] × IsBrought further root c x from rs a)
+            (λ why. DescendFails further root v u (way_below c x) (may_open may (zone root (c ++ x))) why)
 
         then : (res : Result Unit Fault) → Onwards t (d ++ n ∷ []) r qs new res → Onwards s d (n ∷ r) ps old res
         then (Ok x) k = (
-          comes_on root s t u (way_below d (n ∷ r)) (way_below (d ++ n ∷ []) r) (may_open old (zone root (d ++ n ∷ r))) (may_open new (zone root (d ++ n ∷ r))) [] [] h.gives.0
-              (subst (λ p. Comes root t u (way_below (d ++ n ∷ []) r) [] (may_open new (zone root p)) []) (append_one d r n) k.0),
+          comes_on root further s t u (way_below d (n ∷ r)) (way_below (d ++ n ∷ []) r) (may_open old (zone root (d ++ n ∷ r))) (may_open new (zone root (d ++ n ∷ r))) [] [] h.gives.0
+              (subst (λ p. Comes further root t u (way_below (d ++ n ∷ []) r) [] (may_open new (zone root p)) []) (append_one d r n) k.0),
           brought_on r rs a k.1,
         )
         then (Err why) k =
-            descent_fails_on root s t u (way_below d (n ∷ r)) (way_below (d ++ n ∷ []) r) (may_open old (zone root (d ++ n ∷ r))) (may_open new (zone root (d ++ n ∷ r))) why h.gives.0.goes
-            (subst (λ p. DescendFails root t u (way_below (d ++ n ∷ []) r) (may_open new (zone root p)) why) (append_one d r n) k)
+            descent_fails_on further root s t u (way_below d (n ∷ r)) (way_below (d ++ n ∷ []) r) (may_open old (zone root (d ++ n ∷ r))) (may_open new (zone root (d ++ n ∷ r))) why h.gives.0.goes
+            (subst (λ p. DescendFails further root t u (way_below (d ++ n ∷ []) r) (may_open new (zone root p)) why) (append_one d r n) k)
 
         pub came_on : (res : Result Unit Fault) → Onwards t inner.place r qs new res → Onwards s d q ps old res
         came_on res k = subst (λ x. Onwards s d x ps old res) (sym is) (then res (subst (λ e. Onwards t e r qs new res) h.gives.1.place k))
 
-pub came_fails : (root : StorageRoot) (s t : Store) (d q r : Place) (n : Text) (old new : Option Around) (why : Fault) → q ≡ n ∷ r
-    → Leads root s t d n r old new (Err why) → DescendFails root s t (way_below d q) (may_open old (zone root (d ++ q))) why
-came_fails root s t d q r n old new why is h = subst (λ x. DescendFails root s t (way_below d x) (may_open old (zone root (d ++ x))) why) (sym is) h.gives
+pub came_fails : (further : Further) (root : StorageRoot) (s t : Store) (d q r : Place) (n : Text) (old new : Option Around) (why : Fault) → q ≡ n ∷ r
+    → Leads further root s t d n r old new (Err why) → DescendFails further root s t (way_below d q) (may_open old (zone root (d ++ q))) why
+came_fails further root s t d q r n old new why is h = subst (λ x. DescendFails further root s t (way_below d x) (may_open old (zone root (d ++ x))) why) (sym is) h.gives

@@ -10,6 +10,7 @@ use Rattle.ocfl_walk.specs.Internal.Standing.{IsBelowNext, IsOrderlyIf, TurnIs, 
 use Rattle.ocfl_walk.specs.{Internal.Walking.{GoesOn}}
 use Rattle.ocfl_walk.specs.{declared.end.End.{End}, declared.stand.Stand.{Stand}}
 use Rattle.ocfl_walk.specs.{declared.stand.Step.{Step}, declared.stand.Turn.{Turn}}
+use Rattle.ocfl_rules.specs.Inventories.{Further}
 use Rattle.ocfl_rules.specs.Between.{IsBeyond}
 use Rattle.ocfl_item.specs.declared.meeting.Around.{Around}
 use Rattle.ocfl_walk.specs.declared.stand.Step.TheVariants as step
@@ -97,18 +98,18 @@ module _ (ps qs : List Pile) (a : Option Around) (is : qs ≡ trimmed ps) where
   mid_size last = ap (λ xs. size_of last xs a) is ∙ size_trimmed last ps a
 
 -- the same walk without the listings that are empty
-pub mid_at : (root : StorageRoot) (old : Stand) (mid : Listings) → piles_in old.last mid.items ≡ trimmed (piles_in old.last old.listings.items) → (last : Option Place) → StandsAt root old last
-    → StandsAt root (record { listings = mid; around = old.around; last = old.last }) last
-mid_at root old mid is None st = st
-mid_at root old mid is (Some p) st = (st.0, subst (λ xs. IsStanding root p xs old.around) (sym is) (standing_trimmed root p (piles_in old.last old.listings.items) old.around st.1))
+pub mid_at : (further : Further) (root : StorageRoot) (old : Stand) (mid : Listings) → piles_in old.last mid.items ≡ trimmed (piles_in old.last old.listings.items) → (last : Option Place) → StandsAt further root old last
+    → StandsAt further root (record { listings = mid; around = old.around; last = old.last }) last
+mid_at further root old mid is None st = st
+mid_at further root old mid is (Some p) st = (st.0, subst (λ xs. IsStanding further root p xs old.around) (sym is) (standing_trimmed root further p (piles_in old.last old.listings.items) old.around st.1))
 
 -- what the turn that is chosen comes to
-pub chosen_turn : (ps : List Pile) (a : Option Around) → trimmed ps ≡ ps → (root : StorageRoot) (last : Option Place) (p : Place) (t : Turn) → last ≡ Some p → IsOrderlyIf last ps a
-    → IsStanding root p ps a → t ≡ turn_of (next_of ps) (path_from p a) → TurnIs root p ps t
-chosen_turn ps a trim root last p t l o h e =
+pub chosen_turn : (further : Further) (ps : List Pile) (a : Option Around) → trimmed ps ≡ ps → (root : StorageRoot) (last : Option Place) (p : Place) (t : Turn) → last ≡ Some p → IsOrderlyIf last ps a
+    → IsStanding further root p ps a → t ≡ turn_of (next_of ps) (path_from p a) → TurnIs further root p ps t
+chosen_turn further ps a trim root last p t l o h e =
     let fit = fit_of p ps a (subst (λ x. IsOrderlyIf x ps a) l o) in
-    subst (λ xs. TurnIs root p xs t) trim
-    (turn_comes root p ps a t h fit (e ∙ ap (λ xs. turn_of (next_of xs) (path_from p a)) (sym trim)) (λ b. not_base (next_of ps) (path_from p a) (sym b ∙ e)))
+    subst (λ xs. TurnIs further root p xs t) trim
+    (turn_comes further root p ps a t h fit (e ∙ ap (λ xs. turn_of (next_of xs) (path_from p a)) (sym trim)) (λ b. not_base (next_of ps) (path_from p a) (sym b ∙ e)))
 
 pub sizes : (old mid : Stand) → mid.last ≡ old.last → mid.around ≡ old.around → piles_in mid.last mid.listings.items ≡ trimmed (piles_in old.last old.listings.items) → stand_size mid ≡ stand_size old
 unfolding stand_size
@@ -120,14 +121,14 @@ goes_from old mid new l z step.Nothing g = (g.0, g.1, subst (λ x. IsBeyond x g.
 goes_from old mid new l z step.End g = tt
 
 -- if the last place is there, the walk stands at it
-pub at_last : (root : StorageRoot) (old : Stand) (X : Option Place → Type 0) (last : Option Place) → StandsAt root old last → (old.last ≡ None → ⊥)
-    → ((p : Place) → old.last ≡ Some p → IsStanding root p (piles_in old.last old.listings.items) old.around → X (Some p)) → X last
-at_last root old X None st n k = absurd (n st)
-at_last root old X (Some p) st n k = k p st.0 st.1
+pub at_last : (further : Further) (root : StorageRoot) (old : Stand) (X : Option Place → Type 0) (last : Option Place) → StandsAt further root old last → (old.last ≡ None → ⊥)
+    → ((p : Place) → old.last ≡ Some p → IsStanding further root p (piles_in old.last old.listings.items) old.around → X (Some p)) → X last
+at_last further root old X None st n k = absurd (n st)
+at_last further root old X (Some p) st n k = k p st.0 st.1
 
-pub at_first : (root : StorageRoot) (old : Stand) (X : Option Place → Type 0) (last : Option Place) → StandsAt root old last → old.last ≡ None → X None → X last
-at_first root old X None st n k = k
-at_first root old X (Some p) st n k = absurd (let e : None ≡ Some p = sym n ∙ st.0 in cc)
+pub at_first : (further : Further) (root : StorageRoot) (old : Stand) (X : Option Place → Type 0) (last : Option Place) → StandsAt further root old last → old.last ≡ None → X None → X last
+at_first further root old X None st n k = k
+at_first further root old X (Some p) st n k = absurd (let e : None ≡ Some p = sym n ∙ st.0 in cc)
 
 -- ---- the turn before the end
 

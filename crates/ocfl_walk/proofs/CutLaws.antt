@@ -9,6 +9,7 @@ use Rattle.ocfl_tree.specs.Place.{Place, Text, text_cmp, place_cmp, begins}
 use Rattle.ocfl_tree.specs.{Ascending.{IsAmong, IsBeforeAll}, StorageRoot.{StorageRoot, Leaf, dir}}
 use Rattle.ocfl_tree.specs.{Listing.{kind_at}, declared.store.Entry.{Entry}}
 use Rattle.ocfl_tree.proofs.Orders.{place_cmp_total, place_cmp_exact, true_not_false, not_below_itself, ascending_unique, among_filter, among_from_filter, ascends_filter}
+use Rattle.ocfl_rules.specs.Inventories.{Further}
 use Rattle.ocfl_rules.specs.Audit.{candidates}
 use Rattle.ocfl_rules.specs.Stack.{Frame, IsListed, IsStack, seen_in, seen_left, seen_places}
 use Rattle.ocfl_rules.specs.{Walk.{seen_names}, Zone.{inside, seen, table_at, zone}}
@@ -266,35 +267,35 @@ module _ (root : StorageRoot) (d : Place) (n : Text) (q : Place) (j : IsJustBefo
     nothing_between : (y : Place) → IsAmong (candidates root) y → place_cmp q y ≡ Less → place_cmp y x ≡ Less → ⊥
     nothing_between y i l m = true_not_false (sym (ap is_lt (below_from y x p m low)) ∙ j.next y i l)
 
-    turn_low : (fs : List Frame) → place_cmp q x ≡ Less → IsStack root x fs → IsListed root fs → IsTurn root q x fs
-    turn_low fs over stack listed =
-        turn_by root q x fs over (λ y leaf s l m. nothing_between y (seen_candidate root y leaf s) l m)
+    turn_low : (further : Further) (fs : List Frame) → place_cmp q x ≡ Less → IsStack root x fs → IsListed root fs → IsTurn further root q x fs
+    turn_low further fs over stack listed =
+        turn_by further root q x fs over (λ y leaf s l m. nothing_between y (seen_candidate root y leaf s) l m)
         (λ o s r t z e i l m. let is = zone_is root q o s z in nothing_between (o ++ r) (path_candidate root o r t e (object_key root o is.below (object_at root o is.declares)) i) l m)
         stack listed
 
   -- to an entry
-  pub turn_entry : (x : Place) → is_lt (place_cmp p x) ≡ false → (ps : List Pile) → next_of ps ≡ Some x → IsStack root q (frames_of ps)
-      → IsListed root (frames_of ps) → IsTurn root q x ((x, seen_names root x) ∷ popped ps)
-  turn_entry x low [] e st listed = absurd cc
-  turn_entry x low (t ∷ ps) e st listed = by t.0 t.1 e st listed
+  pub turn_entry : (further : Further) (x : Place) → is_lt (place_cmp p x) ≡ false → (ps : List Pile) → next_of ps ≡ Some x → IsStack root q (frames_of ps)
+      → IsListed root (frames_of ps) → IsTurn further root q x ((x, seen_names root x) ∷ popped ps)
+  turn_entry further x low [] e st listed = absurd cc
+  turn_entry further x low (t ∷ ps) e st listed = by t.0 t.1 e st listed
     where
       by : (c : Place) (es : List Entry) → next_in c es ≡ Some x → IsStack root q ((c, names_of es) ∷ frames_of ps)
-          → IsListed root ((c, names_of es) ∷ frames_of ps) → IsTurn root q x ((x, seen_names root x) ∷ popped_from c es ps)
+          → IsListed root ((c, names_of es) ∷ frames_of ps) → IsTurn further root q x ((x, seen_names root x) ∷ popped_from c es ps)
       by c [] e st listed = absurd cc
       by c (f ∷ es) e st listed =
           let is : c ++ f.name ∷ [] ≡ x = cc in
           let leaf = entry_seen root c f.name (listed.0 f.name (inl refl)) in
           let k = stack_pops root (is_closed root) q c f.name (names_of es) (frames_of ps) leaf.0 st leaf.1 in
-          subst (λ y. IsTurn root q y ((y, seen_names root y) ∷ (c, names_of es) ∷ frames_of ps)) is
-          (turn_low (c ++ f.name ∷ []) (subst (λ y. is_lt (place_cmp p y) ≡ false) (sym is) low) _ k.0 k.1.1 ((λ m i. i), ((λ m i. listed.0 m (inr i)), listed.1)))
+          subst (λ y. IsTurn further root q y ((y, seen_names root y) ∷ (c, names_of es) ∷ frames_of ps)) is
+          (turn_low (c ++ f.name ∷ []) (subst (λ y. is_lt (place_cmp p y) ≡ false) (sym is) low) further _ k.0 k.1.1 ((λ m i. i), ((λ m i. listed.0 m (inr i)), listed.1)))
 
   -- to p itself, if no entry is there
   module _ (ps : List Pile) (a : Option Around) (h : IsOrderly p ps a) (st : IsStack root q (frames_of ps)) where
     ahead : (x : Place) → IsAmong xs x → place_cmp q x ≡ Less → place_cmp p x ≡ Less
     ahead x i l = chain_over xs p levels (frames_of ps) h.chain x (subst (λ ys. IsAmong ys x) (sym st) (among_filter (above q) xs x i (ap is_lt l)))
 
-    pub turn_path : IsListed root (frames_of ps) → IsTurn root q p (frames_of ps)
-    turn_path listed = turn_low p (ap is_lt (equal_itself place_cmp_total p)) (frames_of ps) j.less
+    pub turn_path : (further : Further) → IsListed root (frames_of ps) → IsTurn further root q p (frames_of ps)
+    turn_path further listed = turn_low p (ap is_lt (equal_itself place_cmp_total p)) further (frames_of ps) j.less
         (st ∙ same_above xs (seen_ascend root) q p ahead (λ y i l. place_cmp_total.trans q p y j.less l)) listed
 
     pub path_unseen : seen root p ≡ None
@@ -306,13 +307,13 @@ module _ (root : StorageRoot) (d : Place) (n : Text) (q : Place) (j : IsJustBefo
 
 -- ---- the object around, one name further
 
-pub table_next : (root : StorageRoot) (d : Place) (n : Text) (a : Option Around) → IsTableAround None root d a → seen root (d ++ n ∷ []) ≡ None → IsTableAround None root (d ++ n ∷ []) a
-table_next root d n (Some b) h unseen = (h.0 ++ n ∷ [], inside_step root d b.place h.0 n h.1, h.2, h.3)
-table_next root d n None h unseen = within
+pub table_next : (further : Further) (root : StorageRoot) (d : Place) (n : Text) (a : Option Around) → IsTableAround further root d a → seen root (d ++ n ∷ []) ≡ None → IsTableAround further root (d ++ n ∷ []) a
+table_next further root d n (Some b) h unseen = (h.0 ++ n ∷ [], inside_step root d b.place h.0 n h.1, h.2, h.3)
+table_next further root d n None h unseen = within
   where
     within : (o s : Place) → zone root (d ++ n ∷ []) ≡ inside o s → table_at root o ≡ None
     within o s z = by (begins_last o d n (subst (λ y. begins o y ≡ true) (sym (zone_is root (d ++ n ∷ []) o s z).whole) (begins_front o s)))
       where
         by : (begins o d ≡ true) ⊎ (o ≡ d ++ n ∷ []) → table_at root o ≡ None
-        by (inl b) = let r = begins_rest o d b in h o r.0 (ap (zone root) r.1 ∙ object_zone root o s r.0 (d ++ n ∷ []) z)
+        by (inl b) = let r = begins_rest o d b in h o r.0 (ap (zone root) r.1 ∙ object_zone further root o s r.0 (d ++ n ∷ []) z)
         by (inr e) = absurd (let two : Some dir ≡ None = sym (head_seen root (is_closed root) (d ++ n ∷ []) o s z) ∙ ap (seen root) e ∙ unseen in cc)

@@ -10,7 +10,7 @@ use Rattle.ocfl_tree.proofs.Bools.{and_first, and_second, and_both}
 use Rattle.ocfl_tree.proofs.Orders.{place_cmp_total, place_cmp_exact, true_not_false, not_below_itself, below_from_greater}
 use Rattle.ocfl_inventory.specs.Note.{Note}
 use Rattle.ocfl_rules.specs.Zone.{seen}
-use Rattle.ocfl_rules.specs.Inventories.{notes}
+use Rattle.ocfl_rules.specs.Inventories.{Further, notes}
 use Rattle.ocfl_rules.specs.Due.{due, item_places}
 use Rattle.ocfl_rules.specs.Between.{IsBeyond, IsWithin, between, looked_between, read_between}
 use Rattle.ocfl_rules.specs.Stack.{NoneSeenBetween}
@@ -137,18 +137,18 @@ module _ (e : End) where
       unfolding read_between
       read_past = over (objects root) (Some last) (λ y i l. ahead y (read_seen root y (from_object root y i)).0 l)
 
-    due_above : (x : Place) → is_past e x ≡ true → before_end e (due None root (Some x)) ≡ []
+    due_above : (further : Further) (x : Place) → is_past e x ≡ true → before_end e (due further root (Some x)) ≡ []
     unfolding due
-    due_above x past = over (item_places None root) (Some x) (λ y i l. past_up e x y past l)
+    due_above further x past = over (item_places further root) (Some x) (λ y i l. past_up e x y past l)
 
-    pub due_past : (last x : Place) → is_past e x ≡ true → (notes None root None x ≢ [] → due None root (Some last) ≡ x ∷ due None root (Some x))
-        → (notes None root None x ≡ [] → due None root (Some last) ≡ due None root (Some x)) → before_end e (due None root (Some last)) ≡ []
-    due_past last x past some none = by (notes None root None x) refl
+    pub due_past : (further : Further) (last x : Place) → is_past e x ≡ true → (notes further root None x ≢ [] → due further root (Some last) ≡ x ∷ due further root (Some x))
+        → (notes further root None x ≡ [] → due further root (Some last) ≡ due further root (Some x)) → before_end e (due further root (Some last)) ≡ []
+    due_past further last x past some none = by (notes further root None x) refl
       where
-        by : (ns : List Note) → notes None root None x ≡ ns → before_end e (due None root (Some last)) ≡ []
-        by [] f = ap (before_end e) (none f) ∙ due_above x past
+        by : (ns : List Note) → notes further root None x ≡ ns → before_end e (due further root (Some last)) ≡ []
+        by [] f = ap (before_end e) (none f) ∙ due_above further x past
         by (n ∷ ns) f = ap (before_end e) (some (λ g. let two : n ∷ ns ≡ [] = sym f ∙ g in cc))
-            ∙ ap (λ b. cond (not b) (x ∷ before_end e (due None root (Some x))) (before_end e (due None root (Some x)))) past ∙ due_above x past
+            ∙ ap (λ b. cond (not b) (x ∷ before_end e (due further root (Some x))) (before_end e (due further root (Some x)))) past ∙ due_above further x past
 
     -- past the end from the storage root on
     pub all_past : is_past e [] ≡ true → (xs : List Place) → before_end e xs ≡ []

@@ -5,6 +5,7 @@ use Rattle.ocfl_tree.specs.{Place.{Place}, StorageRoot.{StorageRoot}, Store.{Sto
 use Rattle.ocfl_tree.specs.{Listing.{IsOrdinary}, Ascending.{IsAmong}, declared.store.Entry.{Entry}}
 use Rattle.ocfl_inventory.specs.{Declaration.{declared}, Entries.{file_names}}
 use Rattle.ocfl_inventory.specs.declared.declaration.Level.TheVariants as level
+use Rattle.ocfl_rules.specs.Inventories.{Further}
 use Rattle.ocfl_rules.specs.Zone.{hierarchy, skipped, root_declared, is_listed_zone, zone, is_known}
 use Rattle.ocfl_rules.specs.{Walk.{is_reached}, Stack.{seen_places}}
 use Rattle.ocfl_item.specs.{Looking.{way_to}, Ways.{Enters, IsHead, Stops, way_below}}
@@ -42,21 +43,21 @@ pub coming_root : (d : Place) (es : List Entry) (fs : List Folder) → d ≡ [] 
 coming_root d es fs e none ordinary =
     subst (λ x. IsComing d es (piles_of x) None) (sym none) (record { chain = tt; short = (let l : length d ≡ 0 = ap length e in omega (arith, l)); ordinary = ordinary; few = tt; object = tt })
 
-module _ (root : StorageRoot) where
+module _ (further : Further) (root : StorageRoot) where
   -- ---- the storage root
 
-  pub root_stops : (s t : Store) (d : Place) (why : Fault) → d ≡ [] → Stops None root s t (d ∷ []) [] why → ListsRoot root s t (Err why)
-  root_stops s t d why e h = record { gives = subst (λ x. Stops None root s t (x ∷ []) [] why) e h }
+  pub root_stops : (s t : Store) (d : Place) (why : Fault) → d ≡ [] → Stops further root s t (d ∷ []) [] why → ListsRoot further root s t (Err why)
+  root_stops s t d why e h = record { gives = subst (λ x. Stops further root s t (x ∷ []) [] why) e h }
 
   module _ (s t : Store) (base : Folder) (m : Head) (ordinary : IsOrdinary base.entries.items)
       (says : IsHead (declared level.Root (file_names base.entries.items)) m) (k : Enters root s t [] base.place base.entries.items) where
-    pub root_unknown : (m ≡ head.Known → ⊥) → ListsRoot root s t (Ok None)
+    pub root_unknown : (m ≡ head.Known → ⊥) → ListsRoot further root s t (Ok None)
     root_unknown unknown = record {
       gives =
           (k.did, ap is_known (declared_root root base.entries.items ordinary k.listing) ∙ head_unknown (declared level.Root (file_names base.entries.items)) m says unknown);
     }
 
-    pub root_known : m ≡ head.Known → ListsRoot root s t (Ok (Some base))
+    pub root_known : m ≡ head.Known → ListsRoot further root s t (Ok (Some base))
     root_known known = record { gives = (k.did, root_entered root s t base.place base.entries.items ordinary k (subst (IsHead (declared level.Root (file_names base.entries.items))) known says)) }
 
   unknown_out : is_known (root_declared root) ≡ false → is_reached root [] ≡ false
@@ -64,30 +65,30 @@ module _ (root : StorageRoot) where
 
   -- ---- the start
 
-  pub start_memory : (s : Store) (p : Place) → s.tree ≡ root → StartFails root s s p fault.Memory
-  start_memory s p over = descent_memory root s (way_to p) (holder_of (zone root p)) over
+  pub start_memory : (s : Store) (p : Place) → s.tree ≡ root → StartFails further root s s p fault.Memory
+  start_memory s p over = descent_memory further root s (way_to p) (holder_of (zone root p)) over
 
-  pub start_unlisted : (s t : Store) (p : Place) (why : Fault) → Stops None root s t ([] ∷ []) [] why → StartFails root s t p why
-  start_unlisted s t p why h = subst (λ w. DescendFails root s t w (holder_of (zone root p)) why) (sym (way_is p)) (listing_fails root s t [] (way_below [] p) (holder_of (zone root p)) why h)
+  pub start_unlisted : (s t : Store) (p : Place) (why : Fault) → Stops further root s t ([] ∷ []) [] why → StartFails further root s t p why
+  start_unlisted s t p why h = subst (λ w. DescendFails further root s t w (holder_of (zone root p)) why) (sym (way_is p)) (listing_fails further root s t [] (way_below [] p) (holder_of (zone root p)) why h)
 
   module _ (s t : Store) (p : Place) (over : s.tree ≡ root) (did : Did s t [] ([] ∷ []) 0) where
-    abbrev pub came : Descends root s t (way_to p) (way_below [] p) (holder_of (zone root p)) (holder_of (zone root p)) 0
+    abbrev pub came : Descends further root s t (way_to p) (way_below [] p) (holder_of (zone root p)) (holder_of (zone root p)) 0
     came = record {
-      calls = lists_calls root s t ([] ∷ []) 0 over did;
+      calls = lists_calls further root s t ([] ∷ []) 0 over did;
       only = refl;
       listed = ([], way_is p ∙ sym (append-nil ([] ∷ way_below [] p)));
       heads = ([], sym (append-nil (holder_of (zone root p))));
-      near = near_none None root ([] ∷ []);
+      near = near_none further root ([] ∷ []);
     }
 
-    abbrev pub comes_first : Comes root s t (way_to p) (way_below [] p) (holder_of (zone root p)) (holder_of (zone root p))
+    abbrev pub comes_first : Comes further root s t (way_to p) (way_below [] p) (holder_of (zone root p)) (holder_of (zone root p))
     comes_first = record { goes = came; all = λ e i k. subst (λ w. IsAmong w e) (way_is p) i }
 
     -- if nothing below the storage root is entered
-    pub start_listed : is_known (root_declared root) ≡ false → Starts root s t p
+    pub start_listed : is_known (root_declared root) ≡ false → Starts further root s t p
     start_listed none = record {
       comes = record {
-        goes = descends_end root s t (way_to p) (way_below [] p) (holder_of (zone root p)) (holder_of (zone root p)) 0 came;
+        goes = descends_end further root s t (way_to p) (way_below [] p) (holder_of (zone root p)) (holder_of (zone root p)) 0 came;
         all = λ e i k. by e (subst (λ w. IsAmong w e) (way_is p) i) k;
       };
       root_first = ([], refl);
@@ -98,35 +99,35 @@ module _ (root : StorageRoot) where
         by e (inr i) k = absurd (none_reached root [] p (unknown_out none) e i k)
 
     module _ (u : Store) (d q : Place) (root_is : d ≡ []) (same : q ≡ p) where
-      pub start_down : Comes root t u (way_below d q) [] (holder_of (zone root (d ++ q))) [] → Starts root s u p
+      pub start_down : Comes further root t u (way_below d q) [] (holder_of (zone root (d ++ q))) [] → Starts further root s u p
       start_down h = record {
-        comes = comes_on root s t u (way_to p) (way_below [] p) (holder_of (zone root p)) (holder_of (zone root p)) [] [] comes_first
-            (subst (λ x. Comes root t u (way_below [] x) [] (holder_of (zone root x)) []) same (subst (λ e. Comes root t u (way_below e q) [] (holder_of (zone root (e ++ q))) []) root_is h));
+        comes = comes_on root further s t u (way_to p) (way_below [] p) (holder_of (zone root p)) (holder_of (zone root p)) [] [] comes_first
+            (subst (λ x. Comes further root t u (way_below [] x) [] (holder_of (zone root x)) []) same (subst (λ e. Comes further root t u (way_below e q) [] (holder_of (zone root (e ++ q))) []) root_is h));
         root_first = (_, refl);
       }
 
-      pub start_stops_down : (why : Fault) → DescendFails root t u (way_below d q) (holder_of (zone root (d ++ q))) why → StartFails root s u p why
+      pub start_stops_down : (why : Fault) → DescendFails further root t u (way_below d q) (holder_of (zone root (d ++ q))) why → StartFails further root s u p why
       start_stops_down why h =
-          descent_fails_on root s t u (way_to p) (way_below [] p) (holder_of (zone root p)) (holder_of (zone root p)) why came
-          (subst (λ x. DescendFails root t u (way_below [] x) (holder_of (zone root x)) why) same (subst (λ e. DescendFails root t u (way_below e q) (holder_of (zone root (e ++ q))) why) root_is h))
+          descent_fails_on further root s t u (way_to p) (way_below [] p) (holder_of (zone root p)) (holder_of (zone root p)) why came
+          (subst (λ x. DescendFails further root t u (way_below [] x) (holder_of (zone root x)) why) same (subst (λ e. DescendFails further root t u (way_below e q) (holder_of (zone root (e ++ q))) why) root_is h))
 
   -- if the root's version is not known
-  standing_nothing : (p : Place) → is_known (root_declared root) ≡ false → IsStanding root p [] None
+  standing_nothing : (p : Place) → is_known (root_declared root) ≡ false → IsStanding further root p [] None
   standing_nothing p h = record {
     stack = sym (start_stops root (seen_places root) [] p [] (unknown_out h)) ∙ stack_starts root (is_closed root) p;
     listed = tt;
     entries = tt;
-    table = plain_table root p (plain_unknown root p h);
+    table = plain_table further root p (plain_unknown root p h);
   }
 
-  pub stands_nothing : (p : Place) (fs : List Folder) → fs ≡ [] → is_known (root_declared root) ≡ false → IsStanding root p (piles_of fs) None
-  stands_nothing p fs none h = subst (λ x. IsStanding root p (piles_of x) None) (sym none) (standing_nothing p h)
+  pub stands_nothing : (p : Place) (fs : List Folder) → fs ≡ [] → is_known (root_declared root) ≡ false → IsStanding further root p (piles_of fs) None
+  stands_nothing p fs none h = subst (λ x. IsStanding further root p (piles_of x) None) (sym none) (standing_nothing p h)
 
   -- and if it is
-  pub stands_brought : (p d q : Place) (fs : List Folder) (new : List Pile) (a : Option Around) → fs ≡ [] → d ≡ [] → q ≡ p → IsBrought root d q (piles_of fs) new a → IsStanding root p new a
+  pub stands_brought : (p d q : Place) (fs : List Folder) (new : List Pile) (a : Option Around) → fs ≡ [] → d ≡ [] → q ≡ p → IsBrought further root d q (piles_of fs) new a → IsStanding further root p new a
   stands_brought p d q fs new a none root_is same h =
-      let k : IsBrought root [] p [] new a = subst (λ x. IsBrought root [] x [] new a) same
-      (subst (λ x. IsBrought root x q [] new a) root_is (subst (λ x. IsBrought root d q (piles_of x) new a) none h)) in
+      let k : IsBrought further root [] p [] new a = subst (λ x. IsBrought further root [] x [] new a) same
+      (subst (λ x. IsBrought further root x q [] new a) root_is (subst (λ x. IsBrought further root d q (piles_of x) new a) none h)) in
       record {
         stack = k.stack ∙ stack_starts root (is_closed root) p;
         listed = k.listed tt;
@@ -134,23 +135,23 @@ module _ (root : StorageRoot) where
         table = k.table;
       }
 
-  pub stands_start : (s : Stand) (p : Place) → s.listings.items ≡ [] → s.around ≡ None → s.last ≡ Some p → is_known (root_declared root) ≡ false → StandsAt root s (Some p)
+  pub stands_start : (s : Stand) (p : Place) → s.listings.items ≡ [] → s.around ≡ None → s.last ≡ Some p → is_known (root_declared root) ≡ false → StandsAt further root s (Some p)
   stands_start s p none alone last h =
       let fs = folders_from 0 (spot_of s.last) s.listings.items in (
         last,
-        subst (λ a. IsStanding root p (piles_of fs) a) (sym alone) (stands_nothing p fs (folders_none (spot_of s.last) s.listings.items none) h),
+        subst (λ a. IsStanding further root p (piles_of fs) a) (sym alone) (stands_nothing p fs (folders_none (spot_of s.last) s.listings.items none) h),
       )
 
   -- the way from the storage root came to an end
   pub start_goes : (s t : Store) (p : Place) (over : s.tree ≡ root) (did : Did s t [] ([] ∷ []) 0) (u : Store) (d q : Place) (root_is : d ≡ []) (same : q ≡ p) (old new : Stand)
       → old.listings.items ≡ [] → old.around ≡ None → new.last ≡ Some p → (r : Result Unit Fault)
       → MatchResult r
-      (λ _. Comes root t u (way_below d q) [] (may_open old.around (zone root (d ++ q))) []
-      × IsBrought root d q (piles_in old.last old.listings.items) (piles_in new.last new.listings.items) new.around)
-      (λ why. DescendFails root t u (way_below d q) (may_open old.around (zone root (d ++ q))) why)
-      → MatchResult r (λ _. Starts root s u p × StandsAt root new (Some p)) (λ why. StartFails root s u p why)
+      (λ _. Comes further root t u (way_below d q) [] (may_open old.around (zone root (d ++ q))) []
+      × IsBrought further root d q (piles_in old.last old.listings.items) (piles_in new.last new.listings.items) new.around)
+      (λ why. DescendFails further root t u (way_below d q) (may_open old.around (zone root (d ++ q))) why)
+      → MatchResult r (λ _. Starts further root s u p × StandsAt further root new (Some p)) (λ why. StartFails further root s u p why)
   start_goes s t p over did u d q root_is same old new none alone last (Ok x) h = (
-    start_down s t p over did u d q root_is same (subst (λ a. Comes root t u (way_below d q) [] (may_open a (zone root (d ++ q))) []) alone h.0),
+    start_down s t p over did u d q root_is same (subst (λ a. Comes further root t u (way_below d q) [] (may_open a (zone root (d ++ q))) []) alone h.0),
     (
       last,
       stands_brought p d q (folders_from 0 (spot_of old.last) old.listings.items) (piles_in new.last new.listings.items) new.around
@@ -158,4 +159,4 @@ module _ (root : StorageRoot) where
     ),
   )
   start_goes s t p over did u d q root_is same old new none alone last (Err why) h =
-      start_stops_down s t p over did u d q root_is same why (subst (λ a. DescendFails root t u (way_below d q) (may_open a (zone root (d ++ q))) why) alone h)
+      start_stops_down s t p over did u d q root_is same why (subst (λ a. DescendFails further root t u (way_below d q) (may_open a (zone root (d ++ q))) why) alone h)

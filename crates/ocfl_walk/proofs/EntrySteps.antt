@@ -8,7 +8,7 @@ use Rattle.ocfl_tree.specs.declared.store.Entry.{Entry}
 use Rattle.ocfl_tree.proofs.Orders.{place_cmp_total, not_below_itself, true_not_false}
 use Rattle.ocfl_inventory.specs.Table.{Table}
 use Rattle.ocfl_rules.specs.Due.{due}
-use Rattle.ocfl_rules.specs.Inventories.{notes}
+use Rattle.ocfl_rules.specs.Inventories.{Further, notes}
 use Rattle.ocfl_rules.specs.Walk.{is_reached, seen_names}
 use Rattle.ocfl_rules.specs.Stack.{IsListed}
 use Rattle.ocfl_rules.specs.Zone.{Zone, skipped, hierarchy, inside, zone, table_at, is_listed_zone, is_listed_in_object}
@@ -50,7 +50,7 @@ begins_last (m ∷ o) (a ∷ d) n h = by (text_eq m a) refl h (begins_last o d n
         go (inr u) = inr (λ i. text_from_test m a e i ∷ u i)
     by false e g k = absurd (true_not_false (sym g))
 
-module _ (root : StorageRoot) where
+module _ (further : Further) (root : StorageRoot) where
   name_reached : (d : Place) (n : Text) → IsAmong (seen_names root d) n → is_reached root d ≡ true
   name_reached d n i = by (is_reached root d) refl i
     where
@@ -59,8 +59,8 @@ module _ (root : StorageRoot) where
       by false e j = absurd j
 
   -- which object holds the entry, if the directory is on the way to the last place
-  part_is : (last d : Place) (n : Text) (a : Option Around) → IsTableAround None root last a → begins d last ≡ true → is_reached root d ≡ true
-      → place_cmp last (d ++ n ∷ []) ≡ Less → IsPart None root d (still a (d ++ n ∷ []))
+  part_is : (last d : Place) (n : Text) (a : Option Around) → IsTableAround further root last a → begins d last ≡ true → is_reached root d ≡ true
+      → place_cmp last (d ++ n ∷ []) ≡ Less → IsPart further root d (still a (d ++ n ∷ []))
   part_is last d n a h b r l = by (zone root d) refl (reached_listed root d r)
     where
       x : Place
@@ -69,7 +69,7 @@ module _ (root : StorageRoot) where
       way : (w : Place) × (last ≡ d ++ w)
       way = begins_rest d last b
 
-      outside : (a : Option Around) → IsTableAround None root last a → zone root d ≡ hierarchy → still a x ≡ None
+      outside : (a : Option Around) → IsTableAround further root last a → zone root d ≡ hierarchy → still a x ≡ None
       outside None k e = refl
       outside (Some o) k e = go (begins o.place x) refl
         where
@@ -82,7 +82,7 @@ module _ (root : StorageRoot) where
 
           no : (begins o.place d ≡ true) ⊎ (o.place ≡ x) → ⊥
           no (inl g) = let w = begins_rest o.place d g in
-              let z : zone root d ≡ inside o.place w.0 = ap (zone root) w.1 ∙ object_zone root o.place k.0 w.0 last k.1 in let bad : hierarchy ≡ inside o.place w.0 = sym e ∙ z in cc
+              let z : zone root d ≡ inside o.place w.0 = ap (zone root) w.1 ∙ object_zone further root o.place k.0 w.0 last k.1 in let bad : hierarchy ≡ inside o.place w.0 = sym e ∙ z in cc
           no (inr g) = not_above k.0 (whole ∙ ap (λ y. y ++ k.0) g)
 
           go : (c : Bool) → begins o.place x ≡ c → cond c (Some o) None ≡ None
@@ -90,7 +90,7 @@ module _ (root : StorageRoot) where
           go false f = refl
 
       within : (o q : Place) (table : Option Table) → zone root d ≡ inside o q → table_at root o ≡ table → is_listed_in_object table q ≡ true
-          → (a : Option Around) → IsTableAround None root last a → IsPart None root d (still a x)
+          → (a : Option Around) → IsTableAround further root last a → IsPart further root d (still a x)
       within o q None e f g a k = absurd (true_not_false (sym g))
       within o q (Some t) e f g None k =
           let z : zone root last ≡ inside o (q ++ way.0) = ap (zone root) way.1 ∙ inside_on root d o q way.0 e in
@@ -101,15 +101,15 @@ module _ (root : StorageRoot) where
           let whole : d ≡ o ++ q = (zone_is root d o q e).whole in
           let begun : begins c.place x ≡ true = subst (λ y. begins y x ≡ true) same
           (subst (λ y. begins o y ≡ true) (sym (ap (λ y. y ++ n ∷ []) whole ∙ append_assoc o q (n ∷ []))) (begins_front o (q ++ n ∷ []))) in
-          subst (IsPart None root d) (sym (ap (λ y. cond y (Some c) None) begun)) (q, subst (λ y. zone root d ≡ inside y q) same e, k.2, k.3)
+          subst (IsPart further root d) (sym (ap (λ y. cond y (Some c) None) begun)) (q, subst (λ y. zone root d ≡ inside y q) same e, k.2, k.3)
 
-      by : (z : Zone) → zone root d ≡ z → is_listed_zone root z ≡ true → IsPart None root d (still a x)
+      by : (z : Zone) → zone root d ≡ z → is_listed_zone root z ≡ true → IsPart further root d (still a x)
       by skipped e g = absurd (true_not_false (sym g))
-      by hierarchy e g = subst (IsPart None root d) (sym (outside a h e)) e
+      by hierarchy e g = subst (IsPart further root d) (sym (outside a h e)) e
       by (inside o q) e g = within o q (table_at root o) e refl g a h
 
-  pub entry_met : (last : Place) (ps new : List Pile) (entry : Entry) (x : Place) (a : Option Around) → IsOrderly last ps a → IsHeld root last ps a
-      → (t : IsTaken ps new entry) → x ≡ t.place ++ entry.name ∷ [] → IsMet None root t.place (still a x) entry x
+  pub entry_met : (last : Place) (ps new : List Pile) (entry : Entry) (x : Place) (a : Option Around) → IsOrderly last ps a → IsHeld further root last ps a
+      → (t : IsTaken ps new entry) → x ≡ t.place ++ entry.name ∷ [] → IsMet further root t.place (still a x) entry x
   entry_met last ps new entry x a o h t e =
       let listed : IsListed root (frames_of ((t.place, entry ∷ t.rest) ∷ t.others)) = subst (λ qs. IsListed root (frames_of qs)) t.old_is h.listed in
       let entries : HaveEntries root ((t.place, entry ∷ t.rest) ∷ t.others) = subst (HaveEntries root) t.old_is h.entries in
@@ -117,20 +117,20 @@ module _ (root : StorageRoot) where
       record {
         is = e;
         reached = reached;
-        part = subst (λ y. IsPart None root t.place (still a y)) (sym e) (part_is last t.place entry.name a h.table (old_chain last ps new entry a o t).0 reached (entry_after last ps new entry a o t));
+        part = subst (λ y. IsPart further root t.place (still a y)) (sym e) (part_is last t.place entry.name a h.table (old_chain last ps new entry a o t).0 reached (entry_after last ps new entry a o t));
         kind = entries.0.0;
       }
 
   -- the step to a place that was met
-  pub step_to : (s t : Store) (last x : Place) (new : Stand) (item : Option Pending) → Meets None root s t x → IsItemAt None root x item → IsNear root (Some last) x → StandsAt root new (Some x)
-      → (notes None root None x ≢ [] → due None root (Some last) ≡ x ∷ due None root (Some x)) → (notes None root None x ≡ [] → due None root (Some last) ≡ due None root (Some x)) → Steps root s t (Some last) new (step_from item)
-  step_to s t last x new None m i near st some none = (x, meets_walks root s t (Some last) x near m, st, near.beyond, none i)
+  pub step_to : (s t : Store) (last x : Place) (new : Stand) (item : Option Pending) → Meets further root s t x → IsItemAt further root x item → IsNear root (Some last) x → StandsAt further root new (Some x)
+      → (notes further root None x ≢ [] → due further root (Some last) ≡ x ∷ due further root (Some x)) → (notes further root None x ≡ [] → due further root (Some last) ≡ due further root (Some x)) → Steps further root s t (Some last) new (step_from item)
+  step_to s t last x new None m i near st some none = (x, meets_walks further root s t (Some last) x near m, st, near.beyond, none i)
   step_to s t last x new (Some p) m i near st some none =
       let e : x ≡ p.place = sym i.1 in (
-        meets_walks root s t (Some last) p.place (subst (IsNear root (Some last)) e near) (subst (Meets None root s t) e m),
-        subst (λ y. StandsAt root new (Some y)) e st,
+        meets_walks further root s t (Some last) p.place (subst (IsNear root (Some last)) e near) (subst (Meets further root s t) e m),
+        subst (λ y. StandsAt further root new (Some y)) e st,
         subst (λ y. place_cmp last y ≡ Less) e near.beyond,
-        record { pending = i.0; due_are = subst (λ y. due None root (Some last) ≡ y ∷ due None root (Some y)) e (some (subst (λ y. notes None root None y ≢ []) i.1 i.0.some)) },
+        record { pending = i.0; due_are = subst (λ y. due further root (Some last) ≡ y ∷ due further root (Some y)) e (some (subst (λ y. notes further root None y ≢ []) i.1 i.0.some)) },
       )
 
 pub still_around : (last x : Place) (a : Option Around) → IsAroundIf last a → IsAroundIf x (still a x)

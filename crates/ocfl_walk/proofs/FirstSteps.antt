@@ -9,6 +9,7 @@ use Rattle.ocfl_tree.specs.{Place.{Place, Text, place_cmp}, Ascending.{IsAmong}}
 use Rattle.ocfl_tree.specs.{StorageRoot.{StorageRoot, dir}, Store.{Store}}
 use Rattle.ocfl_tree.specs.declared.store.Entry.{Entry}
 use Rattle.ocfl_tree.proofs.Orders.{place_cmp_exact, place_cmp_total, below_from_greater, true_not_false}
+use Rattle.ocfl_rules.specs.Inventories.{Further}
 use Rattle.ocfl_rules.specs.{Audit.{candidates}, Between.{IsBeyond, looked_between, read_between}}
 use Rattle.ocfl_rules.specs.{Due.{due, item_places}, Stack.{IsListed, IsStack}, Walk.{seen_names}}
 use Rattle.ocfl_rules.specs.Zone.{seen}
@@ -86,18 +87,18 @@ module _ (old : Stand) (x : Place) (orderly : IsOrderlyStand old) (some : old.la
     pub missing_there : GoesTo at_missing x r
     missing_there = subst (GoesTo at_missing x) (sym is) (goes_here at_missing x item refl)
 
-    pub missing_told : (root : StorageRoot) (s : Store) (l : Place) → s.tree ≡ root → IsHeld root x (piles_in old.last old.listings.items) old.around
-        → IsTurn root l x (frames_of (piles_in old.last old.listings.items)) → seen root x ≡ None → IsItemAt None root x item
-        → Steps root s s (Some l) at_missing r
-    missing_told root s l tree held go unseen i =
-        let here : IsStanding root x (piles_in old.last old.listings.items) old.around = record { stack = go.stack; listed = held.listed; entries = held.entries; table = held.table } in
-        subst (Steps root s s (Some l) at_missing) (sym is)
-        (step_to root s s l x at_missing item (meets_shut None root s x tree (shut_unseen root x unseen)) i (near_turn root l x _ go)
-        (refl, subst (λ ps. IsStanding root x ps old.around) (sym missing_piles) here) go.some go.none)
+    pub missing_told : (further : Further) (root : StorageRoot) (s : Store) (l : Place) → s.tree ≡ root → IsHeld further root x (piles_in old.last old.listings.items) old.around
+        → IsTurn further root l x (frames_of (piles_in old.last old.listings.items)) → seen root x ≡ None → IsItemAt further root x item
+        → Steps further root s s (Some l) at_missing r
+    missing_told further root s l tree held go unseen i =
+        let here : IsStanding further root x (piles_in old.last old.listings.items) old.around = record { stack = go.stack; listed = held.listed; entries = held.entries; table = held.table } in
+        subst (Steps further root s s (Some l) at_missing) (sym is)
+        (step_to further root s s l x at_missing item (meets_shut further root s x tree (shut_unseen root x unseen)) i (near_turn further root l x _ go)
+        (refl, subst (λ ps. IsStanding further root x ps old.around) (sym missing_piles) here) go.some go.none)
 
 -- ---- what is left once all before the name is let go
 
-module _ (old : Stand) (d : Place) (n : Text) (mid : Listings) (there : old.last ≡ Some d) (orderly : IsOrderlyStand old)
+module _ (further : Further) (old : Stand) (d : Place) (n : Text) (mid : Listings) (there : old.last ≡ Some d) (orderly : IsOrderlyStand old)
     (is : piles_in old.last mid.items ≡ trimmed (cut_top (length d) n (piles_in old.last old.listings.items))) where
   abbrev cut : Stand
   cut = record { listings = mid; around = old.around; last = old.last }
@@ -132,11 +133,11 @@ module _ (old : Stand) (d : Place) (n : Text) (mid : Listings) (there : old.last
       subst (λ y. IsBelowNext y o → IfSome old.last (λ last. (place_cmp last y ≡ Less) × IsAroundIf y old.around × IsBelowNext y (next_of (piles_in old.last mid.items)))) (sym own)
       (λ l. cut_next o l (same ∙ sym (ap (λ k. next_of (piles_in k mid.items)) there))) low
 
-  module _ (root : StorageRoot) (q : Place) (first : place_before root (d ++ n ∷ []) ≡ Some q) (st : IsStanding root d (piles_in old.last old.listings.items) old.around) where
+  module _ (root : StorageRoot) (q : Place) (first : place_before root (d ++ n ∷ []) ≡ Some q) (st : IsStanding further root d (piles_in old.last old.listings.items) old.around) where
     j : IsJustBefore root q (d ++ n ∷ [])
     j = just_before root (d ++ n ∷ []) q first
 
-    pub cut_held : IsHeld root d (piles_in old.last mid.items) old.around
+    pub cut_held : IsHeld further root d (piles_in old.last mid.items) old.around
     cut_held = record {
       listed = subst (λ ps. IsListed root (frames_of ps)) (sym is) (listed_cut root (length d) n (piles_in old.last old.listings.items) st.listed);
       entries = subst (HaveEntries root) (sym is) (entries_cut root (length d) n (piles_in old.last old.listings.items) st.entries);
@@ -151,8 +152,8 @@ module _ (old : Stand) (d : Place) (n : Text) (mid : Listings) (there : old.last
     stands = subst (λ ps. IsStack root q (frames_of ps)) (sym is) (cut_stack root d n q j (piles_in old.last old.listings.items) old.around here top st.stack)
 
     pub cut_to_entry : (x : Place) → next_of (piles_in old.last mid.items) ≡ Some x → is_lt (place_cmp (d ++ n ∷ []) x) ≡ false
-        → IsTurn root q x ((x, seen_names root x) ∷ popped (piles_in old.last mid.items))
-    cut_to_entry x e low = turn_entry root d n q j x low (piles_in old.last mid.items) e stands cut_held.listed
+        → IsTurn further root q x ((x, seen_names root x) ∷ popped (piles_in old.last mid.items))
+    cut_to_entry x e low = turn_entry root d n q j further x low (piles_in old.last mid.items) e stands cut_held.listed
 
     module _ (o : Option Place) (low : IsBelowNext (d ++ n ∷ []) o) (same : o ≡ next_of (piles_in old.last mid.items)) where
       orderly_there : IsOrderly (d ++ n ∷ []) (piles_in old.last mid.items) old.around
@@ -164,20 +165,20 @@ module _ (old : Stand) (d : Place) (n : Text) (mid : Listings) (there : old.last
       pub cut_unseen : seen root (d ++ n ∷ []) ≡ None
       cut_unseen = path_unseen root d n q j (piles_in old.last mid.items) old.around orderly_there stands
 
-      pub cut_to_path : IsTurn root q (d ++ n ∷ []) (frames_of (piles_in old.last mid.items))
-      cut_to_path = turn_path root d n q j (piles_in old.last mid.items) old.around orderly_there stands cut_held.listed
+      pub cut_to_path : IsTurn further root q (d ++ n ∷ []) (frames_of (piles_in old.last mid.items))
+      cut_to_path = turn_path root d n q j (piles_in old.last mid.items) old.around orderly_there stands further cut_held.listed
 
-      pub cut_held_there : IsHeld root (d ++ n ∷ []) (piles_in old.last mid.items) old.around
-      cut_held_there = record { listed = cut_held.listed; entries = cut_held.entries; table = table_next root d n old.around st.table cut_unseen }
+      pub cut_held_there : IsHeld further root (d ++ n ∷ []) (piles_in old.last mid.items) old.around
+      cut_held_there = record { listed = cut_held.listed; entries = cut_held.entries; table = table_next further root d n old.around st.table cut_unseen }
 
     pub entry_turn : (x y : Place) → y ≡ d ++ n ∷ [] → (o : Option Place) → o ≡ next_of (piles_at d mid.items) → o ≡ Some x → is_lt (place_cmp y x) ≡ false
-        → IsTurn root q x ((x, seen_names root x) ∷ popped (piles_in old.last mid.items))
+        → IsTurn further root q x ((x, seen_names root x) ∷ popped (piles_in old.last mid.items))
     entry_turn x y own o next e low = cut_to_entry x (ap (λ l. next_of (piles_in l mid.items)) there ∙ sym next ∙ e) (subst (λ z. is_lt (place_cmp z x) ≡ false) own low)
 
     pub missing_turn : (x : Place) → x ≡ d ++ n ∷ [] → (o : Option Place) → IsBelowNext x o → o ≡ next_of (piles_at d mid.items)
-        → IsHeld root x (piles_in old.last mid.items) old.around × IsTurn root q x (frames_of (piles_in old.last mid.items)) × (seen root x ≡ None)
+        → IsHeld further root x (piles_in old.last mid.items) old.around × IsTurn further root q x (frames_of (piles_in old.last mid.items)) × (seen root x ≡ None)
     missing_turn x own o low same =
-        subst (λ y. IsBelowNext y o → IsHeld root y (piles_in old.last mid.items) old.around × IsTurn root q y (frames_of (piles_in old.last mid.items)) × (seen root y ≡ None)) (sym own)
+        subst (λ y. IsBelowNext y o → IsHeld further root y (piles_in old.last mid.items) old.around × IsTurn further root q y (frames_of (piles_in old.last mid.items)) × (seen root y ≡ None)) (sym own)
         (λ l. let e = same ∙ sym (ap (λ k. next_of (piles_in k mid.items)) there) in (cut_held_there o l e, cut_to_path o l e, cut_unseen o l e)) low
 
 -- the directory after which a walk stands
@@ -214,12 +215,12 @@ stays_before e old new x n (Ok (step.Item p)) g h = let same : p.place ≡ x = s
 stays_before e old new x n (Ok step.Nothing) g h = tt
 stays_before e old new x n (Ok step.End) g h = tt
 
-pub steps_at : (root : StorageRoot) (s t : Store) (q x : Place) (e : End) (old new : Stand) (r : Result Step Fault) → IfOk r (λ p. GoesTo new x p)
-    → StepsOutTo root s t (Some q) e new r → StepsAtTo root s t q e old new r
-steps_at root s t q x e old new (Err why) g h = h
-steps_at root s t q x e old new (Ok (step.Item p)) g h = h
-steps_at root s t q x e old new (Ok step.Nothing) g h = h
-steps_at root s t q x e old new (Ok step.End) g h = absurd g
+pub steps_at : (further : Further) (root : StorageRoot) (s t : Store) (q x : Place) (e : End) (old new : Stand) (r : Result Step Fault) → IfOk r (λ p. GoesTo new x p)
+    → StepsOutTo further root s t (Some q) e new r → StepsAtTo further root s t q e old new r
+steps_at further root s t q x e old new (Err why) g h = h
+steps_at further root s t q x e old new (Ok (step.Item p)) g h = h
+steps_at further root s t q x e old new (Ok step.Nothing) g h = h
+steps_at further root s t q x e old new (Ok step.End) g h = absurd g
 
 -- ---- past the end
 
@@ -240,9 +241,9 @@ module _ (root : StorageRoot) (p q : Place) (first : place_before root p ≡ Som
   unfolding read_between
   read_none = over e (objects root) (Some q) (λ y i l. all_past_from y (seen_candidate root y dir (read_seen root y (from_object root y i)).0) l)
 
-  due_none : before_end e (due None root (Some q)) ≡ []
+  due_none : (further : Further) → before_end e (due further root (Some q)) ≡ []
   unfolding due
-  due_none = over e (item_places None root) (Some q) (λ y i l. all_past_from y (item_candidate root p y i) l)
+  due_none further = over e (item_places further root) (Some q) (λ y i l. all_past_from y (item_candidate root p further y i) l)
 
-  pub ends_at : (s : Store) (old : Stand) → s.tree ≡ root → StepsAtTo root s s q e old old (Ok step.End)
-  ends_at s old tree = (walks_out_nothing root s (Some q) e tree looked_none read_none, due_none, refl)
+  pub ends_at : (further : Further) (s : Store) (old : Stand) → s.tree ≡ root → StepsAtTo further root s s q e old old (Ok step.End)
+  ends_at further s old tree = (walks_out_nothing further root s (Some q) e tree looked_none read_none, due_none further, refl)

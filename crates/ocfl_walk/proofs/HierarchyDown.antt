@@ -10,6 +10,7 @@ use Rattle.ocfl_inventory.specs.declared.declaration.Declared.{Declared as MadeD
 use Rattle.ocfl_inventory.specs.declared.declaration.Version.{Version}
 use Rattle.ocfl_inventory.specs.declared.declaration.Declared.TheVariants as made
 use Rattle.ocfl_inventory.specs.declared.declaration.Level.TheVariants as level
+use Rattle.ocfl_rules.specs.Inventories.{Further}
 use Rattle.ocfl_rules.specs.Zone.{inside, table_at, zone, is_known, max_listed_depth}
 use Rattle.ocfl_item.specs.{Ways.{InHierarchy, IsObject}, Internal.Ways.{IsDeclared}}
 use Rattle.ocfl_item.specs.{Meeting.{IsFairFolder}, declared.fault.Fault.{Fault}}
@@ -41,14 +42,14 @@ not_none m (inr f) e = let two : made.Several ≡ made.None = sym f ∙ e in cc
 
 -- ---- on a store that tells its tree
 
-module _ (root : StorageRoot) (s t : Store) (d : Place) (n : Text) (inner : Folder) (k : ListsBelow root s t d n inner) (r : Place) (a : Option Around)
+module _ (further : Further) (root : StorageRoot) (s t : Store) (d : Place) (n : Text) (inner : Folder) (k : ListsBelow root s t d n inner) (r : Place) (a : Option Around)
     (none : a ≡ None) (given : List Entry) (m : MadeDeclared) (same : given ≡ inner.entries.items)
     (said : meaning level.Object given m ≡ declared level.Object (file_names given)) where
-  pub hier_in : m ≡ made.None → Leads root s t d n r a a (Ok (Some inner))
+  pub hier_in : m ≡ made.None → Leads further root s t d n r a a (Ok (Some inner))
   hier_in e =
       let h = subst (λ x. InHierarchy root x inner.entries.items) k.enters.is
       (undeclared_entered root s t d inner.place n k.entries inner.entries.items given m k.above k.on k.ordinary k.enters same said e) in
-      subst (λ x. Leads root s t d n r x x (Ok (Some inner))) (sym none) (leads_in root s t d n r None k.over inner k.enters.did (record { place = k.enters.is; here = h.here; part = h.zone }))
+      subst (λ x. Leads further root s t d n r x x (Ok (Some inner))) (sym none) (leads_in further root s t d n r None k.over inner k.enters.did (record { place = k.enters.is; here = h.here; part = h.zone }))
 
   module _ (points : PointsAtOne level.Object given m) where
     says : (m ≡ made.None → ⊥) → IsDeclared root inner.place inner.entries.items m
@@ -57,13 +58,13 @@ module _ (root : StorageRoot) (s t : Store) (d : Place) (n : Text) (inner : Fold
     zone_here : (m ≡ made.None → ⊥) → zone root (d ++ n ∷ []) ≡ inside (d ++ n ∷ []) []
     zone_here some = subst (λ x. zone root x ≡ inside x []) k.enters.is (says some).zone
 
-    pub hier_stopped : ((x : ℕ) × (m ≡ made.Unknown x)) ⊎ (m ≡ made.Several) → Leads root s t d n r a a (Ok None)
+    pub hier_stopped : ((x : ℕ) × (m ≡ made.Unknown x)) ⊎ (m ≡ made.Several) → Leads further root s t d n r a a (Ok None)
     hier_stopped e =
         let some = not_none m e in
         let h = says some in
         let table = unknown_no_table root inner.place (ap is_known (sym h.says) ∙ no_known root inner.place inner.entries.items m h (inr e)) in
-        subst (λ x. Leads root s t d n r x x (Ok None)) (sym none)
-        (leads_listed root s t d n r None k.over k.enters.did (shut_object root d n r (zone_here some) (ap (table_at root) (sym k.enters.is) ∙ table)))
+        subst (λ x. Leads further root s t d n r x x (Ok None)) (sym none)
+        (leads_listed further root s t d n r None k.over k.enters.did (shut_object further root d n r (zone_here some) (ap (table_at root) (sym k.enters.is) ∙ table)))
 
     module _ (v : Version) (e : m ≡ made.One v) (u : Store) where
       some : m ≡ made.None → ⊥
@@ -72,16 +73,16 @@ module _ (root : StorageRoot) (s t : Store) (d : Place) (n : Text) (inner : Fold
       object : IsObject root inner.place inner.entries.items
       object = finds_object root inner.place inner.entries.items m v (says some) e
 
-      opens : (x : Result (Option Around) Fault) → (IsObject root inner.place inner.entries.items → Opens root t u inner.place x) → Opens root t u (d ++ n ∷ []) x
-      opens x into = subst (λ o. Opens root t u o x) k.enters.is (into object)
+      opens : (x : Result (Option Around) Fault) → (IsObject root inner.place inner.entries.items → Opens further root t u inner.place x) → Opens further root t u (d ++ n ∷ []) x
+      opens x into = subst (λ o. Opens further root t u o x) k.enters.is (into object)
 
-      pub hier_closed : (IsObject root inner.place inner.entries.items → Opens root t u inner.place (Ok None)) → Leads root s u d n r a a (Ok None)
-      hier_closed into = subst (λ y. Leads root s u d n r y y (Ok None)) (sym none) (leads_object_none root s t u d n r k.over k.enters.did (zone_here some) (opens (Ok None) into))
+      pub hier_closed : (IsObject root inner.place inner.entries.items → Opens further root t u inner.place (Ok None)) → Leads further root s u d n r a a (Ok None)
+      hier_closed into = subst (λ y. Leads further root s u d n r y y (Ok None)) (sym none) (leads_object_none further root s t u d n r k.over k.enters.did (zone_here some) (opens (Ok None) into))
 
-      pub hier_object : (b : Around) → (IsObject root inner.place inner.entries.items → Opens root t u inner.place (Ok (Some b))) → Leads root s u d n r a (Some b) (Ok (Some inner))
+      pub hier_object : (b : Around) → (IsObject root inner.place inner.entries.items → Opens further root t u inner.place (Ok (Some b))) → Leads further root s u d n r a (Some b) (Ok (Some inner))
       hier_object b into =
-          subst (λ y. Leads root s u d n r y (Some b) (Ok (Some inner))) (sym none)
-          (leads_object root s t u d n r k.over k.enters.did (zone_here some) b inner k.enters.is (subst (λ o. IsObject root o inner.entries.items) k.enters.is object) (opens (Ok (Some b)) into))
+          subst (λ y. Leads further root s u d n r y (Some b) (Ok (Some inner))) (sym none)
+          (leads_object further root s t u d n r k.over k.enters.did (zone_here some) b inner k.enters.is (subst (λ o. IsObject root o inner.entries.items) k.enters.is object) (opens (Ok (Some b)) into))
 
-      pub hier_fails : (why : Fault) → (IsObject root inner.place inner.entries.items → Opens root t u inner.place (Err why)) → Leads root s u d n r a a (Err why)
-      hier_fails why into = subst (λ y. Leads root s u d n r y y (Err why)) (sym none) (leads_object_stop root s t u d n r k.over k.enters.did (zone_here some) why (opens (Err why) into))
+      pub hier_fails : (why : Fault) → (IsObject root inner.place inner.entries.items → Opens further root t u inner.place (Err why)) → Leads further root s u d n r a a (Err why)
+      hier_fails why into = subst (λ y. Leads further root s u d n r y y (Err why)) (sym none) (leads_object_stop further root s t u d n r k.over k.enters.did (zone_here some) why (opens (Err why) into))

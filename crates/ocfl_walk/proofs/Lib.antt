@@ -9,6 +9,7 @@ mod PlacedLaws
 mod OrderlyLaws
 mod Chosen
 mod EntrySteps
+mod BehindLaws
 mod SizeLaws
 mod PathSteps
 mod MeetLaws

@@ -5,6 +5,7 @@ use Rattle.ocfl_tree.specs.{Place.{Place, Text}, StorageRoot.{StorageRoot}}
 use Rattle.ocfl_tree.specs.{declared.store.Entry.{Entry}, Listing.{IsOrdinary}}
 use Rattle.ocfl_tree.proofs.Places.{begins-itself}
 use Rattle.ocfl_inventory.specs.Table.{IsFit, Table}
+use Rattle.ocfl_rules.specs.Inventories.{Further}
 use Rattle.ocfl_rules.specs.Trail.{is_head}
 use Rattle.ocfl_rules.specs.Zone.{skipped, hierarchy, inside, zone, table_at, object_declared, is_declared, max_listed_depth}
 use Rattle.ocfl_rules.specs.Walk.{is_extensions, step_zone}
@@ -25,15 +26,15 @@ own_head root d n h o s e = by (is_extensions root d n) (is_declared (object_dec
     by false true f = (cc, cc)
     by false false f = absurd cc
 
-pub table_met : (root : StorageRoot) (d x : Place) (entry : Entry) (a : Option Around) (table : Option Table) (r : Option RootInventory) → IsMet None root d a entry x → IsTableAt root x table
-    → IfSome table (λ _. option_map root_view r ≡ root_at None root x) → IsTableAround None root x (around_of a x table r)
-table_met root d x entry a (Some t) r m h k = ([], h.0, h.1, k)
-table_met root d x entry None None r m h k = λ o s e.
+pub table_met : (further : Further) (root : StorageRoot) (d x : Place) (entry : Entry) (a : Option Around) (table : Option Table) (r : Option RootInventory) → IsMet further root d a entry x → IsTableAt root x table
+    → IfSome table (λ _. option_map root_view r ≡ root_at further root x) → IsTableAround further root x (around_of a x table r)
+table_met further root d x entry a (Some t) r m h k = ([], h.0, h.1, k)
+table_met further root d x entry None None r m h k = λ o s e.
     let own = own_head root d entry.name m.part o s (sym (ap (zone root) m.is) ∙ e) in
     let same : o ≡ x = own.0 ∙ sym m.is in
     let head : is_head (zone root x) ≡ true = ap is_head (e ∙ ap (inside o) own.1) in
     ap (table_at root) same ∙ h head
-table_met root d x entry (Some b) None r m h k = (m.part.0 ++ entry.name ∷ [], ap (zone root) m.is ∙ inside_on root d b.place m.part.0 (entry.name ∷ []) m.part.1, m.part.2, m.part.3)
+table_met further root d x entry (Some b) None r m h k = (m.part.0 ++ entry.name ∷ [], ap (zone root) m.is ∙ inside_on root d b.place m.part.0 (entry.name ∷ []) m.part.1, m.part.2, m.part.3)
 
 pub around_fair : (x : Place) (a : Option Around) (table : Option Table) (r : Option RootInventory) → IsAroundIf x a → IfSome table (λ t. IsFit t × (length x ≤ max_listed_depth))
     → IsAroundIf x (around_of a x table r)

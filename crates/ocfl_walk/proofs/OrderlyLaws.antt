@@ -15,7 +15,7 @@ use Rattle.ocfl_item.specs.{declared.folder.Folder.{Folder}, declared.meeting.Ar
 use Rattle.ocfl_rules.proofs.BelowLaws.{above_self, above_name, begins_front, begins_rest}
 
 -- what is not longer than d and is above it is above all below d
-above_longer : (d y r : Place) → place_cmp d y ≡ Less → length y ≤ length d → place_cmp (d ++ r) y ≡ Less
+pub above_longer : (d y r : Place) → place_cmp d y ≡ Less → length y ≤ length d → place_cmp (d ++ r) y ≡ Less
 above_longer [] [] r h l = absurd cc
 above_longer [] (m ∷ y) r h l = absurd (omega (arith, l))
 above_longer (n ∷ d) [] r h l = absurd cc

@@ -10,9 +10,9 @@ use Rattle.ocfl_tree.specs.{Place.{Place, Text, begins}, declared.store.Entry.{E
 use Rattle.ocfl_rules.specs.Stack.{Frame}
 use Rattle.ocfl_rules.proofs.BelowLaws.{begins_front, begins_rest}
 use Rattle.ocfl_walk.specs.Standing.{back, Pile, folders_from, frames_of, pile_of, piles_at, piles_in, piles_of, spot_of, levels}
-use Rattle.ocfl_walk.specs.Internal.Standing.{IsChain, cut_top, from_name, IsFairPile, IsOrderly, IsOrderlyIf, IsTaken, left_of_folder, next_of, pushed, trimmed}
+use Rattle.ocfl_walk.specs.Internal.Standing.{IsChain, cut_top, from_name, IsFairPile, IsOrderly, IsOrderlyIf, IsTaken, left_of_folder, next_of, pushed, top_of, trimmed}
 use Rattle.ocfl_item.specs.{declared.meeting.Around.{Around}, declared.folder.Folder.{Folder}}
-use Rattle.ocfl_walk.proofs.Backs.{next_of_last, piles_push, snoc, taken_at, trim_drops_by, trim_keeps_by}
+use Rattle.ocfl_walk.proofs.Backs.{last_split, next_of_last, piles_push, snoc, taken_at, trim_drops_by, trim_keeps_by}
 use Rattle.ocfl_walk.proofs.OrderlyLaws.{back_count, chain_short, frames_count}
 
 push_from : (i : ℕ) (p : Place) (vs : List (Vec Entry Global)) (v : Vec Entry Global)
@@ -82,6 +82,14 @@ pub next_at : (p : Place) (vs above xs : List (Vec Entry Global)) (v : Vec Entry
 next_at p vs above xs v es o same split items last =
     next_of_last (folders_from 0 p above) (folders_from 0 p vs) (record { place = take (length above) p; entries = v }) o
     (folders_push p above vs v (sym same ∙ split)) (subst (λ ys. o ≡ slice_get ys (length ys - 1)) items last)
+
+-- what is left of the deepest listing
+pub top_at : (p : Place) (vs xs : List (Vec Entry Global)) (v : Vec Entry Global) (es : List Entry) → xs ≡ vs → Some v ≡ slice_get xs (length xs - 1) → es ≡ v.items
+    → back (λ e. e) es ≡ top_of (piles_at p vs)
+top_at p vs xs v es same last items =
+    let k = last_split xs (Some v) last in
+    let piles = piles_push (folders_from 0 p k.0) (folders_from 0 p vs) (record { place = take (length k.0) p; entries = v }) (folders_push p k.0 vs v (sym same ∙ k.1)) in
+    ap (back (λ e. e)) items ∙ sym (ap top_of piles)
 
 -- ---- whether the next entry is at a place
 

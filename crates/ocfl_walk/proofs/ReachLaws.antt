@@ -6,6 +6,7 @@ use Rattle.ocfl_tree.specs.{Place.{Text, Place}, Ascending.{IsAmong}}
 use Rattle.ocfl_tree.specs.{StorageRoot.{StorageRoot, is_dir}, Store.{Store, Did}}
 use Rattle.ocfl_tree.proofs.Orders.{among_left, among_right, true_not_false}
 use Rattle.ocfl_tree.proofs.{Stores.{among_either}, Bools.{and_first, and_second, and_both}}
+use Rattle.ocfl_rules.specs.Inventories.{Further}
 use Rattle.ocfl_rules.specs.Walk.{is_reached}
 use Rattle.ocfl_rules.specs.Zone.{Zone, skipped, hierarchy, inside, zone, beginnings, is_entered, is_listed_zone, max_listed_depth}
 use Rattle.ocfl_rules.specs.{Between.{is_looked_into, shows_entries}, Head.{on}}
@@ -30,8 +31,8 @@ module _ (root : StorageRoot) where
     all_shut listed e (inl f) k = absurd (true_not_false (sym k ∙ ap (is_reached root) f ∙ out))
     all_shut listed e (inr i) k = absurd (none_reached (d ++ n ∷ []) r out e i k)
 
-    pub comes_shut : (s t : Store) (may : List Place) → Descends root s t (way_below d (n ∷ r)) [] may [] 0 → Comes root s t (way_below d (n ∷ r)) [] may []
-    comes_shut s t may goes = record { goes = goes; all = all_shut (goes.calls.listings ++ []) }
+    pub comes_shut : (further : Further) (s t : Store) (may : List Place) → Descends further root s t (way_below d (n ∷ r)) [] may [] 0 → Comes further root s t (way_below d (n ∷ r)) [] may []
+    comes_shut further s t may goes = record { goes = goes; all = all_shut (goes.calls.listings ++ []) }
 
   -- what is entered lies where directories are listed
   pub reached_listed : (d : Place) → is_reached root d ≡ true → is_listed_zone root (zone root d) ≡ true
@@ -77,14 +78,14 @@ module _ (root : StorageRoot) where
           on (inl l) = among_left (a ++ b) more' e (among_right a b e l)
           on (inr l) = among_right (a ++ b) more' e l
 
-  abbrev pub comes_on : (s t u : Store) (way more may left : List Place) (more' left' : List Place) → Comes root s t way more may left
-      → Comes root t u more more' left left' → Comes root s u way more' may left'
-  comes_on s t u way more may left more' left' h g = record {
-    goes = descends_on root s t u way more more' may left left' 0 h.goes g.goes;
+  abbrev pub comes_on : (further : Further) (s t u : Store) (way more may left : List Place) (more' left' : List Place) → Comes further root s t way more may left
+      → Comes further root t u more more' left left' → Comes further root s u way more' may left'
+  comes_on further s t u way more may left more' left' h g = record {
+    goes = descends_on further root s t u way more more' may left left' 0 h.goes g.goes;
     all = all_then way more more' h.goes.calls.listings g.goes.calls.listings h.all g.all;
   }
 
   -- at the end of the way
-  pub comes_end : (s : Store) (d q : Place) (may : List Place) → length q ≡ 0 → s.tree ≡ root → Did s s [] [] 0 → Comes root s s (way_below d q) [] may []
-  comes_end s d [] may none over did = record { goes = descends_not root s s [] may over did; all = λ e i k. absurd i }
-  comes_end s d (n ∷ q) may none over did = absurd (omega (arith, none))
+  pub comes_end : (further : Further) (s : Store) (d q : Place) (may : List Place) → length q ≡ 0 → s.tree ≡ root → Did s s [] [] 0 → Comes further root s s (way_below d q) [] may []
+  comes_end further s d [] may none over did = record { goes = descends_not further root s s [] may over did; all = λ e i k. absurd i }
+  comes_end further s d (n ∷ q) may none over did = absurd (omega (arith, none))

@@ -5,15 +5,16 @@ use Rattle.std.specs.declared.cmp.Ordering.TheVariants.{Less}
 use Rattle.arrayvec.specs.ArrayVec.{ArrayVec}
 use Rattle.ocfl_tree.specs.{Place.{Place, place_cmp}, StorageRoot.{StorageRoot}, Store.{Store}}
 use Rattle.ocfl_tree.specs.declared.store.Entry.{Entry}
+use Rattle.ocfl_rules.specs.Inventories.{Further}
 use Rattle.ocfl_rules.specs.{Between.{IsBeyond, looked_between, read_between}, Due.{due}}
 use Rattle.ocfl_rules.specs.{Stack.{Frame}, Walk.{seen_names}}
 use Rattle.ocfl_rules.proofs.BetweenLaws.{looked_end, read_end}
 use Rattle.ocfl_tree.proofs.Orders.{true_not_false}
-use Rattle.ocfl_item.specs.{Around.{IsMet, IsNamedIn}, Meeting.{IsItemAt, Meets}}
+use Rattle.ocfl_item.specs.{Around.{AreBehind, IsMet, IsNamedIn}, Meeting.{IsItemAt, Meets}}
 use Rattle.ocfl_item.specs.{declared.folder.Folder.{Folder}, declared.meeting.Around.{Around}}
 use Rattle.ocfl_item.specs.declared.pending.Pending.{Pending}
-use Rattle.ocfl_walk.specs.Standing.{IsStanding, Pile, StandsAt, piles_at, piles_in, spot_of, levels}
-use Rattle.ocfl_walk.specs.Internal.Standing.{IsAroundIf, IsBelowNext, IsFairPile, IsHeld, IsOrderly, IsOrderlyIf, IsOrderlyStand, IsTaken, IsTurn, TurnIs, next_of, path_from, popped, pushed, still, trimmed, is_turn_past, turn_before, turn_of}
+use Rattle.ocfl_walk.specs.Standing.{HaveEntries, IsStanding, back, Pile, StandsAt, piles_at, piles_in, spot_of, levels}
+use Rattle.ocfl_walk.specs.Internal.Standing.{IsAroundIf, IsBelowNext, IsFairPile, IsHeld, IsOrderly, IsOrderlyIf, IsOrderlyStand, IsTaken, IsTurn, TurnIs, next_of, path_from, popped, pushed, still, top_of, trimmed, is_turn_past, turn_before, turn_of}
 use Rattle.ocfl_walk.specs.Ends.{before_end, is_past}
 use Rattle.ocfl_walk.specs.Internal.Walking.{GoesOn, GoesTo, IsFairMet, IsMeeting, IsPileAt, Steps, StepsOut, step_from}
 use Rattle.ocfl_walk.specs.{declared.end.End.{End}, declared.stand.Met.{Met}}
@@ -21,6 +22,7 @@ use Rattle.ocfl_walk.specs.{declared.stand.Stand.{Stand}, declared.stand.Step.{S
 use Rattle.ocfl_walk.specs.declared.stand.Turn.{Turn}
 use Rattle.ocfl_walk.specs.declared.stand.Step.TheVariants as step
 use Rattle.ocfl_walk.specs.declared.stand.Turn.TheVariants as turn
+use Rattle.ocfl_walk.proofs.BehindLaws.{is_behind, left_behind}
 use Rattle.ocfl_walk.proofs.Chosen.{at_first, at_last, chosen_base, chosen_turn, ended_turn}
 use Rattle.ocfl_walk.proofs.EndLaws.{all_past, due_past, looked_past, read_past}
 use Rattle.ocfl_walk.proofs.{WalkCallLaws.{walks_out_nothing}, DueTurns.{near_turn}}
@@ -69,16 +71,16 @@ module _ (old : Stand) (orderly : IsOrderlyStand old) (first : old.last ≡ None
       pub base_there : GoesTo base [] r
       base_there = subst (GoesTo base []) (sym is) (goes_here base [] item (ap (λ y. Some y) top))
 
-      pub base_told : (root : StorageRoot) (s t : Store) → Meets None root s t [] → IsItemAt None root [] item → IsPileAt root [] f → Steps root s t None base r
-      base_told root s t m i pile =
-          let st = first_stands root x f (piles_at [] old.listings.items) old.around top nothing.0 nothing.1 pile in
-          subst (Steps root s t None base) (sym is) (step_first root s t x base item top m i (refl, subst (λ ps. IsStanding root x ps old.around) (sym base_piles) st))
+      pub base_told : (further : Further) (root : StorageRoot) (s t : Store) → Meets further root s t [] → IsItemAt further root [] item → IsPileAt root [] f → Steps further root s t None base r
+      base_told further root s t m i pile =
+          let st = first_stands further root x f (piles_at [] old.listings.items) old.around top nothing.0 nothing.1 pile in
+          subst (Steps further root s t None base) (sym is) (step_first further root s t x base item top m i (refl, subst (λ ps. IsStanding further root x ps old.around) (sym base_piles) st))
 
 -- ---- to an entry
 
 -- what is held where a walk stands
-pub held : (root : StorageRoot) (p : Place) (ps : List Pile) (a : Option Around) → IsStanding root p ps a → IsHeld root p ps a
-held root p ps a h = record { listed = h.listed; entries = h.entries; table = h.table }
+pub held : (further : Further) (root : StorageRoot) (p : Place) (ps : List Pile) (a : Option Around) → IsStanding further root p ps a → IsHeld further root p ps a
+held further root p ps a h = record { listed = h.listed; entries = h.entries; table = h.table }
 
 module _ (old : Stand) (entry : Entry) (x : Place) (mid : Listings) (orderly : IsOrderlyStand old)
     (next : next_of (piles_in old.last old.listings.items) ≡ Some x) (taken : (p : Place) → IsTaken (piles_at p old.listings.items) (piles_at p mid.items) entry) where
@@ -93,12 +95,23 @@ module _ (old : Stand) (entry : Entry) (x : Place) (mid : Listings) (orderly : I
     pub entry_around : IsAroundIf x (still a x)
     entry_around = subst (λ y. IsAroundIf x (still y x)) (sym same) (still_around (spot_of old.last) x old.around there.1.object)
 
-    pub entry_is_met : (root : StorageRoot) (l : Place) → old.last ≡ Some l → IsHeld root l (piles_in old.last old.listings.items) old.around
-        → IsMet None root (taken (spot_of old.last)).place (still a x) entry x
-    entry_is_met root l e st =
+    pub entry_is_met : (further : Further) (root : StorageRoot) (l : Place) → old.last ≡ Some l → IsHeld further root l (piles_in old.last old.listings.items) old.around
+        → IsMet further root (taken (spot_of old.last)).place (still a x) entry x
+    entry_is_met further root l e st =
         let o = subst (λ y. IsOrderlyIf y (piles_in old.last old.listings.items) old.around) e orderly in
-        subst (λ y. IsMet None root (taken (spot_of old.last)).place (still y x) entry x) (sym same)
-        (entry_met root l (piles_in old.last old.listings.items) (piles_in old.last mid.items) entry x old.around o st (taken (spot_of old.last)) own)
+        subst (λ y. IsMet further root (taken (spot_of old.last)).place (still y x) entry x) (sym same)
+        (entry_met further root l (piles_in old.last old.listings.items) (piles_in old.last mid.items) entry x old.around o st (taken (spot_of old.last)) own)
+
+  -- what is left of its listing comes after it
+  pub entry_is_behind : (further : Further) (root : StorageRoot) (k l : Place) → old.last ≡ Some k → IsHeld further root k (piles_in old.last old.listings.items) old.around
+      → IsTurn further root l x ((x, seen_names root x) ∷ popped (piles_in old.last old.listings.items)) → (es : List Entry) → back (λ e. e) es ≡ top_of (piles_in old.last mid.items)
+      → AreBehind further root (taken (spot_of old.last)).place entry es
+  entry_is_behind further root k l e held go es same =
+      let t = taken (spot_of old.last) in
+      let met = entry_is_met old.around refl further root k e held in
+      let entries : HaveEntries root ((t.place, entry ∷ t.rest) ∷ t.others) = subst (HaveEntries root) t.old_is held.entries in
+      is_behind further root t.place entry es
+      (left_behind root (spot_of old.last) x (piles_in old.last old.listings.items) (piles_in old.last mid.items) entry old.around there.1 t own go.stack es (same ∙ ap top_of t.new_is) entries.0.1 met.reached)
 
   module _ (count : length mid.items ≡ length old.listings.items) (m : Met) (fair : IsFairMet x m) where
     pub entry_fits : IfSome m.folder (λ _. length mid.items < levels)
@@ -132,14 +145,14 @@ module _ (old : Stand) (entry : Entry) (x : Place) (mid : Listings) (orderly : I
         pub entry_there : GoesTo at_entry x r
         entry_there = subst (GoesTo at_entry x) (sym is) (goes_here at_entry x m.item refl)
 
-        pub entry_told : (root : StorageRoot) (s u : Store) (l k : Place) → IsHeld root k (piles_in old.last old.listings.items) old.around
-            → IsTurn root l x ((x, seen_names root x) ∷ popped (piles_in old.last old.listings.items)) → Meets None root s u x → IsMeeting root x m
-            → Steps root s u (Some l) at_entry r
-        entry_told root s u l k st go meets met =
-            let here = entry_stands root l x (piles_in old.last old.listings.items) (piles_in old.last mid.items) entry m.folder old.around m.around
+        pub entry_told : (further : Further) (root : StorageRoot) (s u : Store) (l k : Place) → IsHeld further root k (piles_in old.last old.listings.items) old.around
+            → IsTurn further root l x ((x, seen_names root x) ∷ popped (piles_in old.last old.listings.items)) → Meets further root s u x → IsMeeting further root x m
+            → Steps further root s u (Some l) at_entry r
+        entry_told further root s u l k st go meets met =
+            let here = entry_stands further root l x (piles_in old.last old.listings.items) (piles_in old.last mid.items) entry m.folder old.around m.around
             st.entries go (taken (spot_of old.last)) met.folder met.table in
-            subst (Steps root s u (Some l) at_entry) (sym is)
-            (step_to root s u l x at_entry m.item meets met.item (near_turn root l x _ go) (refl, subst (λ ps. IsStanding root x ps m.around) (sym entry_piles) here) go.some go.none)
+            subst (Steps further root s u (Some l) at_entry) (sym is)
+            (step_to further root s u l x at_entry m.item meets met.item (near_turn further root l x _ go) (refl, subst (λ ps. IsStanding further root x ps m.around) (sym entry_piles) here) go.some go.none)
 
 -- ---- to a path of the table
 
@@ -160,42 +173,42 @@ module _ (ps : List Pile) (a : Option Around) (x : Place) where
 
 -- what is so of each place after which a walk stands that has begun, and of what its turn comes to,
 -- is so of where it stands
-pub by_turn : (root : StorageRoot) (old : Stand) → trimmed (piles_in old.last old.listings.items) ≡ piles_in old.last old.listings.items → (t u : Turn)
+pub by_turn : (further : Further) (root : StorageRoot) (old : Stand) → trimmed (piles_in old.last old.listings.items) ≡ piles_in old.last old.listings.items → (t u : Turn)
     → t ≡ u → (u ≡ turn.Base → ⊥) → (old.last ≡ None → t ≡ turn.Base)
     → ((p : Place) → old.last ≡ Some p → t ≡ turn_of (next_of (piles_in old.last old.listings.items)) (path_from p old.around)) → IsOrderlyStand old
-    → (X : Option Place → Type 0) (last : Option Place) → StandsAt root old last
-    → ((p : Place) → old.last ≡ Some p → IsStanding root p (piles_in old.last old.listings.items) old.around → TurnIs root p (piles_in old.last old.listings.items) u → X (Some p)) → X last
-by_turn root old trim t u same some base next orderly X last st k =
-    at_last root old X last st (λ e. some (subst (λ y. y ≡ turn.Base) same (base e)))
-    (λ p e h. k p e h (subst (TurnIs root p (piles_in old.last old.listings.items)) same (chosen_turn (piles_in old.last old.listings.items) old.around trim root old.last p t e orderly h (next p e))))
+    → (X : Option Place → Type 0) (last : Option Place) → StandsAt further root old last
+    → ((p : Place) → old.last ≡ Some p → IsStanding further root p (piles_in old.last old.listings.items) old.around → TurnIs further root p (piles_in old.last old.listings.items) u → X (Some p)) → X last
+by_turn further root old trim t u same some base next orderly X last st k =
+    at_last further root old X last st (λ e. some (subst (λ y. y ≡ turn.Base) same (base e)))
+    (λ p e h. k p e h (subst (TurnIs further root p (piles_in old.last old.listings.items)) same (chosen_turn further (piles_in old.last old.listings.items) old.around trim root old.last p t e orderly h (next p e))))
 
 -- ---- at the end
 
 -- what is left lies past the end, or nothing is left
-pub ends_here : (root : StorageRoot) (old : Stand) → trimmed (piles_in old.last old.listings.items) ≡ piles_in old.last old.listings.items → (t : Turn)
+pub ends_here : (further : Further) (root : StorageRoot) (old : Stand) → trimmed (piles_in old.last old.listings.items) ≡ piles_in old.last old.listings.items → (t : Turn)
     → (old.last ≡ None → t ≡ turn.Base) → ((p : Place) → old.last ≡ Some p → t ≡ turn_of (next_of (piles_in old.last old.listings.items)) (path_from p old.around)) → IsOrderlyStand old
-    → (e : End) → turn.End ≡ turn_before e t → (s : Store) → s.tree ≡ root → (last : Option Place) → StandsAt root old last → StepsOut root s s last e old step.End
-ends_here root old trim t base next orderly e ended s over last st = by t refl (ended_turn e t ended)
+    → (e : End) → turn.End ≡ turn_before e t → (s : Store) → s.tree ≡ root → (last : Option Place) → StandsAt further root old last → StepsOut further root s s last e old step.End
+ends_here further root old trim t base next orderly e ended s over last st = by t refl (ended_turn e t ended)
   where
     X : Option Place → Type 0
-    X l = StepsOut root s s l e old step.End
+    X l = StepsOut further root s s l e old step.End
 
     turned : (u : Turn) → t ≡ u → (u ≡ turn.Base → ⊥)
-        → ((p : Place) → old.last ≡ Some p → IsStanding root p (piles_in old.last old.listings.items) old.around → TurnIs root p (piles_in old.last old.listings.items) u → X (Some p)) → X last
-    turned u same some k = by_turn root old trim t u same some base next orderly X last st k
+        → ((p : Place) → old.last ≡ Some p → IsStanding further root p (piles_in old.last old.listings.items) old.around → TurnIs further root p (piles_in old.last old.listings.items) u → X (Some p)) → X last
+    turned u same some k = by_turn further root old trim t u same some base next orderly X last st k
 
-    past : (p x : Place) (fs : List Frame) → old.last ≡ Some p → IsStanding root p (piles_in old.last old.listings.items) old.around → is_past e x ≡ true → IsTurn root p x fs → X (Some p)
-    past p x fs l h f go = (walks_out_nothing root s (Some p) e over (looked_past e root p x go.none_seen f) (read_past e root p x go.none_seen f), due_past e root p x f go.some go.none, (l, h))
+    past : (p x : Place) (fs : List Frame) → old.last ≡ Some p → IsStanding further root p (piles_in old.last old.listings.items) old.around → is_past e x ≡ true → IsTurn further root p x fs → X (Some p)
+    past p x fs l h f go = (walks_out_nothing further root s (Some p) e over (looked_past e root p x go.none_seen f) (read_past e root p x go.none_seen f), due_past e root further p x f go.some go.none, (l, h))
 
     by : (u : Turn) → t ≡ u → (t ≡ turn.End) ⊎ (is_turn_past e t ≡ true) → X last
     by u same (inl f) =
         turned turn.End f (λ g. cc)
-        (λ p l h go. (walks_out_nothing root s (Some p) e over (ap (before_end e) (looked_end root p go.0)) (ap (before_end e) (read_end root p go.0)), ap (before_end e) go.1, (l, h)))
+        (λ p l h go. (walks_out_nothing further root s (Some p) e over (ap (before_end e) (looked_end root p go.0)) (ap (before_end e) (read_end root p go.0)), ap (before_end e) go.1, (l, h)))
     by turn.Base same (inr f) =
         let top = ap (is_turn_past e) (sym same) ∙ f in
-        at_first root old X last st (chosen_base old.last (next_of (piles_in old.last old.listings.items)) old.around t base next same) (
-          walks_out_nothing root s None e over (all_past e root top (looked_between root None None)) (all_past e root top (read_between root None None)),
-          all_past e root top (due None root None),
+        at_first further root old X last st (chosen_base old.last (next_of (piles_in old.last old.listings.items)) old.around t base next same) (
+          walks_out_nothing further root s None e over (all_past e root top (looked_between root None None)) (all_past e root top (read_between root None None)),
+          all_past e root top (due further root None),
           chosen_base old.last (next_of (piles_in old.last old.listings.items)) old.around t base next same,
         )
     by (turn.Entry x) same (inr f) = turned (turn.Entry x) same (λ g. cc) (λ p l h go. past p x _ l h (ap (is_turn_past e) (sym same) ∙ f) go)

@@ -4,6 +4,7 @@ use Rattle.std.proofs.Math.Nat.{pow-suc, one-le-pow, mul_comm}
 use Rattle.std.specs.{declared.alloc.Global.{Global}, Prelude.{IfSome, Vec}}
 use Rattle.ocfl_tree.specs.{declared.store.Entry.{Entry}, Place.{Place, Text}}
 use Rattle.ocfl_tree.specs.{StorageRoot.{StorageRoot, max_entries}, Store.{Store}}
+use Rattle.ocfl_rules.specs.Inventories.{Further}
 use Rattle.ocfl_rules.specs.{Due.{due}, Head.{on}}
 use Rattle.ocfl_walk.specs.Standing.{IsStanding, Pile, StandsAt, entry_weight, piles_at, size_of, weigh, levels}
 use Rattle.ocfl_walk.specs.Internal.Standing.{IsFairPile, IsOrderly, left_of_folder, pushed}
@@ -75,23 +76,23 @@ pub item_first : (x : Place) (item : Option Pending) → x ≡ [] → IfSome ite
 item_first x None e h = h
 item_first x (Some p) e h = h ∙ sym e
 
-module _ (root : StorageRoot) where
-  pub first_stands : (x : Place) (f : Option Folder) (ps : List Pile) (a : Option Around) → x ≡ [] → ps ≡ [] → a ≡ None → IsPileAt root [] f → IsStanding root x (pushed f ps) a
+module _ (further : Further) (root : StorageRoot) where
+  pub first_stands : (x : Place) (f : Option Folder) (ps : List Pile) (a : Option Around) → x ≡ [] → ps ≡ [] → a ≡ None → IsPileAt root [] f → IsStanding further root x (pushed f ps) a
   first_stands x f ps a e none alone h =
-      subst (λ b. IsStanding root x (pushed f ps) b) (sym alone) (subst (λ qs. IsStanding root x (pushed f qs) None) (sym none) (subst (λ y. IsStanding root y (pushed f []) None) (sym e)
-      (stands_top root [] f [] None (stack_starts root (is_closed root) []) tt tt h (λ o s z. absurd (inside_not_root root o s z)))))
+      subst (λ b. IsStanding further root x (pushed f ps) b) (sym alone) (subst (λ qs. IsStanding further root x (pushed f qs) None) (sym none) (subst (λ y. IsStanding further root y (pushed f []) None) (sym e)
+      (stands_top further root [] f [] None (stack_starts root (is_closed root) []) tt tt h (λ o s z. absurd (inside_not_root root o s z)))))
 
   -- the storage root comes first
   pub near_first : IsNear root None []
   near_first = record { beyond = tt; looked = looked_first root; read = read_first root ∙ sym (ap (λ b. on b []) (root_unread root)) }
 
-  pub step_first : (s t : Store) (x : Place) (new : Stand) (item : Option Pending) → x ≡ [] → Meets None root s t [] → IsItemAt None root [] item
-      → StandsAt root new (Some x) → Steps root s t None new (step_from item)
-  step_first s t x new None e m i st = absurd (root_some None root i)
+  pub step_first : (s t : Store) (x : Place) (new : Stand) (item : Option Pending) → x ≡ [] → Meets further root s t [] → IsItemAt further root [] item
+      → StandsAt further root new (Some x) → Steps further root s t None new (step_from item)
+  step_first s t x new None e m i st = absurd (root_some further root i)
   step_first s t x new (Some p) e m i st =
       let there : [] ≡ p.place = sym i.1 in (
-        meets_walks root s t None p.place (subst (IsNear root None) there near_first) (subst (Meets None root s t) there m),
-        subst (λ y. StandsAt root new (Some y)) (e ∙ there) st,
+        meets_walks further root s t None p.place (subst (IsNear root None) there near_first) (subst (Meets further root s t) there m),
+        subst (λ y. StandsAt further root new (Some y)) (e ∙ there) st,
         tt,
-        record { pending = i.0; due_are = subst (λ y. due None root None ≡ y ∷ due None root (Some y)) there (due_first root (root_some None root)) },
+        record { pending = i.0; due_are = subst (λ y. due further root None ≡ y ∷ due further root (Some y)) there (due_first further root (root_some further root)) },
       )

@@ -11,6 +11,7 @@ use Rattle.ocfl_tree.specs.{StorageRoot.{StorageRoot}, declared.store.Entry.{Ent
 use Rattle.ocfl_tree.proofs.Orders.{place_cmp_exact}
 use Rattle.ocfl_inventory.specs.Table.{Table, Triple, paths_of, triple_cmp}
 use Rattle.ocfl_inventory.specs.NextPath as table
+use Rattle.ocfl_rules.specs.Inventories.{Further}
 use Rattle.ocfl_rules.specs.Zone.{Zone, skipped, hierarchy, inside, zone, table_at}
 use Rattle.ocfl_rules.specs.Walk.{IsClosed, seen_names}
 use Rattle.ocfl_rules.specs.Stack.{IsListed, seen_places, seen_left, next_entry, next_path, next_path_in, next_path_of, next_place, lesser, least_path, first_of_list}
@@ -90,8 +91,8 @@ least_first s (p ∷ q ∷ ps) h = let k = ascending_from q ps h.1 in by k.0 k.1
 next_same : (t : Table) (s : Place) → IsAscending triple_cmp t.triples → least_path s (paths_of t) ≡ table.next_path t (Some s)
 next_same t s h = least_first s (paths_of t) (rises_triples t.triples h) ∙ sym (find_first (above s) (paths_of t))
 
-pub path_same : (root : StorageRoot) (last : Place) (a : Option Around) → IsTableAround None root last a → IsFitIf a → next_path root last ≡ path_from last a
-path_same root last None h fit = by (zone root last) refl
+pub path_same : (further : Further) (root : StorageRoot) (last : Place) (a : Option Around) → IsTableAround further root last a → IsFitIf a → next_path root last ≡ path_from last a
+path_same further root last None h fit = by (zone root last) refl
   where
     none : (o s : Place) → (table : Option Table) → table ≡ None → next_path_of o s table ≡ None
     none o s None e = refl
@@ -101,7 +102,7 @@ path_same root last None h fit = by (zone root last) refl
     by skipped e = refl
     by hierarchy e = refl
     by (inside o s) e = none o s (table_at root o) (h o s e)
-path_same root last (Some a) h fit =
+path_same further root last (Some a) h fit =
     let whole : last ≡ a.place ++ h.0 = (zone_is root last a.place h.0 h.1).whole in
     ap (next_path_in root) h.1
     ∙ ap (next_path_of a.place h.0) h.2
@@ -136,8 +137,8 @@ module _ (root : StorageRoot) where
       by d [] k m l = l
       by d (e ∷ es) k m l = (k, m)
 
-  pub standing_trimmed : (last : Place) (ps : List Pile) (a : Option Around) → IsStanding root last ps a → IsStanding root last (trimmed ps) a
-  standing_trimmed last ps a h = record {
+  pub standing_trimmed : (further : Further) (last : Place) (ps : List Pile) (a : Option Around) → IsStanding further root last ps a → IsStanding further root last (trimmed ps) a
+  standing_trimmed further last ps a h = record {
     stack = left_trimmed (seen_places root) ps ∙ h.stack;
     listed = listed_trimmed ps h.listed;
     entries = entries_trimmed ps h.entries;
@@ -168,13 +169,13 @@ module _ (root : StorageRoot) where
       by d (e ∷ es) (Some b) h = chosen d e es b (is_lt (place_cmp b (d ++ e.name ∷ [])))
 
   -- the turn that is chosen leads to the next place of the walk
-  pub turn_is : (last : Place) (ps : List Pile) (a : Option Around) → IsTableAround None root last a → IsFitIf a
+  pub turn_is : (further : Further) (last : Place) (ps : List Pile) (a : Option Around) → IsTableAround further root last a → IsFitIf a
       → place_by root (trimmed ps) (turn_of (next_of (trimmed ps)) (path_from last a)) ≡ next_place root last (frames_of (trimmed ps))
-  turn_is last ps a h fit =
-      sym (ap (lesser (frames_of (trimmed ps)) (next_entry root (frames_of (trimmed ps)))) (path_same root last a h fit) ∙ turn_same ps (path_from last a))
+  turn_is further last ps a h fit =
+      sym (ap (lesser (frames_of (trimmed ps)) (next_entry root (frames_of (trimmed ps)))) (path_same further root last a h fit) ∙ turn_same ps (path_from last a))
 
-  pub turn_is_next : (closed : IsClosed root) (last : Place) (ps : List Pile) (a : Option Around) → IsStanding root last ps a → IsFitIf a
+  pub turn_is_next : (further : Further) (closed : IsClosed root) (last : Place) (ps : List Pile) (a : Option Around) → IsStanding further root last ps a → IsFitIf a
       → NextIs root closed last (place_by root (trimmed ps) (turn_of (next_of (trimmed ps)) (path_from last a)))
-  turn_is_next closed last ps a h fit =
-      let k = standing_trimmed last ps a h in
-      subst (NextIs root closed last) (sym (turn_is last ps a h.table fit)) (next_place_is root closed last (frames_of (trimmed ps)) k.stack k.listed)
+  turn_is_next further closed last ps a h fit =
+      let k = standing_trimmed further last ps a h in
+      subst (NextIs root closed last) (sym (turn_is further last ps a h.table fit)) (next_place_is root closed last (frames_of (trimmed ps)) k.stack k.listed)

@@ -3,6 +3,7 @@ use Rattle.std.proofs.Common.{◌≡◌, List, [], ◌++◌, refl, sym, ◌∙�
 use Rattle.std.specs.Prelude.{slice_get}
 use Rattle.ocfl_tree.specs.{Place.{Place}, StorageRoot.{StorageRoot}, Store.{Store, Did}}
 use Rattle.ocfl_tree.specs.declared.store.Opening.{Opening}
+use Rattle.ocfl_rules.specs.Inventories.{Further}
 use Rattle.ocfl_rules.specs.{Due.{due}, Head.{on}, Trail.{heads_of, reads_inventory}}
 use Rattle.ocfl_rules.specs.Between.{IsBeyond, IsWithin, is_looked_into, looked_between, read_between}
 use Rattle.ocfl_rules.proofs.BetweenLaws.{looked_on, read_on}
@@ -16,8 +17,8 @@ use Rattle.ocfl_walk.proofs.{EndLaws.{all_kept, looked_out, looked_to, read_out,
 use Rattle.ocfl_item.specs.declared.fault.Fault.TheVariants as fault
 
 -- the same with the lists of what was looked into and which inventories were read written otherwise
-pub audits_as : {root : StorageRoot} {s t : Store} {ps ls ms hs js : List Place} {os : List Opening} → ls ≡ ms → hs ≡ js → Audits None root s t ps ls hs os → Audits None root s t ps ms js os
-audits_as {root} {s} {t} {ps} {ls} {ms} {hs} {js} {os} e f a = subst (λ xs. Audits None root s t ps xs js os) e (subst (λ xs. Audits None root s t ps ls xs os) f a)
+pub audits_as : (further : Further) {root : StorageRoot} {s t : Store} {ps ls ms hs js : List Place} {os : List Opening} → ls ≡ ms → hs ≡ js → Audits further root s t ps ls hs os → Audits further root s t ps ms js os
+audits_as further {root} {s} {t} {ps} {ls} {ms} {hs} {js} {os} e f a = subst (λ xs. Audits further root s t ps xs js os) e (subst (λ xs. Audits further root s t ps ls xs os) f a)
 
 -- from one place to the next just what is at that one is looked into and read
 pub record IsNear (root : StorageRoot) (from : Option Place) (x : Place) : Type 0 where
@@ -25,104 +26,104 @@ pub record IsNear (root : StorageRoot) (from : Option Place) (x : Place) : Type 
   pub looked : looked_between root from (Some x) ≡ on (is_looked_into root x) x
   pub read : read_between root from (Some x) ≡ on (reads_inventory root x) x
 
-module _ (root : StorageRoot) (s t : Store) (from : Option Place) (x : Place) (near : IsNear root from x) where
-  pub meets_walks : Meets None root s t x → Walks root s t from (Some x)
+module _ (further : Further) (root : StorageRoot) (s t : Store) (from : Option Place) (x : Place) (near : IsNear root from x) where
+  pub meets_walks : Meets further root s t x → Walks further root s t from (Some x)
   meets_walks m = record {
     trail = m.trail;
-    audits = audits_meta None root s t (looked_between root from (Some x)) (read_between root from (Some x)) m.trail m.over
+    audits = audits_meta further root s t (looked_between root from (Some x)) (read_between root from (Some x)) m.trail m.over
         (subst (λ ls. Did s t m.trail ls 0) (m.listed ∙ sym near.looked) m.did) m.read m.meta (m.heads ∙ sym near.read)
-        (subst (λ ls. LieIn None root ls m.trail) (m.listed ∙ sym near.looked) m.near);
+        (subst (λ ls. LieIn further root ls m.trail) (m.listed ∙ sym near.looked) m.near);
   }
 
-  pub meets_fails : (why : Fault) → MeetFails None root s t x why → FailsTo root s t from x why
+  pub meets_fails : (why : Fault) → MeetFails further root s t x why → FailsTo further root s t from x why
   meets_fails why m = record {
     trail = m.trail;
     listed = m.listings;
     heads = heads_of root m.trail;
-    fails = fails_meta None root s t m.listings (heads_of root m.trail) m.trail why m.over m.did m.meta refl m.near m.store;
+    fails = fails_meta further root s t m.listings (heads_of root m.trail) m.trail why m.over m.did m.meta refl m.near m.store;
     listed_front = subst (IsFront m.listings) (sym near.looked) m.listed;
     heads_front = subst (IsFront (heads_of root m.trail)) (sym near.read) m.heads;
   }
 
 -- calls that were made before those that failed
-fails_behind : (root : StorageRoot) (s t u : Store) {ls ms xs hs gs ys : List Place} → ls ++ ms ≡ xs → hs ++ gs ≡ ys → (os : List Opening) (why : Fault)
-    → Audits None root s t [] ls hs os → FailsAmong root t u ms gs why → FailsAmong root s u xs ys why
-fails_behind root s t u {ls} {ms} {xs} {hs} {gs} {ys} looked read os why a f = record {
+fails_behind : (further : Further) (root : StorageRoot) (s t u : Store) {ls ms xs hs gs ys : List Place} → ls ++ ms ≡ xs → hs ++ gs ≡ ys → (os : List Opening) (why : Fault)
+    → Audits further root s t [] ls hs os → FailsAmong further root t u ms gs why → FailsAmong further root s u xs ys why
+fails_behind further root s t u {ls} {ms} {xs} {hs} {gs} {ys} looked read os why a f = record {
   trail = os ++ f.trail;
   listed = ls ++ f.listed;
   heads = hs ++ f.heads;
-  fails = audits_fail None root s t u [] [] _ _ _ _ os f.trail (failed_place why) a f.fails;
+  fails = audits_fail further root s t u [] [] _ _ _ _ os f.trail (failed_place why) a f.fails;
   listed_front = front_behind ls f.listed ms xs looked f.listed_front;
   heads_front = front_behind hs f.heads gs ys read f.heads_front;
 }
 
-module _ (root : StorageRoot) (s t u : Store) (from : Option Place) (b : Place) (beyond : IsBeyond from b) where
-  pub walks_on : (to : Option Place) → IsWithin to b → Walks root s t from (Some b) → Walks root t u (Some b) to → Walks root s u from to
+module _ (further : Further) (root : StorageRoot) (s t u : Store) (from : Option Place) (b : Place) (beyond : IsBeyond from b) where
+  pub walks_on : (to : Option Place) → IsWithin to b → Walks further root s t from (Some b) → Walks further root t u (Some b) to → Walks further root s u from to
   walks_on to within v w = record {
     trail = v.trail ++ w.trail;
-    audits = audits_as (looked_on root from to b beyond within) (read_on root from to b beyond within) (audits_on None root s t u [] [] _ _ _ _ v.trail w.trail v.audits w.audits);
+    audits = audits_as further (looked_on root from to b beyond within) (read_on root from to b beyond within) (audits_on further root s t u [] [] _ _ _ _ v.trail w.trail v.audits w.audits);
   }
 
-  pub walks_fail : (to : Option Place) (why : Fault) → IsWithin to b → Walks root s t from (Some b) → FailsBetween root t u (Some b) to why → FailsBetween root s u from to why
-  walks_fail to why within v w = fails_behind root s t u (looked_on root from to b beyond within) (read_on root from to b beyond within) v.trail why v.audits w
+  pub walks_fail : (to : Option Place) (why : Fault) → IsWithin to b → Walks further root s t from (Some b) → FailsBetween further root t u (Some b) to why → FailsBetween further root s u from to why
+  walks_fail to why within v w = fails_behind further root s t u (looked_on root from to b beyond within) (read_on root from to b beyond within) v.trail why v.audits w
 
 -- the tree stays
-pub walks_over : (root : StorageRoot) (s t : Store) (from to : Option Place) → Walks root s t from to → t.tree ≡ root
-walks_over root s t from to w = w.audits.did.tree ∙ w.audits.over
+pub walks_over : (further : Further) (root : StorageRoot) (s t : Store) (from to : Option Place) → Walks further root s t from to → t.tree ≡ root
+walks_over further root s t from to w = w.audits.did.tree ∙ w.audits.over
 
 -- ---- on to the end
 
-module _ (root : StorageRoot) (s t u : Store) (from : Option Place) (b : Place) (e : End) (beyond : IsBeyond from b) (before : is_past e b ≡ false) where
-  pub fails_out : (why : Fault) → IsWithin (next_due root from) b → FailsTo root s t from b why → FailsOut root s t from e why
+module _ (further : Further) (root : StorageRoot) (s t u : Store) (from : Option Place) (b : Place) (e : End) (beyond : IsBeyond from b) (before : is_past e b ≡ false) where
+  pub fails_out : (why : Fault) → IsWithin (next_due further root from) b → FailsTo further root s t from b why → FailsOut further root s t from e why
   fails_out why within f = record {
     trail = f.trail;
     listed = f.listed;
     heads = f.heads;
     fails = f.fails;
-    listed_front = front_more f.listed _ _ _ (looked_to e root from (next_due root from) b beyond within before) f.listed_front;
-    heads_front = front_more f.heads _ _ _ (read_to e root from (next_due root from) b beyond within before) f.heads_front;
+    listed_front = front_more f.listed _ _ _ (looked_to e root from (next_due further root from) b beyond within before) f.listed_front;
+    heads_front = front_more f.heads _ _ _ (read_to e root from (next_due further root from) b beyond within before) f.heads_front;
   }
 
-  pub walks_out : Walks root s t from (Some b) → WalksOut root t u (Some b) e → WalksOut root s u from e
+  pub walks_out : Walks further root s t from (Some b) → WalksOut further root t u (Some b) e → WalksOut further root s u from e
   walks_out v w = record {
     trail = v.trail ++ w.trail;
-    audits = audits_as (looked_out e root from b beyond before) (read_out e root from b beyond before) (audits_on None root s t u [] [] _ _ _ _ v.trail w.trail v.audits w.audits);
+    audits = audits_as further (looked_out e root from b beyond before) (read_out e root from b beyond before) (audits_on further root s t u [] [] _ _ _ _ v.trail w.trail v.audits w.audits);
   }
 
   -- if no item lies between
-  pub walks_fail_out : (why : Fault) → due None root from ≡ due None root (Some b) → Walks root s t from (Some b) → FailsOut root t u (Some b) e why → FailsOut root s u from e why
+  pub walks_fail_out : (why : Fault) → due further root from ≡ due further root (Some b) → Walks further root s t from (Some b) → FailsOut further root t u (Some b) e why → FailsOut further root s u from e why
   walks_fail_out why none v w =
-      let same : next_due root from ≡ next_due root (Some b) = ap (λ ps. slice_get ps 0) none in
-      let within = next_within root b in
-      subst (λ to. FailsAmong root s u (before_end e (looked_between root from to)) (before_end e (read_between root from to)) why) (sym same)
-      (fails_behind root s t u (looked_to e root from (next_due root (Some b)) b beyond within before) (read_to e root from (next_due root (Some b)) b beyond within before) v.trail why v.audits w)
+      let same : next_due further root from ≡ next_due further root (Some b) = ap (λ ps. slice_get ps 0) none in
+      let within = next_within further root b in
+      subst (λ to. FailsAmong further root s u (before_end e (looked_between root from to)) (before_end e (read_between root from to)) why) (sym same)
+      (fails_behind further root s t u (looked_to e root from (next_due further root (Some b)) b beyond within before) (read_to e root from (next_due further root (Some b)) b beyond within before) v.trail why v.audits w)
 
 -- if nothing is left before the end nothing is done
-pub walks_out_nothing : (root : StorageRoot) (s : Store) (from : Option Place) (e : End) → s.tree ≡ root → before_end e (looked_between root from None) ≡ []
-    → before_end e (read_between root from None) ≡ [] → WalksOut root s s from e
-walks_out_nothing root s from e over looked read = record { trail = []; audits = audits_as (sym looked) (sym read) (audits_nothing None root s over) }
+pub walks_out_nothing : (further : Further) (root : StorageRoot) (s : Store) (from : Option Place) (e : End) → s.tree ≡ root → before_end e (looked_between root from None) ≡ []
+    → before_end e (read_between root from None) ≡ [] → WalksOut further root s s from e
+walks_out_nothing further root s from e over looked read = record { trail = []; audits = audits_as further (sym looked) (sym read) (audits_nothing further root s over) }
 
 -- if memory was refused before anything was done
-pub no_memory : (root : StorageRoot) (s : Store) {looked read : List Place} → s.tree ≡ root → FailsAmong root s s looked read fault.Memory
-no_memory root s over = record {
+pub no_memory : (further : Further) (root : StorageRoot) (s : Store) {looked read : List Place} → s.tree ≡ root → FailsAmong further root s s looked read fault.Memory
+no_memory further root s over = record {
   trail = [];
   listed = [];
   heads = [];
-  fails = fails_nothing None root s over;
+  fails = fails_nothing further root s over;
   listed_front = front_none _;
   heads_front = front_none _;
 }
 
 -- to the end of the whole
-module _ (root : StorageRoot) (s t : Store) (from : Option Place) (e : End) (under : e.under ≡ []) (below : e.below ≡ None) where
-  pub walks_all : WalksOut root s t from e → Walks root s t from None
+module _ (further : Further) (root : StorageRoot) (s t : Store) (from : Option Place) (e : End) (under : e.under ≡ []) (below : e.below ≡ None) where
+  pub walks_all : WalksOut further root s t from e → Walks further root s t from None
   walks_all w = record {
     trail = w.trail;
-    audits = audits_as (all_kept e under below (looked_between root from None)) (all_kept e under below (read_between root from None)) w.audits;
+    audits = audits_as further (all_kept e under below (looked_between root from None)) (all_kept e under below (read_between root from None)) w.audits;
   }
 
-  pub fails_all : (why : Fault) → FailsOut root s t from e why → WalkFails root s t from why
+  pub fails_all : (why : Fault) → FailsOut further root s t from e why → WalkFails further root s t from why
   fails_all why f =
-      let to = next_due root from in
-      subst (λ ls. FailsAmong root s t ls (read_between root from to) why) (all_kept e under below (looked_between root from to))
-      (subst (λ hs. FailsAmong root s t (before_end e (looked_between root from to)) hs why) (all_kept e under below (read_between root from to)) f)
+      let to = next_due further root from in
+      subst (λ ls. FailsAmong further root s t ls (read_between root from to) why) (all_kept e under below (looked_between root from to))
+      (subst (λ hs. FailsAmong further root s t (before_end e (looked_between root from to)) hs why) (all_kept e under below (read_between root from to)) f)

@@ -5,6 +5,7 @@ use Rattle.std.specs.Prelude.{IfSome, codes, cond, not}
 use Rattle.ocfl_tree.specs.{Place.{Place, Text}, Ascending.{IsAmong}, StorageRoot.{StorageRoot}}
 use Rattle.ocfl_tree.specs.{Store.{Store}, declared.store.Opening.{Opening}}
 use Rattle.ocfl_tree.proofs.Orders.{among_left, among_right}
+use Rattle.ocfl_rules.specs.Inventories.{Further}
 use Rattle.ocfl_rules.specs.Objects.{IsObjectRoot}
 use Rattle.ocfl_rules.specs.Trail.{content_trail, heads_of, inventory_of, is_meta, reads_inventory}
 use Rattle.ocfl_rules.specs.{Walk.{is_reached}, Zone.{beginnings, zone}}
@@ -49,22 +50,22 @@ one_head root (y ∷ trail) x o (inl e) h =
     among_left (inventory_of (zone root y.place)) (heads_of root trail) o (subst (λ os. IsAmong os o) (sym own) (inl refl))
 one_head root (y ∷ trail) x o (inr i) h = among_right (inventory_of (zone root y.place)) (heads_of root trail) o (one_head root trail x o i h)
 
-no_content : (root : StorageRoot) (trail : List Opening) → content_trail None root trail ≡ [] → (x : Opening) → IsAmong trail x → is_meta None root x.place ≡ true
-no_content root [] h x i = absurd i
-no_content root (y ∷ trail) h x i = by (is_meta None root y.place) refl h i (λ k j. no_content root trail k x j)
+no_content : (further : Further) (root : StorageRoot) (trail : List Opening) → content_trail further root trail ≡ [] → (x : Opening) → IsAmong trail x → is_meta further root x.place ≡ true
+no_content further root [] h x i = absurd i
+no_content further root (y ∷ trail) h x i = by (is_meta further root y.place) refl h i (λ k j. no_content further root trail k x j)
   where
-    by : (b : Bool) → is_meta None root y.place ≡ b
-        → map (λ o. o.place) (cond (not b) (y ∷ filter (λ o. not (is_meta None root o.place)) trail) (filter (λ o. not (is_meta None root o.place)) trail)) ≡ [] → IsAmong (y ∷ trail) x
-        → (content_trail None root trail ≡ [] → IsAmong trail x → is_meta None root x.place ≡ true) → is_meta None root x.place ≡ true
+    by : (b : Bool) → is_meta further root y.place ≡ b
+        → map (λ o. o.place) (cond (not b) (y ∷ filter (λ o. not (is_meta further root o.place)) trail) (filter (λ o. not (is_meta further root o.place)) trail)) ≡ [] → IsAmong (y ∷ trail) x
+        → (content_trail further root trail ≡ [] → IsAmong trail x → is_meta further root x.place ≡ true) → is_meta further root x.place ≡ true
     by false e k j more = absurd cc
-    by true e k (inl f) more = ap (λ o. is_meta None root o.place) f ∙ e
+    by true e k (inl f) more = ap (λ o. is_meta further root o.place) f ∙ e
     by true e k (inr j) more = more k j
 
 -- ---- the way down
 
-module _ (root : StorageRoot) (s t : Store) (p : Option Place) (g : GoesDown root s t p) where
-  nothing_opened : content_trail None root g.trail ≡ []
-  nothing_opened = g.audits.opened ∙ none_hashed root
+module _ (further : Further) (root : StorageRoot) (s t : Store) (p : Option Place) (g : GoesDown further root s t p) where
+  nothing_opened : content_trail further root g.trail ≡ []
+  nothing_opened = g.audits.opened ∙ none_hashed further root
 
   pub down_inventories : (trail : List Opening)
       × ((t.openings ≡ s.openings ++ trail)
@@ -80,8 +81,8 @@ module _ (root : StorageRoot) (s t : Store) (p : Option Place) (g : GoesDown roo
       by None o i = absurd i
       by (Some d) o i = let k = held_above root d o i in (k.0, (k.1.0, ap (λ y. Some y) k.1.1))
 
-  pub down_metadata : (trail : List Opening) × ((t.openings ≡ s.openings ++ trail) × ((x : Opening) → IsAmong trail x → is_meta None root x.place ≡ true))
-  down_metadata = (g.trail, (g.audits.did.openings_are, no_content root g.trail nothing_opened))
+  pub down_metadata : (trail : List Opening) × ((t.openings ≡ s.openings ++ trail) × ((x : Opening) → IsAmong trail x → is_meta further root x.place ≡ true))
+  down_metadata = (g.trail, (g.audits.did.openings_are, no_content further root g.trail nothing_opened))
 
   pub down_listed : (listed : List Place) × ((t.listings ≡ s.listings ++ listed) × ((d : Place) → IsAmong listed d → (q : Place) × (p ≡ Some (d ++ q))))
   down_listed = (g.listed, (g.audits.did.listings_are, λ d i. by p d (subst (λ ds. IsAmong ds d) (sym g.listed_front.1) (among_left g.listed g.listed_front.0 d i))))
@@ -99,4 +100,4 @@ module _ (root : StorageRoot) (s t : Store) (p : Option Place) (g : GoesDown roo
       (first.0, g.audits.did.listings_are ∙ ap (λ l. s.listings ++ l) first.1)
 
   pub down_unfailing : t.failures ≡ s.failures
-  down_unfailing = let none = ap length (none_unread None root g.trail nothing_opened) in let all = g.audits.did.failures_are in omega (arith, none, all)
+  down_unfailing = let none = ap length (none_unread further root g.trail nothing_opened) in let all = g.audits.did.failures_are in omega (arith, none, all)

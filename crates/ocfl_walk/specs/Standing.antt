@@ -6,6 +6,7 @@ use Rattle.std.specs.{Ordering.{is_lt}, List.{AllByRecursion}}
 use Rattle.ocfl_tree.specs.{Place.{Place, place_cmp}, StorageRoot.{StorageRoot}, Listing.{kind_at}}
 use Rattle.ocfl_tree.specs.declared.store.Entry.{Entry}
 use Rattle.ocfl_inventory.specs.Table.{paths_of}
+use Rattle.ocfl_rules.specs.Inventories.{Further}
 use Rattle.ocfl_rules.specs.{Zone.{max_listed_depth}, Stack.{Frame, IsStack, IsListed}}
 use Rattle.ocfl_item.specs.{Around.{IsTableAround}, declared.folder.Folder.{Folder}}
 use Rattle.ocfl_item.specs.declared.meeting.Around.{Around}
@@ -88,13 +89,13 @@ AreEntries root d es = AllByRecursion (λ e. kind_at root d e.name ≡ Some e.ki
 abbrev pub HaveEntries : StorageRoot → List Pile → Type 0
 HaveEntries root ps = AllByRecursion (λ p. AreEntries root p.0 p.1) ps
 
-pub record IsStanding (root : StorageRoot) (last : Place) (ps : List Pile) (around : Option Around) : Type 0 where
+pub record IsStanding (further : Further) (root : StorageRoot) (last : Place) (ps : List Pile) (around : Option Around) : Type 0 where
   pub stack : IsStack root last (frames_of ps)
   pub listed : IsListed root (frames_of ps)
   pub entries : HaveEntries root ps
-  pub table : IsTableAround None root last around
+  pub table : IsTableAround further root last around
 
 -- the walk stands over this tree, with this last place
-abbrev pub StandsAt : StorageRoot → Stand → Option Place → Type 0
-StandsAt root s None = s.last ≡ None
-StandsAt root s (Some p) = (s.last ≡ Some p) × IsStanding root p (piles_in s.last s.listings.items) s.around
+abbrev pub StandsAt : Further → StorageRoot → Stand → Option Place → Type 0
+StandsAt further root s None = s.last ≡ None
+StandsAt further root s (Some p) = (s.last ≡ Some p) × IsStanding further root p (piles_in s.last s.listings.items) s.around

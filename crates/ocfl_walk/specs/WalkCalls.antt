@@ -3,6 +3,7 @@
 use Rattle.std.specs.Prelude.{true, List, [], ◌∷◌, Option, Some, None, IfSome, AllPairs, ◌≡◌, ◌≢◌, filter, slice_get}
 use Rattle.ocfl_tree.specs.{Place.{Place}, Ascending.{IsAmong}, StorageRoot.{StorageRoot}}
 use Rattle.ocfl_tree.specs.{Store.{Store}, declared.store.Opening.{Opening}}
+use Rattle.ocfl_rules.specs.Inventories.{Further}
 use Rattle.ocfl_rules.specs.Zone.{Zone, skipped, hierarchy, inside, zone}
 use Rattle.ocfl_rules.specs.{Between.{looked_between, read_between}, Due.{due}, Trail.{reads_inventory}}
 use Rattle.ocfl_rules.specs.Walk.{is_reached}
@@ -13,43 +14,43 @@ use Rattle.ocfl_walk.specs.{Ends.{before_end}, declared.end.End.{End}}
 -- ---- from one place on to another
 
 -- the directories between two places were listed, and the inventories between them read
-pub record Walks (root : StorageRoot) (s t : Store) (from to : Option Place) : Type 0 where
+pub record Walks (further : Further) (root : StorageRoot) (s t : Store) (from to : Option Place) : Type 0 where
   pub trail : List Opening
-  pub audits : Audits None root s t [] (looked_between root from to) (read_between root from to) trail
+  pub audits : Audits further root s t [] (looked_between root from to) (read_between root from to) trail
 
 -- the first of these directories were listed, and the first of these objects' inventories read, and
 -- then there was a fault
-pub record FailsAmong (root : StorageRoot) (s t : Store) (looked read : List Place) (why : Fault) : Type 0 where
+pub record FailsAmong (further : Further) (root : StorageRoot) (s t : Store) (looked read : List Place) (why : Fault) : Type 0 where
   pub trail : List Opening
   pub listed : List Place
   pub heads : List Place
-  pub fails : Fails None root s t [] listed heads trail (failed_place why)
+  pub fails : Fails further root s t [] listed heads trail (failed_place why)
   pub listed_front : IsFront listed looked
   pub heads_front : IsFront heads read
 
 -- the first of those between two places
-abbrev pub FailsBetween : StorageRoot → Store → Store → Option Place → Option Place → Fault → Type 0
-FailsBetween root s t from to why = FailsAmong root s t (looked_between root from to) (read_between root from to) why
+abbrev pub FailsBetween : Further → StorageRoot → Store → Store → Option Place → Option Place → Fault → Type 0
+FailsBetween further root s t from to why = FailsAmong further root s t (looked_between root from to) (read_between root from to) why
 
 -- the place of the next item above a place, and none if no item is left
-abbrev pub next_due : StorageRoot → Option Place → Option Place
-next_due root from = slice_get (due None root from) 0
+abbrev pub next_due : Further → StorageRoot → Option Place → Option Place
+next_due further root from = slice_get (due further root from) 0
 
 -- the first of those from a place to the next item's
-abbrev pub WalkFails : StorageRoot → Store → Store → Option Place → Fault → Type 0
-WalkFails root s t from why = FailsBetween root s t from (next_due root from) why
+abbrev pub WalkFails : Further → StorageRoot → Store → Store → Option Place → Fault → Type 0
+WalkFails further root s t from why = FailsBetween further root s t from (next_due further root from) why
 
 -- ---- from a place on to the end
 
 -- the directories from a place to the end were listed, and the inventories read
-pub record WalksOut (root : StorageRoot) (s t : Store) (from : Option Place) (e : End) : Type 0 where
+pub record WalksOut (further : Further) (root : StorageRoot) (s t : Store) (from : Option Place) (e : End) : Type 0 where
   pub trail : List Opening
-  pub audits : Audits None root s t [] (before_end e (looked_between root from None)) (before_end e (read_between root from None)) trail
+  pub audits : Audits further root s t [] (before_end e (looked_between root from None)) (before_end e (read_between root from None)) trail
 
 -- the first of those up to the next item's place, and then there was a fault
-abbrev pub FailsOut : StorageRoot → Store → Store → Option Place → End → Fault → Type 0
-FailsOut root s t from e why =
-    FailsAmong root s t (before_end e (looked_between root from (next_due root from))) (before_end e (read_between root from (next_due root from))) why
+abbrev pub FailsOut : Further → StorageRoot → Store → Store → Option Place → End → Fault → Type 0
+FailsOut further root s t from e why =
+    FailsAmong further root s t (before_end e (looked_between root from (next_due further root from))) (before_end e (read_between root from (next_due further root from))) why
 
 -- ---- down to one place
 
@@ -79,22 +80,22 @@ AreAllListed root dirs listed = (d : Place) → IsAmong dirs d → is_reached ro
 -- the first directories on the way to a place were listed, the storage root at least and all that
 -- are entered, and of inventories at most that of the object that holds it was read, if its head
 -- reaches it
-pub record GoesDown (root : StorageRoot) (s t : Store) (p : Option Place) : Type 0 where
+pub record GoesDown (further : Further) (root : StorageRoot) (s t : Store) (p : Option Place) : Type 0 where
   pub trail : List Opening
   pub listed : List Place
   pub heads : List Place
-  pub audits : Audits None root s t [] listed heads trail
+  pub audits : Audits further root s t [] listed heads trail
   pub root_first : IfSome p (λ q. IsRootFirst listed)
   pub all_listed : AreAllListed root (way_of p) listed
   pub listed_front : IsFront listed (way_of p)
   pub heads_front : IsFront heads (holder root p)
   pub once : AllPairs (λ a b. a.place ≢ b.place) trail
 
-pub record GoDownFails (root : StorageRoot) (s t : Store) (p : Option Place) (why : Fault) : Type 0 where
+pub record GoDownFails (further : Further) (root : StorageRoot) (s t : Store) (p : Option Place) (why : Fault) : Type 0 where
   pub trail : List Opening
   pub listed : List Place
   pub heads : List Place
-  pub fails : Fails None root s t [] listed heads trail (failed_place why)
+  pub fails : Fails further root s t [] listed heads trail (failed_place why)
   pub listed_front : IsFront listed (way_of p)
   pub heads_front : IsFront heads (holder root p)
   pub once : AllPairs (λ a b. a.place ≢ b.place) trail

@@ -2,6 +2,7 @@
 use Rattle.std.specs.Prelude.{◌≡◌, ◌<◌, ◌≤◌, ◌+◌, ℕ, ◌∷◌, ◌++◌, List, [], Option, Some, None, length, ⊤}
 use Rattle.ocfl_tree.specs.{Place.{Place, Text}, StorageRoot.{StorageRoot}, Store.{Store}}
 use Rattle.ocfl_tree.specs.declared.store.Opening.{Opening}
+use Rattle.ocfl_rules.specs.Inventories.{Further}
 use Rattle.ocfl_rules.specs.{Due.{due}, Between.{IsBeyond}}
 use Rattle.ocfl_walk.specs.{Before.{place_before}, Ends.{before_end}, WalkCalls.{Walks, WalksOut}}
 use Rattle.ocfl_walk.specs.{Standing.{StandsAt, stand_size}, declared.end.End.{End}}
@@ -23,13 +24,13 @@ walk_size walk = first_size walk.first + stand_size walk.stand
 
 -- a walk that begins at a name of the directory after which it stands, stands after the place
 -- before that
-abbrev pub StandsFrom : StorageRoot → Option Text → Stand → Option Place → Type 0
-StandsFrom root None s last = StandsAt root s last
-StandsFrom root (Some n) s last = (d : Place) × StandsAt root s (Some d) × (last ≡ place_before root (d ++ n ∷ []))
+abbrev pub StandsFrom : Further → StorageRoot → Option Text → Stand → Option Place → Type 0
+StandsFrom further root None s last = StandsAt further root s last
+StandsFrom further root (Some n) s last = (d : Place) × StandsAt further root s (Some d) × (last ≡ place_before root (d ++ n ∷ []))
 
--- it stands over this tree, after this place
-abbrev pub Stands : StorageRoot → Walk → Option Place → Type 0
-Stands root walk last = StandsFrom root walk.first walk.stand last
+-- it checks this beside what each audit checks, and stands over this tree, after this place
+abbrev pub Stands : Further → StorageRoot → Walk → Option Place → Type 0
+Stands further root walk last = (walk.further ≡ further) × StandsFrom further root walk.first walk.stand last
 
 -- from s to t no file was opened but inventories
 pub record OpensInventories (root : StorageRoot) (s t : Store) : Type 0 where
@@ -43,22 +44,22 @@ GoesOn old new None = ⊤
 GoesOn old new (Some p) = (last_of new ≡ Some p.place) × IsBeyond (last_of old) p.place × (walk_size new < walk_size old) × (length p.place ≤ 255)
 
 -- nothing is left above the place after which it stands
-abbrev pub HasEnded : StorageRoot → Walk → Type 0
-HasEnded root walk = (x : Option Place) × Stands root walk x × (due None root x ≡ [])
+abbrev pub HasEnded : Further → StorageRoot → Walk → Type 0
+HasEnded further root walk = (x : Option Place) × Stands further root walk x × (due further root x ≡ [])
 
 -- the first of what is due, or none if nothing is, then and from then on
-abbrev pub Gives : StorageRoot → Store → Store → Option Place → Walk → Option Pending → Type 0
-Gives root s t last new None = Walks root s t last None × (due None root last ≡ []) × HasEnded root new
-Gives root s t last new (Some p) =
-    Walks root s t last (Some p.place) × Stands root new (Some p.place) × IsPending None root p × (due None root last ≡ p.place ∷ due None root (Some p.place))
+abbrev pub Gives : Further → StorageRoot → Store → Store → Option Place → Walk → Option Pending → Type 0
+Gives further root s t last new None = Walks further root s t last None × (due further root last ≡ []) × HasEnded further root new
+Gives further root s t last new (Some p) =
+    Walks further root s t last (Some p.place) × Stands further root new (Some p.place) × IsPending further root p × (due further root last ≡ p.place ∷ due further root (Some p.place))
 
 -- ---- up to an end
 
 -- nothing is left before the end above the place after which it stands
-abbrev pub HasEndedOut : StorageRoot → End → Walk → Type 0
-HasEndedOut root e walk = (x : Option Place) × Stands root walk x × (before_end e (due None root x) ≡ [])
+abbrev pub HasEndedOut : Further → StorageRoot → End → Walk → Type 0
+HasEndedOut further root e walk = (x : Option Place) × Stands further root walk x × (before_end e (due further root x) ≡ [])
 
 -- the first of what is due, or none where nothing is due before the end
-abbrev pub GivesOut : StorageRoot → Store → Store → Option Place → End → Walk → Option Pending → Type 0
-GivesOut root s t last e new None = WalksOut root s t last e × (before_end e (due None root last) ≡ []) × HasEndedOut root e new
-GivesOut root s t last e new (Some p) = Gives root s t last new (Some p)
+abbrev pub GivesOut : Further → StorageRoot → Store → Store → Option Place → End → Walk → Option Pending → Type 0
+GivesOut further root s t last e new None = WalksOut further root s t last e × (before_end e (due further root last) ≡ []) × HasEndedOut further root e new
+GivesOut further root s t last e new (Some p) = Gives further root s t last new (Some p)

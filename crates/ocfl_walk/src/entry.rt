@@ -4,7 +4,7 @@ ghost use Rattle.std.specs.Prelude.{MatchOption, MatchResult};
 ghost use Rattle.ocfl_tree.specs.{StorageRoot.{StorageRoot}, Store.{Store, IfTold}};
 ghost use Rattle.ocfl_tree.specs.{Place.{Place as Spot, Text}, Listing.{IsListing}};
 ghost use Rattle.ocfl_inventory.specs.Table.{IsFit};
-ghost use Rattle.ocfl_rules.specs.Zone.{zone};
+ghost use Rattle.ocfl_rules.specs.{Inventories.{Further}, Zone.{zone}};
 ghost use Rattle.ocfl_item.specs.{Around.{IsPart}, Meeting.{IsFairFolder}};
 ghost use Rattle.ocfl_item.specs.Ways.{Enters, IsAt, IsObject, Stops, way_below};
 ghost use Rattle.ocfl_walk.specs.Internal.Entering.{StaysOut, Comes, DescendFails, IsBrought};
@@ -22,6 +22,7 @@ use ocfl_inventory::{Declared, Level, is_version_name};
 use ocfl_item::{
     Around, Fault, Folder, Head, can_enter, head_of, is_extensions, list, table_of_object,
 };
+use ocfl_rules::further::NewCodes;
 use ocfl_tree::{Name, Place, Tree, is_text};
 use std::alloc::{AllocError, Global};
 
@@ -30,13 +31,13 @@ fn listed<T: Tree>(store: &mut T, folder: &Folder, name: &Name) -> Result<Option
     ensures fair { IfOk result (λ next. IfSome next
         (λ inner. IsFairFolder (folder.now.place ++ name.now ∷ []) inner)) }
     ensures told { IfTold T.told (T.state store.old) (λ root.
-        IsListing root folder.now.place folder.now.entries.items
+        (further : Further) → IsListing root folder.now.place folder.now.entries.items
         → let below = folder.now.place ++ name.now ∷ [] in MatchResult result
         (λ next. MatchOption next
         (StaysOut root (T.state store.old) (T.state store.new) below)
         (λ inner. Enters root (T.state store.old) (T.state store.new) below
         inner.place inner.entries.items))
-        (λ why. Stops None root (T.state store.old) (T.state store.new) (below ∷ []) [] why)) }
+        (λ why. Stops further root (T.state store.old) (T.state store.new) (below ∷ []) [] why)) }
 {
     if !can_enter(folder, name) {
         return Ok(None);
@@ -49,7 +50,8 @@ fn listed<T: Tree>(store: &mut T, folder: &Folder, name: &Name) -> Result<Option
 pub(crate) fn known_root<T: Tree>(alloc: Global, store: &mut T) -> Result<Option<Folder>, Fault>
     ensures fair { IfOk result (λ next. IfSome next (λ base. IsFairFolder [] base)) }
     ensures told { IfTold T.told (T.state store.old) (λ root.
-        ListsRoot root (T.state store.old) (T.state store.new) result) }
+        (further : Further)
+        → ListsRoot further root (T.state store.old) (T.state store.new) result) }
 {
     let base = list(store, Place::root(alloc))?;
     let Head::Known = head_of(&base, Level::Root) else {
@@ -59,14 +61,19 @@ pub(crate) fn known_root<T: Tree>(alloc: Global, store: &mut T) -> Result<Option
 }
 
 /// An object with its table, if its head does not stop.
-fn opened<T: Tree>(alloc: Global, store: &mut T, folder: &Folder) -> Result<Option<Around>, Fault>
+fn opened<T: Tree>(
+    alloc: Global,
+    store: &mut T,
+    further: Option<NewCodes>,
+    folder: &Folder,
+) -> Result<Option<Around>, Fault>
     ensures kept { IfOk result (λ next. IfSome next
         (λ object. (object.place ≡ folder.now.place) × IsFit object.table)) }
     ensures told { IfTold T.told (T.state store.old) (λ root.
         IsObject root folder.now.place folder.now.entries.items
-        → Opens root (T.state store.old) (T.state store.new) folder.now.place result) }
+        → Opens further root (T.state store.old) (T.state store.new) folder.now.place result) }
 {
-    let (table, root) = table_of_object(alloc, store, None, folder)?;
+    let (table, root) = table_of_object(alloc, store, further, folder)?;
     let Some(table) = table else {
         return Ok(None);
     };
@@ -79,6 +86,7 @@ fn opened<T: Tree>(alloc: Global, store: &mut T, folder: &Folder) -> Result<Opti
 fn into_directory<T: Tree>(
     alloc: Global,
     store: &mut T,
+    further: Option<NewCodes>,
     object: &mut Option<Around>,
     inner: Folder,
 ) -> Result<Option<Folder>, Fault>
@@ -87,12 +95,13 @@ fn into_directory<T: Tree>(
         → IfOk result (λ o. IsFairWay d n object.old object.new o) }
     ensures told { IfTold T.told (T.state store.old) (λ root.
         (s : Store) (d : Spot) (n : Text) → ListsBelow root s (T.state store.old) d n inner
-        → (r : Spot) → Leads root s (T.state store.new) d n r object.old object.new result) }
+        → (r : Spot)
+        → Leads further root s (T.state store.new) d n r object.old object.new result) }
 {
     match declaration(&inner.entries, Level::Object) {
         Declared::None => Ok(Some(inner)),
         Declared::One(_) => {
-            let Some(around) = opened(alloc, store, &inner)? else {
+            let Some(around) = opened(alloc, store, further, &inner)? else {
                 return Ok(None);
             };
             *object = Some(around);
@@ -126,6 +135,7 @@ fn leads_on(object: &Option<Around>, folder: &Folder, name: &Name) -> bool
 pub(crate) fn down<T: Tree>(
     alloc: Global,
     store: &mut T,
+    further: Option<NewCodes>,
     object: &mut Option<Around>,
     folder: &Folder,
     name: &Name,
@@ -134,9 +144,9 @@ pub(crate) fn down<T: Tree>(
     ensures fair { IfOk result (λ o. IsFairWay folder.now.place name.now object.old object.new o) }
     ensures told { IfTold T.told (T.state store.old) (λ root.
         IsAt root folder.now.place folder.now.entries.items
-        → IsPart None root folder.now.place object.old → (r : Spot)
-        → Leads root (T.state store.old) (T.state store.new) folder.now.place name.now r object.old
-        object.new result) }
+        → IsPart further root folder.now.place object.old → (r : Spot)
+        → Leads further root (T.state store.old) (T.state store.new) folder.now.place name.now r
+        object.old object.new result) }
 {
     if !leads_on(object, folder, name) {
         return Ok(None);
@@ -145,7 +155,7 @@ pub(crate) fn down<T: Tree>(
         return Ok(None);
     };
     match object {
-        None => into_directory(alloc, store, object, inner),
+        None => into_directory(alloc, store, further, object, inner),
         Some(_) => Ok(Some(inner)),
     }
 }
@@ -154,6 +164,7 @@ pub(crate) fn down<T: Tree>(
 fn go_down<T: Tree>(
     alloc: Global,
     store: &mut T,
+    further: Option<NewCodes>,
     stand: &mut Stand,
     folder: Folder,
     names: &[Name],
@@ -166,26 +177,28 @@ fn go_down<T: Tree>(
     ensures orderly { IfOk result (λ _. IsOrderly (folder.place ++ names.now)
         (piles_in stand.new.last stand.new.listings.items) stand.new.around) }
     ensures told { IfTold T.told (T.state store.old) (λ root.
-        IsAt root folder.place folder.entries.items → IsPart None root folder.place stand.old.around
+        IsAt root folder.place folder.entries.items
+        → IsPart further root folder.place stand.old.around
         → let may = may_open stand.old.around
         (zone root (folder.place ++ names.now)) in MatchResult result
-        (λ _. Comes root (T.state store.old) (T.state store.new)
+        (λ _. Comes further root (T.state store.old) (T.state store.new)
         (way_below folder.place names.now) [] may []
-        × IsBrought root folder.place names.now (piles_in stand.old.last stand.old.listings.items)
+        × IsBrought further root folder.place names.now
+        (piles_in stand.old.last stand.old.listings.items)
         (piles_in stand.new.last stand.new.listings.items) stand.new.around)
-        (λ why. DescendFails root (T.state store.old) (T.state store.new)
+        (λ why. DescendFails further root (T.state store.old) (T.state store.new)
         (way_below folder.place names.now) may why)) }
 {
     let Some((name, rest)) = names.split_first() else {
         push(&mut stand.listings, sorted(folder));
         return Ok(());
     };
-    let inner = down(alloc, store, &mut stand.around, &folder, name)?;
+    let inner = down(alloc, store, further, &mut stand.around, &folder, name)?;
     let mut left = sorted(folder);
     keep_above(&mut left.entries, name);
     push(&mut stand.listings, left);
     match inner {
-        Some(inner) => go_down(alloc, store, stand, inner, rest),
+        Some(inner) => go_down(alloc, store, further, stand, inner, rest),
         None => Ok(()),
     }
 }
@@ -207,6 +220,7 @@ fn stand_without_listings(alloc: Global, place: &Place) -> Result<Stand, AllocEr
 fn go_down_from_root<T: Tree>(
     alloc: Global,
     store: &mut T,
+    further: Option<NewCodes>,
     stand: &mut Stand,
     after: &Place,
 ) -> Result<(), Fault>
@@ -217,28 +231,33 @@ fn go_down_from_root<T: Tree>(
     ensures orderly { IfOk result (λ _. IsOrderlyStand stand.new) }
     ensures told { IfTold T.told (T.state store.old) (λ root.
         MatchResult result
-        (λ _. Starts root (T.state store.old) (T.state store.new) after.now
-        × StandsAt root stand.new (Some after.now))
-        (λ why. StartFails root (T.state store.old) (T.state store.new) after.now why)) }
+        (λ _. Starts further root (T.state store.old) (T.state store.new) after.now
+        × StandsAt further root stand.new (Some after.now))
+        (λ why. StartFails further root (T.state store.old) (T.state store.new) after.now why)) }
 {
     let names = after.names()?;
     let Some(base) = known_root(alloc, store)? else {
         return Ok(());
     };
-    go_down(alloc, store, stand, base, &names)
+    go_down(alloc, store, further, stand, base, &names)
 }
 
 /// Where a walk stands at a place.
-pub(crate) fn stand_at<T: Tree>(alloc: Global, store: &mut T, after: &Place) -> Result<Stand, Fault>
+pub(crate) fn stand_at<T: Tree>(
+    alloc: Global,
+    store: &mut T,
+    further: Option<NewCodes>,
+    after: &Place,
+) -> Result<Stand, Fault>
     ensures last { IfOk result (λ stand. stand.last ≡ Some after.now) }
     ensures orderly { IfOk result (λ stand. IsOrderlyStand stand) }
     ensures told { IfTold T.told (T.state store.old) (λ root.
         MatchResult result
-        (λ stand. Starts root (T.state store.old) (T.state store.new) after.now
-        × StandsAt root stand (Some after.now))
-        (λ why. StartFails root (T.state store.old) (T.state store.new) after.now why)) }
+        (λ stand. Starts further root (T.state store.old) (T.state store.new) after.now
+        × StandsAt further root stand (Some after.now))
+        (λ why. StartFails further root (T.state store.old) (T.state store.new) after.now why)) }
 {
     let mut stand = stand_without_listings(alloc, after)?;
-    go_down_from_root(alloc, store, &mut stand, after)?;
+    go_down_from_root(alloc, store, further, &mut stand, after)?;
     Ok(stand)
 }

@@ -8,6 +8,7 @@ ghost use Rattle.ocfl_walk.specs.Internal.Standing.{IsAroundIf};
 
 use crate::entry::down;
 use ocfl_item::{Around, Fault, Folder, Pending, visit_entry, visit_path};
+use ocfl_rules::further::NewCodes;
 use ocfl_tree::{Entry, Name, Place, Tree, is_text};
 use std::alloc::Global;
 
@@ -28,6 +29,7 @@ fn entry_named<'f>(entries: &'f [Entry], name: &Name) -> Option<&'f Entry>
 fn item_in<T: Tree>(
     alloc: Global,
     store: &mut T,
+    further: Option<NewCodes>,
     place: &Place,
     around: &Option<Around>,
     folder: &Folder,
@@ -35,23 +37,26 @@ fn item_in<T: Tree>(
 ) -> Result<Option<Pending>, Fault>
     ensures told { IfTold T.told (T.state store.old) (λ root.
         IsAt root folder.now.place folder.now.entries.items
-        → IsPart None root folder.now.place around.now
+        → IsPart further root folder.now.place around.now
         → place.now ≡ folder.now.place ++ name.now ∷ []
-        → FindsItem root (T.state store.old) (T.state store.new) (place.now ∷ [])
+        → FindsItem further root (T.state store.old) (T.state store.new) (place.now ∷ [])
         (may_open around.now (zone root place.now)) place.now result) }
 {
-    match entry_named(&folder.entries, name) {
-        Some(entry) => Ok(
-            visit_entry(alloc, store, None, around, place.try_clone()?, entry, &[])?.item,
-        ),
-        None => Ok(visit_path(alloc, around, place)?),
-    }
+    let entries = folder.entries.as_slice();
+    let Some(entry) = entry_named(entries, name) else {
+        return Ok(visit_path(alloc, around, place)?);
+    };
+    let place = place.try_clone()?;
+    // The other entries stand for those that come after this one.
+    let visit = visit_entry(alloc, store, further, around, place, entry, entries)?;
+    Ok(visit.item)
 }
 
 /// The item of a name and those after it, below a directory.
 pub(crate) fn find_below<T: Tree>(
     alloc: Global,
     store: &mut T,
+    further: Option<NewCodes>,
     place: &Place,
     mut around: Option<Around>,
     folder: Folder,
@@ -60,20 +65,20 @@ pub(crate) fn find_below<T: Tree>(
 ) -> Result<Option<Pending>, Fault>
     requires { IsAroundIf folder.place around }
     ensures told { IfTold T.told (T.state store.old) (λ root.
-        IsAt root folder.place folder.entries.items → IsPart None root folder.place around
+        IsAt root folder.place folder.entries.items → IsPart further root folder.place around
         → place.now ≡ folder.place ++ name.now ∷ rest.now
-        → FindsItem root (T.state store.old) (T.state store.new)
+        → FindsItem further root (T.state store.old) (T.state store.new)
         (way_below folder.place (name.now ∷ rest.now))
         (may_open around (zone root place.now)) place.now result) }
 {
     let Some((next, behind)) = rest.split_first() else {
-        return item_in(alloc, store, place, &around, &folder, name);
+        return item_in(alloc, store, further, place, &around, &folder, name);
     };
-    let inner = down(alloc, store, &mut around, &folder, name)?;
+    let inner = down(alloc, store, further, &mut around, &folder, name)?;
     // only one listing is held at a time
     drop(folder);
     match inner {
-        Some(inner) => find_below(alloc, store, place, around, inner, next, behind),
+        Some(inner) => find_below(alloc, store, further, place, around, inner, next, behind),
         None => Ok(visit_path(alloc, &around, place)?),
     }
 }

@@ -7,7 +7,7 @@ ghost use Rattle.ocfl_tree.specs.Store.{IfTold};
 use crate::entry::known_root;
 use crate::find::find_below;
 use ocfl_item::{Fault, Pending, visit_base};
-use ocfl_report::Line;
+use ocfl_rules::further::NewCodes;
 use ocfl_tree::{Place, Tree};
 use std::alloc::{AllocError, Global};
 
@@ -17,18 +17,21 @@ use std::alloc::{AllocError, Global};
 /// Of directories it lists those on the way to the place and the place itself, in order, each once
 /// and only as far as they are entered. Of files it reads, each once, the declaration of the
 /// storage root or of an object if the place is that, and the inventory of the object that holds
-/// the place; an object's sidecars too. `Fault::Store` if the store did not answer,
-/// `Fault::Memory` if memory was refused.
+/// the place; an object's sidecars too. `further` is what is checked beside what each audit checks:
+/// at an inventory of a version directory the sidecars beside it are read. `Fault::Store` if the
+/// store did not answer, `Fault::Memory` if memory was refused.
 pub fn item_at<T: Tree>(
     alloc: Global,
     store: &mut T,
+    further: Option<NewCodes>,
     place: &Place,
 ) -> Result<Option<Pending>, Fault>
     ensures told { IfTold T.told (T.state store.old) (λ root.
         MatchResult result
-        (λ o. GoesDown root (T.state store.old) (T.state store.new) (Some place.now)
-        × IsItemAt None root place.now o)
-        (λ why. GoDownFails root (T.state store.old) (T.state store.new) (Some place.now) why)) }
+        (λ o. GoesDown further root (T.state store.old) (T.state store.new) (Some place.now)
+        × IsItemAt further root place.now o)
+        (λ why. GoDownFails further root (T.state store.old) (T.state store.new) (Some place.now)
+        why)) }
 {
     let names = place.names()?;
     let Some((name, rest)) = names.split_first() else {
@@ -37,5 +40,5 @@ pub fn item_at<T: Tree>(
     let Some(base) = known_root(alloc, store)? else {
         return Ok(None);
     };
-    find_below(alloc, store, place, None, base, name, rest)
+    find_below(alloc, store, further, place, None, base, name, rest)
 }

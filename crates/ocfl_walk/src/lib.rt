@@ -8,6 +8,8 @@
 //! - Between the two places it lists exactly the directories there that an audit looks into, in
 //!   order, each once. It reads exactly the inventories of the objects between them. It opens no
 //!   content file, and nothing fails (`Walks`).
+//! - That holds of each audit, with the inventories of version directories (`Further`) and without
+//!   them. With them it opens metadata also beside those of them that lie between the two places.
 //! - A fault of the store names the place of the call that failed: the last opening, of metadata,
 //!   or the last listing, which alone of listings failed. That is never a hashed file's place. No
 //!   directory above the next item's place was listed then, and no inventory of an object there was

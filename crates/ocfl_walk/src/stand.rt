@@ -6,15 +6,15 @@ ghost use Rattle.std.specs.{Ordering.{is_lt}, declared.cmp.Ordering.TheVariants.
 ghost use Rattle.arrayvec.specs.ArrayVec.{array_vec_len};
 ghost use Rattle.ocfl_tree.specs.{Place.{Place as Spot, place_cmp}, StorageRoot.{StorageRoot}};
 ghost use Rattle.ocfl_tree.specs.Store.{Store, IfTold};
-ghost use Rattle.ocfl_rules.specs.{Walk.{seen_names}, Zone.{seen}};
-ghost use Rattle.ocfl_item.specs.Around.{IsMet, IsNamedIn, IsTableAround};
+ghost use Rattle.ocfl_rules.specs.{Inventories.{Further}, Walk.{seen_names}, Zone.{seen}};
+ghost use Rattle.ocfl_item.specs.Around.{AreBehind, IsMet, IsNamedIn, IsTableAround};
 ghost use Rattle.ocfl_item.specs.Meeting.{IsFairVisit, IsVisit, MeetFails, Meets};
-ghost use Rattle.ocfl_walk.specs.Standing.{StandsAt, frames_of, levels, pile_of, piles_at};
+ghost use Rattle.ocfl_walk.specs.Standing.{StandsAt, back, frames_of, levels, pile_of, piles_at};
 ghost use Rattle.ocfl_walk.specs.Standing.{piles_in, stand_size};
 ghost use Rattle.ocfl_walk.specs.Internal.Standing.{IsAroundIf, IsBelowNext, IsHeld};
 ghost use Rattle.ocfl_walk.specs.Internal.Standing.{IsOrderlyStand, IsTaken, IsTurn, around_of};
 ghost use Rattle.ocfl_walk.specs.Internal.Standing.{cut_top, next_of, path_from, popped, pushed};
-ghost use Rattle.ocfl_walk.specs.Internal.Standing.{still, trimmed, turn_before, turn_of};
+ghost use Rattle.ocfl_walk.specs.Internal.Standing.{still, top_of, trimmed, turn_before, turn_of};
 ghost use Rattle.ocfl_walk.specs.{Before.{place_before}, Ends.{is_past}};
 ghost use Rattle.ocfl_walk.specs.Internal.Walking.{step_from, GoesOn, GoesTo, IsBefore, IsFairMet};
 ghost use Rattle.ocfl_walk.specs.Internal.Walking.{GoesAt, IsMeeting, NextGoesOn, NextOutTo};
@@ -27,6 +27,7 @@ use ocfl_inventory::Table;
 use ocfl_item::{
     Around, Fault, Folder, Pending, RootInventory, Visit, visit_base, visit_entry, visit_path,
 };
+use ocfl_rules::further::NewCodes;
 use ocfl_tree::{Entry, Name, Place, Tree, is_text};
 use std::alloc::{AllocError, Global};
 
@@ -217,6 +218,16 @@ fn take_entry(listings: &mut Listings) -> Option<Entry>
     entry
 }
 
+/// What is left of the last listing.
+fn left_beside(listings: &Listings) -> &[Entry]
+    ensures { (p : Spot) → back (λ e. e) result.now ≡ top_of (piles_at p listings.now.items) }
+{
+    match listings.as_slice().last() {
+        Some(entries) => entries,
+        None => &[],
+    }
+}
+
 /// Drops the entries before a name from the listing of a directory at depth `names`, if that is the
 /// last listing.
 fn drop_before(listings: &mut Listings, names: usize, name: &Name)
@@ -290,10 +301,10 @@ fn met_by(around: Option<Around>, place: &Place, visit: Visit) -> Result<Met, Al
     ensures fair { IsFairVisit place.now visit
         → IsAroundIf place.now (around_of around place.now visit.table visit.root)
         → IfOk result (λ m. IsFairMet place.now m) }
-    ensures told { (root : StorageRoot) → IsFairVisit place.now visit
-        → IsVisit None root place.now visit
-        → IsTableAround None root place.now (around_of around place.now visit.table visit.root)
-        → IfOk result (λ m. IsMeeting root place.now m) }
+    ensures told { (further : Further) (root : StorageRoot) → IsFairVisit place.now visit
+        → IsVisit further root place.now visit
+        → IsTableAround further root place.now (around_of around place.now visit.table visit.root)
+        → IfOk result (λ m. IsMeeting further root place.now m) }
 {
     let Visit {
         item,
@@ -314,21 +325,31 @@ fn met_by(around: Option<Around>, place: &Place, visit: Visit) -> Result<Met, Al
 fn meet<T: Tree>(
     alloc: Global,
     store: &mut T,
+    further: Option<NewCodes>,
     around: Option<Around>,
     place: &Place,
     entry: &Entry,
+    behind: &[Entry],
 ) -> Result<Met, Fault>
     ensures fair { IsAroundIf place.now (still around place.now)
         → IfOk result (λ m. IsFairMet place.now m) }
     ensures told { IfTold T.told (T.state store.old) (λ root.
-        (d : Spot) → IsMet None root d (still around place.now) entry.now place.now
-        → MatchResult result
-        (λ m. Meets None root (T.state store.old) (T.state store.new) place.now
-        × IsMeeting root place.now m)
-        (λ why. MeetFails None root (T.state store.old) (T.state store.new) place.now why)) }
+        (d : Spot) → IsMet further root d (still around place.now) entry.now place.now
+        → AreBehind further root d entry.now behind.now → MatchResult result
+        (λ m. Meets further root (T.state store.old) (T.state store.new) place.now
+        × IsMeeting further root place.now m)
+        (λ why. MeetFails further root (T.state store.old) (T.state store.new) place.now why)) }
 {
     let around = still_around(around, place);
-    let visit = visit_entry(alloc, store, None, &around, place.try_clone()?, entry, &[])?;
+    let visit = visit_entry(
+        alloc,
+        store,
+        further,
+        &around,
+        place.try_clone()?,
+        entry,
+        behind,
+    )?;
     Ok(met_by(around, place, visit)?)
 }
 
@@ -373,7 +394,9 @@ impl Stand {
         ensures goes_on { IfOk result (λ step. GoesOn self.old self.new step) }
         ensures there { IfOk result (λ step. GoesTo self.new [] step) }
         ensures told { IfTold T.told (T.state store.old) (λ root.
-            StepsTo root (T.state store.old) (T.state store.new) None [] self.new result) }
+            (further : Further)
+            → StepsTo further root (T.state store.old) (T.state store.new) None [] self.new
+            result) }
     {
         let Visit { item, folder, .. } = visit_base(alloc, store)?;
         push_if(&mut self.listings, sorted_if(folder));
@@ -386,6 +409,7 @@ impl Stand {
         &mut self,
         alloc: Global,
         store: &mut T,
+        further: Option<NewCodes>,
         place: Place,
     ) -> Result<Step, Fault>
         requires orderly { IsOrderlyStand self.old }
@@ -395,21 +419,23 @@ impl Stand {
         ensures there { IfOk result (λ step. GoesTo self.new place step) }
         ensures told { IfTold T.told (T.state store.old) (λ root.
             (stood last : Spot) → self.old.last ≡ Some stood
-            → IsHeld root stood (piles_in self.old.last self.old.listings.items) self.old.around
-            → IsTurn root last place ((place, seen_names root place)
+            → IsHeld further root stood (piles_in self.old.last self.old.listings.items)
+            self.old.around
+            → IsTurn further root last place ((place, seen_names root place)
             ∷ popped (piles_in self.old.last self.old.listings.items))
-            → StepsTo root (T.state store.old) (T.state store.new) (Some last) place self.new
-            result) }
+            → StepsTo further root (T.state store.old) (T.state store.new) (Some last) place
+            self.new result) }
     {
         let Some(entry) = take_entry(&mut self.listings) else {
             return Ok(Step::End);
         };
         let around = self.around.take();
+        let behind = left_beside(&self.listings);
         let Met {
             item,
             folder,
             around,
-        } = meet(alloc, store, around, &place, &entry)?;
+        } = meet(alloc, store, further, around, &place, &entry, behind)?;
         push_if(&mut self.listings, folder);
         self.around = around;
         self.last = Some(place);
@@ -431,10 +457,12 @@ impl Stand {
         ensures falls { IsNamedIn place self.old.around
             → IfOk result (λ _. stand_size self.new < stand_size self.old) }
         ensures there { IfOk result (λ step. GoesTo self.new place step) }
-        ensures told { (s : Store) (root : StorageRoot) → s.tree ≡ root → (last : Spot)
-            → IsHeld root place (piles_in self.old.last self.old.listings.items) self.old.around
-            → IsTurn root last place (frames_of (piles_in self.old.last self.old.listings.items))
-            → seen root place ≡ None → StepsTo root s s (Some last) place self.new result }
+        ensures told { (further : Further) (s : Store) (root : StorageRoot) → s.tree ≡ root
+            → (last : Spot)
+            → IsHeld further root place (piles_in self.old.last self.old.listings.items)
+            self.old.around → IsTurn further root last place
+            (frames_of (piles_in self.old.last self.old.listings.items))
+            → seen root place ≡ None → StepsTo further root s s (Some last) place self.new result }
     {
         let item = visit_path(alloc, &self.around, &place)?;
         self.last = Some(place);
@@ -447,6 +475,7 @@ impl Stand {
         &mut self,
         alloc: Global,
         store: &mut T,
+        further: Option<NewCodes>,
         name: &Name,
         end: &End,
     ) -> Result<Step, Fault>
@@ -455,10 +484,10 @@ impl Stand {
         ensures goes_on { IfOk result (λ step. GoesAt self.old self.new step) }
         ensures before { IfOk result (λ step. IsBefore end.now self.new step) }
         ensures told { IfTold T.told (T.state store.old) (λ root.
-            (d q : Spot) → StandsAt root self.old (Some d)
+            (d q : Spot) → StandsAt further root self.old (Some d)
             → place_before root (d ++ name.now ∷ []) ≡ Some q
-            → StepsAtTo root (T.state store.old) (T.state store.new) q end.now self.old self.new
-            result) }
+            → StepsAtTo further root (T.state store.old) (T.state store.new) q end.now self.old
+            self.new result) }
     {
         let Some(directory) = &self.last else {
             return Ok(Step::End);
@@ -470,13 +499,19 @@ impl Stand {
         begin_at(&mut self.listings, directory, name);
         let entry = next_entry(&self.listings, directory)?;
         match unless_above(entry, &place) {
-            Some(entry) => self.take_entry(alloc, store, entry),
+            Some(entry) => self.take_entry(alloc, store, further, entry),
             None => self.take_missing(alloc, place),
         }
     }
 
     /// Takes the next place, if it is not past the end. No empty listing may be on top.
-    fn step<T: Tree>(&mut self, alloc: Global, store: &mut T, end: &End) -> Result<Step, Fault>
+    fn step<T: Tree>(
+        &mut self,
+        alloc: Global,
+        store: &mut T,
+        further: Option<NewCodes>,
+        end: &End,
+    ) -> Result<Step, Fault>
         requires orderly { IsOrderlyStand self.old }
         requires trim { trimmed (piles_in self.old.last self.old.listings.items)
             ≡ piles_in self.old.last self.old.listings.items }
@@ -484,14 +519,14 @@ impl Stand {
         ensures goes_on { IfOk result (λ step. GoesOn self.old self.new step) }
         ensures before { IfOk result (λ step. IsBefore end.now self.new step) }
         ensures told { IfTold T.told (T.state store.old) (λ root.
-            (last : Option Spot) → StandsAt root self.old last
-            → StepsOutTo root (T.state store.old) (T.state store.new) last end.now self.new
+            (last : Option Spot) → StandsAt further root self.old last
+            → StepsOutTo further root (T.state store.old) (T.state store.new) last end.now self.new
             result) }
     {
         let turn = choose(&self.listings, &self.around, &self.last)?;
         match unless_past(alloc, turn, end) {
             Turn::Base => self.take_base(alloc, store),
-            Turn::Entry(place) => self.take_entry(alloc, store, place),
+            Turn::Entry(place) => self.take_entry(alloc, store, further, place),
             Turn::Path(place) => self.take_missing(alloc, place),
             Turn::End => Ok(Step::End),
         }
@@ -502,6 +537,7 @@ impl Stand {
         &mut self,
         alloc: Global,
         store: &mut T,
+        further: Option<NewCodes>,
         end: &End,
     ) -> Result<Option<Pending>, Fault>
         requires { IsOrderlyStand self.old }
@@ -509,13 +545,13 @@ impl Stand {
         ensures goes_on { IfOk result (λ o. NextGoesOn self.old self.new o) }
         ensures before { IfOk result (λ o. IfSome o (λ p. is_past end.now p.place ≡ false)) }
         ensures told { IfTold T.told (T.state store.old) (λ root.
-            (last : Option Spot) → StandsAt root self.old last
-            → NextOutTo root (T.state store.old) (T.state store.new) last end.now self.new
+            (last : Option Spot) → StandsAt further root self.old last
+            → NextOutTo further root (T.state store.old) (T.state store.new) last end.now self.new
             result) }
     {
         loop {
             drop_empty(&mut self.listings);
-            match self.step(alloc, store, end)? {
+            match self.step(alloc, store, further, end)? {
                 Step::Item(item) => return Ok(Some(item)),
                 Step::End => return Ok(None),
                 Step::Nothing => {}

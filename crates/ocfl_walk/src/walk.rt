@@ -2,6 +2,7 @@
 ghost use Rattle.std.specs.Prelude.{◌≡◌, ◌≢◌, ◌∷◌, ◌++◌, [], Option, option_map, true, false, None};
 ghost use Rattle.std.specs.Prelude.{Some, IfOk, IfErr, IfSome, MatchResult};
 ghost use Rattle.ocfl_tree.specs.{Place.{Place as Spot}, Store.{IfTold}};
+ghost use Rattle.ocfl_rules.specs.Inventories.{Further};
 ghost use Rattle.ocfl_walk.specs.{Before.{directory_of, place_before}, Ends.{is_past}};
 ghost use Rattle.ocfl_walk.specs.WalkCalls.{FailsOut, GoDownFails, GoesDown, WalkFails};
 ghost use Rattle.ocfl_walk.specs.Orderly.{is_orderly};
@@ -11,6 +12,7 @@ use crate::entry::stand_at;
 use crate::stand::{Stand, Step};
 use arrayvec::ArrayVec;
 use ocfl_item::{Fault, Pending};
+use ocfl_rules::further::NewCodes;
 use ocfl_tree::{Name, Place, Tree};
 use std::alloc::{AllocError, Global};
 
@@ -21,6 +23,8 @@ use std::alloc::{AllocError, Global};
 #[derive(Debug)]
 pub struct Walk {
     alloc: Global,
+    /// What is checked beside what each audit checks.
+    further: Option<NewCodes>,
     stand: Stand,
     /// The name that the walk begins at, in the directory at its last place, until it has begun.
     first: Option<Name>,
@@ -32,6 +36,7 @@ impl Drop for Walk {
     fn drop(self) {
         let Walk {
             alloc: _alloc,
+            further: _further,
             stand: _stand,
             first: _first,
         } = self;
@@ -44,12 +49,14 @@ impl Walk {
 
     /// A walk over the items above a place, whether or not there is one at it, or over all of them.
     ///
-    /// It lists the directories on the way to the place, as far as they lead, and reads at most the
-    /// inventory of the object that holds it; without a place it makes no call. `Fault::Store`
-    /// if the store did not answer, `Fault::Memory` if memory was refused.
+    /// `further` is what the audit checks beside what each audit does. The walk lists the
+    /// directories on the way to the place, as far as they lead, and reads at most the inventory of
+    /// the object that holds it; without a place it makes no call. `Fault::Store` if the store did
+    /// not answer, `Fault::Memory` if memory was refused.
     pub fn start<T: Tree>(
         alloc: Global,
         store: &mut T,
+        further: Option<NewCodes>,
         after: Option<&Place>,
     ) -> Result<Walk, Fault>
         ensures last { IfOk result (λ walk. last_of walk ≡ option_map (λ p. p.now) after.entry) }
@@ -59,12 +66,14 @@ impl Walk {
             OpensInventories root (T.state store.old) (T.state store.new)) }
         ensures told { IfTold T.told (T.state store.old) (λ root.
             let p = option_map (λ p. p.now) after.entry in MatchResult result
-            (λ walk. GoesDown root (T.state store.old) (T.state store.new) p × Stands root walk p)
-            (λ why. GoDownFails root (T.state store.old) (T.state store.new) p why)) }
+            (λ walk. GoesDown further root (T.state store.old) (T.state store.new) p
+            × Stands further root walk p)
+            (λ why. GoDownFails further root (T.state store.old) (T.state store.new) p why)) }
     {
         let Some(place) = after else {
             return Ok(Walk {
                 alloc,
+                further,
                 stand: Stand {
                     listings: ArrayVec::new_in(alloc),
                     around: None,
@@ -73,9 +82,10 @@ impl Walk {
                 first: None,
             });
         };
-        let stand = stand_at(alloc, store, place)?;
+        let stand = stand_at(alloc, store, further, place)?;
         Ok(Walk {
             alloc,
+            further,
             stand,
             first: None,
         })
@@ -83,11 +93,17 @@ impl Walk {
 
     /// A walk over the items at a place and above it, whether or not there is one at it.
     ///
-    /// It lists the directories above the place, as far as they lead to it, and reads at most the
-    /// inventory of the object that holds its directory; at the storage root it makes no call. What
-    /// is at the place is listed and read with its item. `Fault::Store` if the store did not
-    /// answer, `Fault::Memory` if memory was refused.
-    pub fn start_at<T: Tree>(alloc: Global, store: &mut T, from: &Place) -> Result<Walk, Fault>
+    /// `further` is what the audit checks beside what each audit does. The walk lists the
+    /// directories above the place, as far as they lead to it, and reads at most the inventory of
+    /// the object that holds its directory; at the storage root it makes no call. What is at the
+    /// place is listed and read with its item. `Fault::Store` if the store did not answer,
+    /// `Fault::Memory` if memory was refused.
+    pub fn start_at<T: Tree>(
+        alloc: Global,
+        store: &mut T,
+        further: Option<NewCodes>,
+        from: &Place,
+    ) -> Result<Walk, Fault>
         ensures last { IfOk result (λ walk. last_of walk ≡ directory_of from.now) }
         ensures untouched { from.now ≡ [] → store.new ≡ store.old }
         ensures ready { from.now ≡ [] → IfErr result (λ _. ⊥) }
@@ -95,17 +111,18 @@ impl Walk {
             OpensInventories root (T.state store.old) (T.state store.new)) }
         ensures told { IfTold T.told (T.state store.old) (λ root.
             let d = directory_of from.now in MatchResult result
-            (λ walk. GoesDown root (T.state store.old) (T.state store.new) d
-            × Stands root walk (place_before root from.now))
-            (λ why. GoDownFails root (T.state store.old) (T.state store.new) d why)) }
+            (λ walk. GoesDown further root (T.state store.old) (T.state store.new) d
+            × Stands further root walk (place_before root from.now))
+            (λ why. GoDownFails further root (T.state store.old) (T.state store.new) d why)) }
     {
         if from.depth() == 0 {
-            return Walk::start(alloc, store, None);
+            return Walk::start(alloc, store, further, None);
         }
         let (directory, name) = last_name(from)?;
-        let stand = stand_at(alloc, store, &directory)?;
+        let stand = stand_at(alloc, store, further, &directory)?;
         Ok(Walk {
             alloc,
+            further,
             stand,
             first: Some(name),
         })
@@ -114,16 +131,18 @@ impl Walk {
     /// The walk after its next item, and that item; `None` if there are no more, then and at each
     /// further call.
     ///
-    /// It lists the directories and reads the inventories between the last place and the item's,
-    /// each once; it opens no content file. `Fault::Store` if the store did not answer,
+    /// It lists the directories and reads the inventories of the objects between the last place and
+    /// the item's, each once. If it checks the inventories of version directories, it reads their
+    /// sidecars too. It opens no content file. `Fault::Store` if the store did not answer,
     /// `Fault::Memory` if memory was refused. A fault ends the walk: one from the last place goes
     /// on.
     pub fn next<T: Tree>(self, store: &mut T) -> Result<(Walk, Option<Pending>), Fault>
         ensures goes_on { IfOk result (λ o. GoesOn self o.0 o.1) }
         ensures told { IfTold T.told (T.state store.old) (λ root.
-            (last : Option Spot) → Stands root self last → MatchResult result
-            (λ o. Gives root (T.state store.old) (T.state store.new) last o.0 o.1)
-            (λ why. WalkFails root (T.state store.old) (T.state store.new) last why)) }
+            (further : Further) (last : Option Spot) → Stands further root self last
+            → MatchResult result
+            (λ o. Gives further root (T.state store.old) (T.state store.new) last o.0 o.1)
+            (λ why. WalkFails further root (T.state store.old) (T.state store.new) last why)) }
     {
         let end = End::of_all(self.alloc);
         self.next_within(store, &end)
@@ -143,9 +162,12 @@ impl Walk {
         ensures goes_on { IfOk result (λ o. GoesOn self o.0 o.1) }
         ensures before { IfOk result (λ o. IfSome o.1 (λ p. is_past end.now p.place ≡ false)) }
         ensures told { IfTold T.told (T.state store.old) (λ root.
-            (last : Option Spot) → Stands root self last → MatchResult result
-            (λ o. GivesOut root (T.state store.old) (T.state store.new) last end.now o.0 o.1)
-            (λ why. FailsOut root (T.state store.old) (T.state store.new) last end.now why)) }
+            (further : Further) (last : Option Spot) → Stands further root self last
+            → MatchResult result
+            (λ o. GivesOut further root (T.state store.old) (T.state store.new) last end.now o.0
+            o.1)
+            (λ why. FailsOut further root (T.state store.old) (T.state store.new) last end.now
+            why)) }
     {
         let mut walk = self;
         let item = walk.go_on(store, end)?;
@@ -157,16 +179,22 @@ impl Walk {
         ensures goes_on { IfOk result (λ o. GoesOn self.old self.new o) }
         ensures before { IfOk result (λ o. IfSome o (λ p. is_past end.now p.place ≡ false)) }
         ensures told { IfTold T.told (T.state store.old) (λ root.
-            (last : Option Spot) → Stands root self.old last → MatchResult result
-            (λ o. GivesOut root (T.state store.old) (T.state store.new) last end.now self.new o)
-            (λ why. FailsOut root (T.state store.old) (T.state store.new) last end.now why)) }
+            let further = self.old.further in
+            (last : Option Spot) → Stands further root self.old last → MatchResult result
+            (λ o. GivesOut further root (T.state store.old) (T.state store.new) last end.now
+            self.new o)
+            (λ why. FailsOut further root (T.state store.old) (T.state store.new) last end.now
+            why)) }
     {
         let Some(name) = self.first.take() else {
-            return self.stand.next(self.alloc, store, end);
+            return self.stand.next(self.alloc, store, self.further, end);
         };
-        match self.stand.step_to(self.alloc, store, &name, end)? {
+        match self
+            .stand
+            .step_to(self.alloc, store, self.further, &name, end)?
+        {
             Step::Item(item) => Ok(Some(item)),
-            Step::Nothing => self.stand.next(self.alloc, store, end),
+            Step::Nothing => self.stand.next(self.alloc, store, self.further, end),
             Step::End => {
                 self.first = Some(name);
                 Ok(None)

@@ -26,7 +26,7 @@ pub(crate) fn said(fault: Fault) -> Fail {
 pub(crate) fn entered(alloc: Global, store: &mut MemTree, after: &str) -> Result<Walk, Fail> {
     let place = place_of(alloc, after)?;
     let after = if after.is_empty() { None } else { Some(&place) };
-    Walk::start(alloc, store, after).map_err(said)
+    Walk::start(alloc, store, None, after).map_err(said)
 }
 
 /// The item at a place.
@@ -35,7 +35,7 @@ pub(crate) fn item<T: Tree>(
     store: &mut T,
     path: &str,
 ) -> Result<Option<Pending>, Fail> {
-    item_at(alloc, store, &place_of(alloc, path)?).map_err(said)
+    item_at(alloc, store, None, &place_of(alloc, path)?).map_err(said)
 }
 
 /// The lines that judging an item gives, as they are written, and its cost.
@@ -81,7 +81,7 @@ pub(crate) fn failed_place<T: Tree>(
     store: &mut T,
     path: &str,
 ) -> Result<Place, Fail> {
-    match item_at(alloc, store, &place_of(alloc, path)?) {
+    match item_at(alloc, store, None, &place_of(alloc, path)?) {
         Err(Fault::Store(place)) => Ok(place),
         _ => Err("no fault".into()),
     }

@@ -1,32 +1,40 @@
 -- One place, looked up by itself: the way down to it, and what is met there.
-use Rattle.std.specs.Prelude.{◌≡◌, ◌≢◌, ℕ, List, [], Option, Result, MatchResult, AllPairs, None}
+use Rattle.std.specs.Prelude.{◌≡◌, ◌≢◌, ℕ, List, [], Option, Result, MatchResult, AllPairs, Some, None}
 use Rattle.ocfl_tree.specs.{Place.{Place}, StorageRoot.{StorageRoot}, Store.{Store}}
-use Rattle.ocfl_rules.specs.Trail.{heads_of}
+use Rattle.ocfl_rules.specs.Inventories.{Further}
+use Rattle.ocfl_rules.specs.{Trail.{heads_of, inventory_of}, Zone.{zone}}
+use Rattle.ocfl_tree.specs.declared.store.Opening.{Opening}
+use Rattle.std.specs.List.{AllByRecursion}
 use Rattle.ocfl_item.specs.{Auditing.{LieIn}, Looking.{IsFront, failures_by}, Meeting.{IsItemAt}}
 use Rattle.ocfl_item.specs.{declared.fault.Fault.{Fault}, declared.pending.Pending.{Pending}}
 use Rattle.ocfl_walk.specs.{Internal.Entering.{Calls, NamesFailed}, WalkCalls.{AreAllListed}}
 
--- from s to t the first directories of a way were listed, in order, and metadata was read, right in
--- these and each file once, of inventories the first of those that may be; if none may be,
--- nothing was read
-pub record Finds (root : StorageRoot) (s t : Store) (way may : List Place) (failures : ℕ) : Type 0 where
-  pub calls : Calls root s t failures
+-- nothing was opened or, where inventories of versions are checked, no object's inventory
+abbrev pub OpensNoHead : Further → StorageRoot → List Opening → Type 0
+OpensNoHead None root trail = trail ≡ []
+OpensNoHead (Some k) root trail = AllByRecursion (λ o. inventory_of (zone root o.place) ≡ []) trail
+
+-- from s to t the first directories of a way were listed, in order, and metadata was read, near
+-- these and each file once, of inventories the first of those that may be; if none may be, no
+-- object's head was read
+pub record Finds (further : Further) (root : StorageRoot) (s t : Store) (way may : List Place) (failures : ℕ) : Type 0 where
+  pub calls : Calls further root s t failures
   pub once : AllPairs (λ a b. a.place ≢ b.place) calls.trail
-  pub closed : may ≡ [] → calls.trail ≡ []
+  pub closed : may ≡ [] → OpensNoHead further root calls.trail
   pub listed : IsFront calls.listings way
   pub heads : IsFront (heads_of root calls.trail) may
-  pub near : LieIn None root calls.listings calls.trail
+  pub near : LieIn further root calls.listings calls.trail
 
 -- and each directory of the way that is entered was listed
-pub record FindsAll (root : StorageRoot) (s t : Store) (way may : List Place) : Type 0 where
-  pub finds : Finds root s t way may 0
+pub record FindsAll (further : Further) (root : StorageRoot) (s t : Store) (way may : List Place) : Type 0 where
+  pub finds : Finds further root s t way may 0
   pub all : AreAllListed root way finds.calls.listings
 
 -- and then there was a fault
-pub record FindFails (root : StorageRoot) (s t : Store) (way may : List Place) (why : Fault) : Type 0 where
-  pub finds : Finds root s t way may (failures_by why)
-  pub store : NamesFailed root s t why finds.calls
+pub record FindFails (further : Further) (root : StorageRoot) (s t : Store) (way may : List Place) (why : Fault) : Type 0 where
+  pub finds : Finds further root s t way may (failures_by why)
+  pub store : NamesFailed further root s t why finds.calls
 
 -- the item of a place
-pub record FindsItem (root : StorageRoot) (s t : Store) (way may : List Place) (p : Place) (r : Result (Option Pending) Fault) : Type 0 where
-  pub gives : MatchResult r (λ o. FindsAll root s t way may × IsItemAt None root p o) (λ why. FindFails root s t way may why)
+pub record FindsItem (further : Further) (root : StorageRoot) (s t : Store) (way may : List Place) (p : Place) (r : Result (Option Pending) Fault) : Type 0 where
+  pub gives : MatchResult r (λ o. FindsAll further root s t way may × IsItemAt further root p o) (λ why. FindFails further root s t way may why)

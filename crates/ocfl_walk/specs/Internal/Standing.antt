@@ -7,7 +7,7 @@ use Rattle.ocfl_tree.specs.Ascending.{IsAscending, IsBeforeAll}
 use Rattle.ocfl_tree.specs.{StorageRoot.{StorageRoot, max_entries}, declared.store.Entry.{Entry}}
 use Rattle.ocfl_inventory.specs.{Table.{IsFit, Table}, NextPath.{next_path}}
 use Rattle.ocfl_rules.specs.Zone.{seen, max_listed_depth}
-use Rattle.ocfl_rules.specs.Inventories.{notes}
+use Rattle.ocfl_rules.specs.Inventories.{Further, notes}
 use Rattle.ocfl_rules.specs.Due.{due}
 use Rattle.ocfl_rules.specs.Walk.{seen_names}
 use Rattle.ocfl_rules.specs.Stack.{NoneSeenBetween, NoneSeenAbove, Frame, IsStack, IsListed}
@@ -67,10 +67,10 @@ IsOrderlyStand s = IsOrderlyIf s.last (piles_in s.last s.listings.items) s.aroun
 
 -- what is held besides, at a place: each name is one of its directory's listing, each entry what
 -- that leads to, and the table is that of the object that holds the place
-pub record IsHeld (root : StorageRoot) (stood : Place) (ps : List Pile) (around : Option Around) : Type 0 where
+pub record IsHeld (further : Further) (root : StorageRoot) (stood : Place) (ps : List Pile) (around : Option Around) : Type 0 where
   pub listed : IsListed root (frames_of ps)
   pub entries : HaveEntries root ps
-  pub table : IsTableAround None root stood around
+  pub table : IsTableAround further root stood around
 
 -- ---- a step
 
@@ -78,6 +78,11 @@ pub record IsHeld (root : StorageRoot) (stood : Place) (ps : List Pile) (around 
 abbrev pub next_in : Place → List Entry → Option Place
 next_in d [] = None
 next_in d (e ∷ es) = Some (d ++ e.name ∷ [])
+
+-- the entries that are left of the first listing
+abbrev pub top_of : List Pile → List Entry
+top_of [] = []
+top_of (p ∷ ps) = p.1
 
 abbrev pub next_of : List Pile → Option Place
 next_of [] = None
@@ -144,20 +149,20 @@ IsBelowNext b None = ⊤
 IsBelowNext b (Some e) = place_cmp b e ≡ Less
 
 -- where the walk stood at last it goes on to x, with these listings left
-pub record IsTurn (root : StorageRoot) (last x : Place) (fs : List Frame) : Type 0 where
+pub record IsTurn (further : Further) (root : StorageRoot) (last x : Place) (fs : List Frame) : Type 0 where
   pub above : place_cmp last x ≡ Less
   pub none_seen : NoneSeenBetween root last x
   pub stack : IsStack root x fs
   pub listed : IsListed root fs
-  pub some : notes None root None x ≢ [] → due None root (Some last) ≡ x ∷ due None root (Some x)
-  pub none : notes None root None x ≡ [] → due None root (Some last) ≡ due None root (Some x)
+  pub some : notes further root None x ≢ [] → due further root (Some last) ≡ x ∷ due further root (Some x)
+  pub none : notes further root None x ≡ [] → due further root (Some last) ≡ due further root (Some x)
 
 -- what a turn comes to
-abbrev pub TurnIs : StorageRoot → Place → List Pile → Turn → Type 0
-TurnIs root last ps turn.Base = ⊥
-TurnIs root last ps (turn.Entry e) = IsTurn root last e ((e, seen_names root e) ∷ popped ps)
-TurnIs root last ps (turn.Path b) = IsTurn root last b (frames_of ps) × (seen root b ≡ None)
-TurnIs root last ps turn.End = NoneSeenAbove root last × (due None root (Some last) ≡ [])
+abbrev pub TurnIs : Further → StorageRoot → Place → List Pile → Turn → Type 0
+TurnIs further root last ps turn.Base = ⊥
+TurnIs further root last ps (turn.Entry e) = IsTurn further root last e ((e, seen_names root e) ∷ popped ps)
+TurnIs further root last ps (turn.Path b) = IsTurn further root last b (frames_of ps) × (seen root b ≡ None)
+TurnIs further root last ps turn.End = NoneSeenAbove root last × (due further root (Some last) ≡ [])
 
 -- the entries that are left of a listing, the next first
 abbrev pub left_of_folder : Folder → List Entry

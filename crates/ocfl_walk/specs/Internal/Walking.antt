@@ -1,6 +1,7 @@
 -- What a walk does to a store that tells its tree.
 use Rattle.std.specs.Prelude.{◌≡◌, ◌⊎◌, ◌≤◌, [], ◌∷◌, false, Option, Some, None, Result, MatchOption, MatchResult, IfSome, length, ◌<◌, ⊤}
 use Rattle.ocfl_tree.specs.{Place.{Place}, StorageRoot.{StorageRoot}, Store.{Store}}
+use Rattle.ocfl_rules.specs.Inventories.{Further}
 use Rattle.ocfl_rules.specs.{Due.{due}, Between.{IsBeyond}}
 use Rattle.ocfl_rules.specs.Walk.{seen_names}
 use Rattle.ocfl_item.specs.Meeting.{IsItemAt}
@@ -21,10 +22,10 @@ abbrev pub IsPileAt : StorageRoot → Place → Option Folder → Type 0
 IsPileAt root e o = MatchOption o (seen_names root e ≡ []) (λ f. (f.place ≡ e) × (left_names f ≡ seen_names root e) × AreEntries root e (left_of_folder f))
 
 -- what was met at an entry, with the object that holds it
-pub record IsMeeting (root : StorageRoot) (e : Place) (m : Met) : Type 0 where
-  pub item : IsItemAt None root e m.item
+pub record IsMeeting (further : Further) (root : StorageRoot) (e : Place) (m : Met) : Type 0 where
+  pub item : IsItemAt further root e m.item
   pub folder : IsPileAt root e m.folder
-  pub table : IsTableAround None root e m.around
+  pub table : IsTableAround further root e m.around
 
 -- ---- the same of any store
 
@@ -36,47 +37,47 @@ pub record IsFairMet (e : Place) (m : Met) : Type 0 where
 -- ---- an answer of a walk
 
 -- the next item: the first that is due
-pub record IsNext (root : StorageRoot) (last : Option Place) (p : Pending) : Type 0 where
-  pub pending : IsPending None root p
-  pub due_are : due None root last ≡ p.place ∷ due None root (Some p.place)
+pub record IsNext (further : Further) (root : StorageRoot) (last : Option Place) (p : Pending) : Type 0 where
+  pub pending : IsPending further root p
+  pub due_are : due further root last ≡ p.place ∷ due further root (Some p.place)
 
 abbrev pub step_from : Option Pending → Step
 step_from None = step.Nothing
 step_from (Some p) = step.Item p
 
 -- the first of those up to another place, and then there was a fault
-abbrev pub FailsTo : StorageRoot → Store → Store → Option Place → Place → Fault → Type 0
-FailsTo root s t from to why = FailsBetween root s t from (Some to) why
+abbrev pub FailsTo : Further → StorageRoot → Store → Store → Option Place → Place → Fault → Type 0
+FailsTo further root s t from to why = FailsBetween further root s t from (Some to) why
 
 -- one step to a place
-abbrev pub Steps : StorageRoot → Store → Store → Option Place → Stand → Step → Type 0
-Steps root s t last new (step.Item p) = Walks root s t last (Some p.place) × StandsAt root new (Some p.place) × IsBeyond last p.place × IsNext root last p
-Steps root s t last new step.Nothing = (x : Place) × Walks root s t last (Some x) × StandsAt root new (Some x) × IsBeyond last x × (due None root last ≡ due None root (Some x))
-Steps root s t last new step.End = ⊥
+abbrev pub Steps : Further → StorageRoot → Store → Store → Option Place → Stand → Step → Type 0
+Steps further root s t last new (step.Item p) = Walks further root s t last (Some p.place) × StandsAt further root new (Some p.place) × IsBeyond last p.place × IsNext further root last p
+Steps further root s t last new step.Nothing = (x : Place) × Walks further root s t last (Some x) × StandsAt further root new (Some x) × IsBeyond last x × (due further root last ≡ due further root (Some x))
+Steps further root s t last new step.End = ⊥
 
 -- what a step to x comes to, or the fault that it meets
-abbrev pub StepsTo : StorageRoot → Store → Store → Option Place → Place → Stand → Result Step Fault → Type 0
-StepsTo root s t last x new r = MatchResult r (λ step. Steps root s t last new step) (λ why. FailsTo root s t last x why)
+abbrev pub StepsTo : Further → StorageRoot → Store → Store → Option Place → Place → Stand → Result Step Fault → Type 0
+StepsTo further root s t last x new r = MatchResult r (λ step. Steps further root s t last new step) (λ why. FailsTo further root s t last x why)
 
 -- one step, if there is one before the end
-abbrev pub StepsOut : StorageRoot → Store → Store → Option Place → End → Stand → Step → Type 0
-StepsOut root s t last e new (step.Item p) =
-    Walks root s t last (Some p.place) × StandsAt root new (Some p.place) × IsBeyond last p.place × (is_past e p.place ≡ false) × IsNext root last p
-StepsOut root s t last e new step.Nothing =
-    (x : Place) × Walks root s t last (Some x) × StandsAt root new (Some x) × IsBeyond last x × (is_past e x ≡ false) × (due None root last ≡ due None root (Some x))
-StepsOut root s t last e new step.End = WalksOut root s t last e × (before_end e (due None root last) ≡ []) × StandsAt root new last
+abbrev pub StepsOut : Further → StorageRoot → Store → Store → Option Place → End → Stand → Step → Type 0
+StepsOut further root s t last e new (step.Item p) =
+    Walks further root s t last (Some p.place) × StandsAt further root new (Some p.place) × IsBeyond last p.place × (is_past e p.place ≡ false) × IsNext further root last p
+StepsOut further root s t last e new step.Nothing =
+    (x : Place) × Walks further root s t last (Some x) × StandsAt further root new (Some x) × IsBeyond last x × (is_past e x ≡ false) × (due further root last ≡ due further root (Some x))
+StepsOut further root s t last e new step.End = WalksOut further root s t last e × (before_end e (due further root last) ≡ []) × StandsAt further root new last
 
-abbrev pub StepsOutTo : StorageRoot → Store → Store → Option Place → End → Stand → Result Step Fault → Type 0
-StepsOutTo root s t last e new r = MatchResult r (λ step. StepsOut root s t last e new step) (λ why. FailsOut root s t last e why)
+abbrev pub StepsOutTo : Further → StorageRoot → Store → Store → Option Place → End → Stand → Result Step Fault → Type 0
+StepsOutTo further root s t last e new r = MatchResult r (λ step. StepsOut further root s t last e new step) (λ why. FailsOut further root s t last e why)
 
 -- the first step of a walk that begins at a place, after the place q before it
-abbrev pub StepsAt : StorageRoot → Store → Store → Place → End → Stand → Stand → Step → Type 0
-StepsAt root s t q e old new (step.Item p) = StepsOut root s t (Some q) e new (step.Item p)
-StepsAt root s t q e old new step.Nothing = StepsOut root s t (Some q) e new step.Nothing
-StepsAt root s t q e old new step.End = WalksOut root s t (Some q) e × (before_end e (due None root (Some q)) ≡ []) × (new ≡ old)
+abbrev pub StepsAt : Further → StorageRoot → Store → Store → Place → End → Stand → Stand → Step → Type 0
+StepsAt further root s t q e old new (step.Item p) = StepsOut further root s t (Some q) e new (step.Item p)
+StepsAt further root s t q e old new step.Nothing = StepsOut further root s t (Some q) e new step.Nothing
+StepsAt further root s t q e old new step.End = WalksOut further root s t (Some q) e × (before_end e (due further root (Some q)) ≡ []) × (new ≡ old)
 
-abbrev pub StepsAtTo : StorageRoot → Store → Store → Place → End → Stand → Stand → Result Step Fault → Type 0
-StepsAtTo root s t q e old new r = MatchResult r (λ step. StepsAt root s t q e old new step) (λ why. FailsOut root s t (Some q) e why)
+abbrev pub StepsAtTo : Further → StorageRoot → Store → Store → Place → End → Stand → Stand → Result Step Fault → Type 0
+StepsAtTo further root s t q e old new r = MatchResult r (λ step. StepsAt further root s t q e old new step) (λ why. FailsOut further root s t (Some q) e why)
 
 -- on any store a step to x stands there
 abbrev pub GoesTo : Stand → Place → Step → Type 0
@@ -103,16 +104,16 @@ GoesAt old new step.Nothing = (x : Place) × (new.last ≡ Some x) × IsBeyond o
 GoesAt old new step.End = new ≡ old
 
 -- nothing is left before the end where it stands
-abbrev pub HasEnded : StorageRoot → End → Stand → Type 0
-HasEnded root e new = (x : Option Place) × StandsAt root new x × (before_end e (due None root x) ≡ [])
+abbrev pub HasEnded : Further → StorageRoot → End → Stand → Type 0
+HasEnded further root e new = (x : Option Place) × StandsAt further root new x × (before_end e (due further root x) ≡ [])
 
 -- the next item
-abbrev pub NextTold : StorageRoot → Store → Store → Option Place → End → Stand → Option Pending → Type 0
-NextTold root s t last e new None = WalksOut root s t last e × (before_end e (due None root last) ≡ []) × HasEnded root e new
-NextTold root s t last e new (Some p) = Walks root s t last (Some p.place) × StandsAt root new (Some p.place) × IsNext root last p
+abbrev pub NextTold : Further → StorageRoot → Store → Store → Option Place → End → Stand → Option Pending → Type 0
+NextTold further root s t last e new None = WalksOut further root s t last e × (before_end e (due further root last) ≡ []) × HasEnded further root e new
+NextTold further root s t last e new (Some p) = Walks further root s t last (Some p.place) × StandsAt further root new (Some p.place) × IsNext further root last p
 
-abbrev pub NextOutTo : StorageRoot → Store → Store → Option Place → End → Stand → Result (Option Pending) Fault → Type 0
-NextOutTo root s t last e new r = MatchResult r (λ o. NextTold root s t last e new o) (λ why. FailsOut root s t last e why)
+abbrev pub NextOutTo : Further → StorageRoot → Store → Store → Option Place → End → Stand → Result (Option Pending) Fault → Type 0
+NextOutTo further root s t last e new r = MatchResult r (λ o. NextTold further root s t last e new o) (λ why. FailsOut further root s t last e why)
 
 abbrev pub NextGoesOn : Stand → Stand → Option Pending → Type 0
 NextGoesOn old new None = ⊤
@@ -122,6 +123,6 @@ NextGoesOn old new (Some p) = (new.last ≡ Some p.place) × IsBeyond old.last p
 abbrev pub Onward : Stand → Stand → Type 0
 Onward old new = (new ≡ old) ⊎ ((x : Place) × (new.last ≡ Some x) × IsBeyond old.last x × (stand_size new < stand_size old))
 
-abbrev pub SoFar : StorageRoot → Store → Store → Option Place → End → Stand → Type 0
-SoFar root s t last e stand =
-    ((t ≡ s) × StandsAt root stand last) ⊎ ((x : Place) × Walks root s t last (Some x) × StandsAt root stand (Some x) × IsBeyond last x × (is_past e x ≡ false) × (due None root last ≡ due None root (Some x)))
+abbrev pub SoFar : Further → StorageRoot → Store → Store → Option Place → End → Stand → Type 0
+SoFar further root s t last e stand =
+    ((t ≡ s) × StandsAt further root stand last) ⊎ ((x : Place) × Walks further root s t last (Some x) × StandsAt further root stand (Some x) × IsBeyond last x × (is_past e x ≡ false) × (due further root last ≡ due further root (Some x)))

@@ -1,3 +1,4 @@
+use Rattle.std.specs.Prelude.{None}
 use Rattle.std.proofs.Common.{◌∙◌, ap, refl, sym}
 use Rattle.ocfl_scrub.specs.Starting.{part_of}
 use Rattle.ocfl_scrub.specs.declared.checking.AuditStatus.TheVariants as end
@@ -30,7 +31,7 @@ loop-step-preserved g c =
       silent = λ e. cc;
       none_found = λ e. cc;
       told = λ told root over short.
-          audit_took (part_of c.args.part.now) (i.told told root over short) _ _ (given.ensures.told told root) c.in-Some.is given.ensures.before _ _
+          audit_took (part_of c.args.part.now) (i.told told root over short) _ _ (λ tree. given.ensures.told told root tree None) c.in-Some.is given.ensures.before _ _
           _ _ _ _ took.place c.either-found.ensures (λ u q. took.told told root u short q);
     }
 
@@ -62,11 +63,11 @@ returns-clause-told g c told root over short =
     rw (e.last, e.found, e.end)
     (elim c.match-next_within.branch [
       | in-Ok-next_within+in_default w ↦ rw (w.store-is, w.out-is, w.end-is)
-          (audit_ended (part_of c.args.part.now) (i.told told root over short) _ w.in-Ok-next_within.step.0 (w.in-Ok-next_within.ensures.told told root) w.in_default.is)
+          (audit_ended (part_of c.args.part.now) (i.told told root over short) _ w.in-Ok-next_within.step.0 (λ tree. w.in-Ok-next_within.ensures.told told root tree None) w.in_default.is)
       | in-Err-next_within w ↦ rw (w.store-is, w.out-is, w.end-is)
-          (audit_lost (part_of c.args.part.now) (i.told told root over short) _ _ (w.in-Err-next_within.ensures.told told root))
+          (audit_lost (part_of c.args.part.now) (i.told told root over short) _ _ (λ tree. w.in-Err-next_within.ensures.told told root tree None))
       | in-Ok-next_within+in-Some+in-Err-take_item w ↦ rw (w.store-is, w.out-is, w.end-is)
-          (audit_missed (part_of c.args.part.now) (i.told told root over short) _ w.in-Ok-next_within.step.0 (w.in-Ok-next_within.ensures.told told root)
+          (audit_missed (part_of c.args.part.now) (i.told told root over short) _ w.in-Ok-next_within.step.0 (λ tree. w.in-Ok-next_within.ensures.told told root tree None)
           w.in-Some.is w.in-Ok-next_within.ensures.before _ _ _ (λ u q. w.in-Err-take_item.ensures.told told root u short q))
     ])
 

@@ -1,3 +1,4 @@
+use Rattle.std.specs.Prelude.{None}
 use Rattle.std.proofs.Common.{◌≤◌, ◌∙◌, ◌^◌, ap, arith, length, refl, subst, sym}
 use Rattle.ocfl_tree.specs.Place.{Place}
 use Rattle.ocfl_scrub.specs.{Call.{call_of}, Passes.{IsPass, PassesOn}, Running.{limits_of}, Starting.{part_of}}
@@ -39,7 +40,7 @@ loop-alloc-preserved g c =
       paid = charged_item _ c.loop-alloc.meter _ _ _ _ i.limits i.paid took.cost may c.charge.ensures.spent c.charge.ensures.files;
       told = λ told root over short.
           way_next (part_of c.args.part.now) over (i.told told root over short) (λ h. within_both _ c.loop-alloc.meter i.limits (may h)) _ _ _ _ _ _ _ _ took.place c.charge.ensures.spent c.charge.ensures.files
-          c.either-found.ensures (λ u q. took.told told root u short q) _ _ _ (given.ensures.told told root) _ c.in-Some.is given.ensures.before;
+          c.either-found.ensures (λ u q. took.told told root u short q) _ _ _ (λ tree. given.ensures.told told root tree None) _ c.in-Some.is given.ensures.before;
     }
 
 pub returns-clause-any_store : goal.returns-clause-any_store
@@ -89,9 +90,9 @@ returns-clause-told g c told root over short =
       | else-not-paid+in-Ok+in-Ok-next_within+in-None w ↦
           rw (w.store-is, w.out-is, w.last-is, w.meter-is, w.found-is, w.end-is)
           (way_ended part over way (λ h. within_both _ c.loop-alloc.meter i.limits (c.pays-paid.ensures.paid w.if-not-paid.false h)) _ _ _ _ _ _ _ _ w.in-Ok.ensures.place w.charge.ensures.spent w.charge.ensures.files
-          w.either-found.ensures (λ u q. w.in-Ok.ensures.told told root u short q) _ w.in-Ok-next_within.step.0 _ (w.in-Ok-next_within.ensures.told told root) w.in-None.is)
+          w.either-found.ensures (λ u q. w.in-Ok.ensures.told told root u short q) _ w.in-Ok-next_within.step.0 _ (λ tree. w.in-Ok-next_within.ensures.told told root tree None) w.in-None.is)
       | else-not-paid+in-Ok+in-Err-next_within w ↦
           rw (w.store-is, w.out-is, w.last-is, w.meter-is, w.found-is, w.end-is)
           (way_lost part over way (λ h. within_both _ c.loop-alloc.meter i.limits (c.pays-paid.ensures.paid w.if-not-paid.false h)) _ _ _ _ _ _ _ _ w.in-Ok.ensures.place w.charge.ensures.spent w.charge.ensures.files
-          w.either-found.ensures (λ u q. w.in-Ok.ensures.told told root u short q) _ w.in-Err-next_within.why (w.in-Err-next_within.ensures.told told root))
+          w.either-found.ensures (λ u q. w.in-Ok.ensures.told told root u short q) _ w.in-Err-next_within.why (λ tree. w.in-Err-next_within.ensures.told told root tree None))
     ])

@@ -61,7 +61,7 @@ fn inventory_that_is_listed_and_not_found(rt: HostRuntime) -> Result<(), Fail> {
     let inventory = place_of(alloc, INVENTORY)?;
     let mut store = right_object_without(alloc, INVENTORY)?;
     assert!(rt; failed_place(alloc, &mut store, FILE)? == inventory);
-    let started = Walk::start(alloc, &mut store, Some(&place_of(alloc, FILE)?));
+    let started = Walk::start(alloc, &mut store, None, Some(&place_of(alloc, FILE)?));
     assert!(rt; matches!(started, Err(Fault::Store(failed)) if failed == inventory));
     Ok(())
 }

@@ -31,7 +31,7 @@ fn items_above(
     block: &mut Block,
 ) -> Result<Vec<Passage>, Fail> {
     let mut items: Vec<Passage> = Vec::new(alloc);
-    let mut walk = Walk::start(alloc, store, after).map_err(said)?;
+    let mut walk = Walk::start(alloc, store, None, after).map_err(said)?;
     for _ in 0..1_000 {
         let (further, Some(pending)) = walk.next(store).map_err(said)? else {
             return Ok(items);

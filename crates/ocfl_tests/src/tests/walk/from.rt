@@ -10,7 +10,7 @@ use std::alloc::Global;
 use std::test::Fail;
 
 fn begun(alloc: Global, store: &mut MemTree, from: &str) -> Result<Walk, Fail> {
-    Walk::start_at(alloc, store, &place_of(alloc, from)?).map_err(said)
+    Walk::start_at(alloc, store, None, &place_of(alloc, from)?).map_err(said)
 }
 
 #[test]

@@ -1,4 +1,4 @@
-use Rattle.std.proofs.Common.{◌≡◌, ◌∙◌, ◌<◌, sym, ap, subst, arith, rules, length, ◌++◌, None, Some}
+use Rattle.std.proofs.Common.{◌≡◌, ◌∙◌, ◌<◌, sym, ap, subst, arith, rules, length, ◌++◌, Some}
 use Rattle.std.proofs.lemmas.Result.{err_from_is_err_and}
 use Rattle.ocfl_item.specs.{Ways.{IsAt}, Around.{IsPart}, declared.folder.Folder.{Folder}}
 use Rattle.ocfl_walk.specs.{Standing.{piles_in}, Internal.Entering.{IsComing}}
@@ -28,15 +28,15 @@ returns-in_default-clause-told g t c = λ h root over at part.
     let none = rw c.in_default.is at c.split_first.ensures.cases in
     let top = on_top c.args.stand.now.last c.args.stand.now.listings.items c.push.new.listings.items c.sorted.result c.args.folder.place c.args.names.now
     c.requires.way c.requires.depth c.sorted.ensures.place c.push.ensures.piles in (
-      comes_end root (g.T.Tree.state c.args.store.now) c.args.folder.place c.args.names.now _ none over (did_nothing (g.T.Tree.state c.args.store.now)),
-      brought_end at top c.args.names.now c.args.stand.now.around none told.0 told.1 part,
+      comes_end root c.args.further (g.T.Tree.state c.args.store.now) c.args.folder.place c.args.names.now _ none over (did_nothing (g.T.Tree.state c.args.store.now)),
+      brought_end c.args.further at top c.args.names.now c.args.stand.now.around none told.0 told.1 part,
     )
 
 pub returns-in_err-inner-clause-told : goal.returns-in_err-inner-clause-told
 returns-in_err-inner-clause-told g t c = λ h root over at part.
     let parts = rw c.in-Some.is at c.split_first.ensures.cases in
     let p = err_from_is_err_and c.from_residual.result c.from_residual.ensures.1 in
-    rw (p.1, p.2) (came_fails root (g.T.Tree.state c.args.store.now) (g.T.Tree.state c.down.new.store) c.args.folder.place c.args.names.now c.in-Some.rest.now
+    rw (p.1, p.2) (came_fails c.args.further root (g.T.Tree.state c.args.store.now) (g.T.Tree.state c.down.new.store) c.args.folder.place c.args.names.now c.in-Some.rest.now
     c.in-Some.name.now c.args.stand.now.around c.down.new.object _ parts.0 (c.in_err-inner.ensures.told h root over at part c.in-Some.rest.now))
 
 pub go_down-requires : goal.go_down-requires
@@ -65,12 +65,12 @@ returns-in-Some-inner-clause-told g t c = λ h root over at part.
     let left : Folder = record { place = c.sorted-left.result.place; entries = c.keep_above.new.entries } in
     let top = on_top c.args.stand.now.last c.args.stand.now.listings.items c.push-2.new.listings.items left c.args.folder.place c.args.names.now c.requires.way
     c.requires.depth c.sorted-left.ensures.place c.push-2.ensures.piles in
-    came_on at top c.in-Some.name.now _ c.keep_above.ensures told.0 told.1 (g.T.Tree.state c.args.store.now) (g.T.Tree.state c.down.new.store) c.in-Some.rest.now
+    came_on c.args.further at top c.in-Some.name.now _ c.keep_above.ensures told.0 told.1 (g.T.Tree.state c.args.store.now) (g.T.Tree.state c.down.new.store) c.in-Some.rest.now
     c.args.names.now parts.0 c.args.stand.now.around c.down.new.object (g.T.Tree.state c.go_down.new.store) c.in-Some-inner.inner
     (piles_in c.go_down.new.stand.last c.go_down.new.stand.listings.items) c.go_down.new.stand.around leads c.go_down.result
     (c.go_down.ensures.told h root (leads.gives.0.goes.calls.did.tree ∙ over)
     (subst (λ e. IsAt root e c.in-Some-inner.inner.entries.items) (sym leads.gives.1.place) leads.gives.1.here)
-    (subst (λ e. IsPart None root e c.down.new.object) (sym leads.gives.1.place) leads.gives.1.part))
+    (subst (λ e. IsPart c.args.further root e c.down.new.object) (sym leads.gives.1.place) leads.gives.1.part))
 
 pub returns-in-Some-inner-clause-orderly : goal.returns-in-Some-inner-clause-orderly
 returns-in-Some-inner-clause-orderly g t c =
@@ -97,5 +97,5 @@ returns-in-None-clause-told g t c = λ h root over at part.
     let left : Folder = record { place = c.sorted-left.result.place; entries = c.keep_above.new.entries } in
     let top = on_top c.args.stand.now.last c.args.stand.now.listings.items c.push-2.new.listings.items left c.args.folder.place c.args.names.now c.requires.way
     c.requires.depth c.sorted-left.ensures.place c.push-2.ensures.piles in
-    came_stop at top c.in-Some.name.now _ c.keep_above.ensures told.0 told.1 (g.T.Tree.state c.args.store.now) (g.T.Tree.state c.down.new.store) c.in-Some.rest.now
+    came_stop c.args.further at top c.in-Some.name.now _ c.keep_above.ensures told.0 told.1 (g.T.Tree.state c.args.store.now) (g.T.Tree.state c.down.new.store) c.in-Some.rest.now
     c.args.names.now parts.0 c.args.stand.now.around c.down.new.object leads

@@ -1,4 +1,4 @@
-use Rattle.std.proofs.Common.{◌∙◌, sym, ap, subst, length, ◌++◌, None, Some}
+use Rattle.std.proofs.Common.{◌∙◌, sym, ap, subst, length, ◌++◌, Some}
 use Rattle.std.proofs.lemmas.Result.{err_from_is_err_and}
 use Rattle.ocfl_item.specs.Around.{IsPart}
 use Rattle.ocfl_walk.specs.Standing.{folders_from, piles_in, spot_of}
@@ -23,21 +23,21 @@ go_down-requires g c =
 pub returns-in_err-names-clause-told : goal.returns-in_err-names-clause-told
 returns-in_err-names-clause-told g c = λ h root over.
     let p = err_from_is_err_and c.from_residual.result c.from_residual.ensures.1 in
-    rw (p.1, p.2) (start_memory root (g.T.Tree.state c.args.store.now) c.args.after.now over)
+    rw (p.1, p.2) (start_memory c.args.further root (g.T.Tree.state c.args.store.now) c.args.after.now over)
 
 pub returns-in_err-base-clause-told : goal.returns-in_err-base-clause-told
 returns-in_err-base-clause-told g c = λ h root over.
     let p = err_from_is_err_and c.from_residual-in_err-base.result c.from_residual-in_err-base.ensures.1 in
-    rw (p.1, p.2) (start_unlisted root (g.T.Tree.state c.args.store.now) (g.T.Tree.state c.known_root.new.store) c.args.after.now _ (c.in_err-base.ensures.told h root over).gives)
+    rw (p.1, p.2) (start_unlisted c.args.further root (g.T.Tree.state c.args.store.now) (g.T.Tree.state c.known_root.new.store) c.args.after.now _ (c.in_err-base.ensures.told h root over c.args.further).gives)
 
 pub returns-in_default : goal.returns-in_default
 returns-in_default g c = record {
   last = c.requires.last;
   orderly = orderly_start c.args.stand.now c.args.after.now c.requires.listings c.requires.around c.requires.last;
   told = λ h root over.
-      let k = (rw c.in_default.is at c.in_ok-base.ensures.told h root over).gives in (
-        start_listed root (g.T.Tree.state c.args.store.now) (g.T.Tree.state c.known_root.new.store) c.args.after.now over k.0 k.1,
-        stands_start root c.args.stand.now c.args.after.now c.requires.listings c.requires.around c.requires.last k.1,
+      let k = (rw c.in_default.is at c.in_ok-base.ensures.told h root over c.args.further).gives in (
+        start_listed c.args.further root (g.T.Tree.state c.args.store.now) (g.T.Tree.state c.known_root.new.store) c.args.after.now over k.0 k.1,
+        stands_start c.args.further root c.args.stand.now c.args.after.now c.requires.listings c.requires.around c.requires.last k.1,
       );
 }
 
@@ -50,9 +50,9 @@ returns-clause-orderly g c =
 
 pub returns-clause-told : goal.returns-clause-told
 returns-clause-told g c = λ h root over.
-    let k = (rw c.in-Some.is at c.in_ok-base.ensures.told h root over).gives in
+    let k = (rw c.in-Some.is at c.in_ok-base.ensures.told h root over c.args.further).gives in
     let base = rw c.in-Some.is at c.in_ok-base.ensures.fair in
-    start_goes root (g.T.Tree.state c.args.store.now) (g.T.Tree.state c.known_root.new.store) c.args.after.now over k.0 (g.T.Tree.state c.go_down.new.store)
+    start_goes c.args.further root (g.T.Tree.state c.args.store.now) (g.T.Tree.state c.known_root.new.store) c.args.after.now over k.0 (g.T.Tree.state c.go_down.new.store)
     c.in-Some.base.place c.deref.result.now base.place (c.deref.ensures.value ∙ c.in_ok-names.ensures) c.args.stand.now c.go_down.new.stand
     c.requires.listings c.requires.around (c.go_down.ensures.last ∙ c.requires.last) c.go_down.result
-    (c.go_down.ensures.told h root (k.0.tree ∙ over) k.1.here (subst (IsPart None root c.in-Some.base.place) (sym c.requires.around) k.1.zone))
+    (c.go_down.ensures.told h root (k.0.tree ∙ over) k.1.here (subst (IsPart c.args.further root c.in-Some.base.place) (sym c.requires.around) k.1.zone))

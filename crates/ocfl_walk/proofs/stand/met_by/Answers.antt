@@ -1,4 +1,4 @@
-use Rattle.std.proofs.Common.{None, sym, subst}
+use Rattle.std.proofs.Common.{sym, subst}
 use Rattle.ocfl_walk.specs.Internal.Standing.{IsAroundIf}
 use Rattle.ocfl_item.specs.Around.{IsTableAround}
 use Rattle.ocfl_walk.proofs.MeetLaws.{ordinary}
@@ -12,8 +12,8 @@ returns-clause-fair c = λ v r. record {
 }
 
 pub returns-clause-told : goal.returns-clause-told
-returns-clause-told c = λ root fair visit r. record {
+returns-clause-told c = λ further root fair visit r. record {
   item = visit.item;
   folder = c.sorted_if-folder.ensures.told root c.args.place.now (ordinary root c.args.place.now c.args.visit.folder fair.folder) visit.folder;
-  table = subst (IsTableAround None root c.args.place.now) (sym c.in_ok-around.ensures) r;
+  table = subst (IsTableAround further root c.args.place.now) (sym c.in_ok-around.ensures) r;
 }

@@ -18,9 +18,9 @@ step-requires-clause-trim g c = trim_stays (piles_in c.loop-item.self.last c.loo
 pub returns-in_err-item-clause-told : goal.returns-in_err-item-clause-told
 returns-in_err-item-clause-told g c = λ h root over last st.
     let p = err_from_is_err_and c.from_residual.result c.from_residual.ensures.1 in
-    rw (p.1, p.2) (so_far_fails root (g.T.Tree.state c.args.store.now) (g.T.Tree.state c.loop-item.store) (g.T.Tree.state c.step.new.store) last c.args.end.now
+    rw (p.1, p.2) (so_far_fails c.args.further root (g.T.Tree.state c.args.store.now) (g.T.Tree.state c.loop-item.store) (g.T.Tree.state c.step.new.store) last c.args.end.now
     c.loop-item.self c.step.new.self over (c.loop-item.invariant.told h root over last st) _
-    (λ there l stands. c.in_err-item.ensures.told h root there l (mid_at root c.loop-item.self c.drop_empty.new.listings (c.drop_empty.ensures (spot_of c.loop-item.self.last)) l stands)))
+    (λ there l stands. c.in_err-item.ensures.told h root there l (mid_at c.args.further root c.loop-item.self c.drop_empty.new.listings (c.drop_empty.ensures (spot_of c.loop-item.self.last)) l stands)))
 
 pub returns-in-Item-clause-goes_on : goal.returns-in-Item-clause-goes_on
 returns-in-Item-clause-goes_on g c =
@@ -31,15 +31,15 @@ returns-in-Item-clause-goes_on g c =
 
 pub returns-in-Item-clause-told : goal.returns-in-Item-clause-told
 returns-in-Item-clause-told g c = λ h root over last st.
-    so_far_item root (g.T.Tree.state c.args.store.now) (g.T.Tree.state c.loop-item.store) (g.T.Tree.state c.step.new.store) last c.args.end.now c.loop-item.self
+    so_far_item c.args.further root (g.T.Tree.state c.args.store.now) (g.T.Tree.state c.loop-item.store) (g.T.Tree.state c.step.new.store) last c.args.end.now c.loop-item.self
     c.step.new.self over (c.loop-item.invariant.told h root over last st) _
-    (λ there l stands. c.in_ok-item.ensures.told h root there l (mid_at root c.loop-item.self c.drop_empty.new.listings (c.drop_empty.ensures (spot_of c.loop-item.self.last)) l stands)) c.in-Item.item c.in-Item.is
+    (λ there l stands. c.in_ok-item.ensures.told h root there l (mid_at c.args.further root c.loop-item.self c.drop_empty.new.listings (c.drop_empty.ensures (spot_of c.loop-item.self.last)) l stands)) c.in-Item.item c.in-Item.is
 
 pub returns-in-End-clause-told : goal.returns-in-End-clause-told
 returns-in-End-clause-told g c = λ h root over last st.
-    so_far_end root (g.T.Tree.state c.args.store.now) (g.T.Tree.state c.loop-item.store) (g.T.Tree.state c.step.new.store) last c.args.end.now c.loop-item.self
+    so_far_end c.args.further root (g.T.Tree.state c.args.store.now) (g.T.Tree.state c.loop-item.store) (g.T.Tree.state c.step.new.store) last c.args.end.now c.loop-item.self
     c.step.new.self over (c.loop-item.invariant.told h root over last st) _
-    (λ there l stands. c.in_ok-item.ensures.told h root there l (mid_at root c.loop-item.self c.drop_empty.new.listings (c.drop_empty.ensures (spot_of c.loop-item.self.last)) l stands)) c.in-End.is
+    (λ there l stands. c.in_ok-item.ensures.told h root there l (mid_at c.args.further root c.loop-item.self c.drop_empty.new.listings (c.drop_empty.ensures (spot_of c.loop-item.self.last)) l stands)) c.in-End.is
 
 pub loop-item-smaller : goal.loop-item-smaller
 loop-item-smaller g c =
@@ -55,9 +55,9 @@ loop-item-preserved g c =
       onward = onward_step c.args.self.now c.loop-item.self c.step.new.self c.loop-item.invariant.onward
           (goes_from c.loop-item.self mid c.step.new.self refl (sizes c.loop-item.self mid refl refl (c.drop_empty.ensures (spot_of c.loop-item.self.last))) step.Nothing
           (subst (λ s. GoesOn mid c.step.new.self s) c.in-Nothing.is c.in_ok-item.ensures.goes_on));
-      told = λ h root over last st. so_far_step root (g.T.Tree.state c.args.store.now) (g.T.Tree.state c.loop-item.store) (g.T.Tree.state c.step.new.store) last
+      told = λ h root over last st. so_far_step c.args.further root (g.T.Tree.state c.args.store.now) (g.T.Tree.state c.loop-item.store) (g.T.Tree.state c.step.new.store) last
           c.args.end.now c.loop-item.self c.step.new.self over (c.loop-item.invariant.told h root over last st) _
-          (λ there l stands. c.in_ok-item.ensures.told h root there l (mid_at root c.loop-item.self c.drop_empty.new.listings (c.drop_empty.ensures (spot_of c.loop-item.self.last)) l stands)) c.in-Nothing.is;
+          (λ there l stands. c.in_ok-item.ensures.told h root there l (mid_at c.args.further root c.loop-item.self c.drop_empty.new.listings (c.drop_empty.ensures (spot_of c.loop-item.self.last)) l stands)) c.in-Nothing.is;
     }
 
 pub returns-in-Item-clause-before : goal.returns-in-Item-clause-before

@@ -8,8 +8,8 @@ abbrev pub invariant-loop-item : goal.invariant-loop-item
 invariant-loop-item g l = record {
   orderly : IsOrderlyStand l.self;
   onward : Onward l.initial.self l.self;
-  told : IsTrue g.T.Tree.told → (root : StorageRoot) → (g.T.Tree.state l.initial.store).tree ≡ root → (last : Option Place) → StandsAt root l.initial.self last
-      → SoFar root (g.T.Tree.state l.initial.store) (g.T.Tree.state l.store) last l.end l.self;
+  told : IsTrue g.T.Tree.told → (root : StorageRoot) → (g.T.Tree.state l.initial.store).tree ≡ root → (last : Option Place) → StandsAt l.further root l.initial.self last
+      → SoFar l.further root (g.T.Tree.state l.initial.store) (g.T.Tree.state l.store) last l.end l.self;
 }
 
 abbrev pub decreases-loop-item : goal.decreases-loop-item

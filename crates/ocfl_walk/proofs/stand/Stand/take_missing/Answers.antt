@@ -1,13 +1,12 @@
-use Rattle.std.specs.Prelude.{None}
 use Rattle.std.proofs.lemmas.Result.{err_from_is_err_and}
 use Rattle.ocfl_walk.proofs.WalkCallLaws.{no_memory}
 use Rattle.ocfl_walk.proofs.FirstSteps.{missing_falls, missing_goes_on, missing_orderly, missing_there, missing_told}
 use Rattle.ocfl_walk.proofs.stand.Stand.take_missing.Goals as goal
 
 pub returns-in_err-item-clause-told : goal.returns-in_err-item-clause-told
-returns-in_err-item-clause-told c = λ s root over last held turn unseen.
+returns-in_err-item-clause-told c = λ further s root over last held turn unseen.
     let p = err_from_is_err_and c.from_residual.result c.from_residual.ensures.1 in
-    rw (p.1, p.2) (no_memory root s over)
+    rw (p.1, p.2) (no_memory further root s over)
 
 pub returns-clause-orderly : goal.returns-clause-orderly
 returns-clause-orderly c = missing_orderly c.args.self.now c.args.place c.requires.orderly c.requires.some c.requires.trim c.requires.next
@@ -23,6 +22,6 @@ pub returns-clause-there : goal.returns-clause-there
 returns-clause-there c = missing_there c.args.self.now c.args.place c.requires.orderly c.requires.some c.requires.trim c.requires.next c.in_ok-item.item c.step_of.result c.step_of.ensures
 
 pub returns-clause-told : goal.returns-clause-told
-returns-clause-told c = λ s root over last held turn unseen.
+returns-clause-told c = λ further s root over last held turn unseen.
     missing_told c.args.self.now c.args.place c.requires.orderly c.requires.some c.requires.trim c.requires.next c.in_ok-item.item c.step_of.result
-    c.step_of.ensures root s last over held turn unseen (c.in_ok-item.ensures.told None root held.table unseen)
+    c.step_of.ensures further root s last over held turn unseen (c.in_ok-item.ensures.told further root held.table unseen)

@@ -11,6 +11,7 @@ use ocfl_tasks::{Line, TaskCalls, TaskEnd, perform_and_store, reason_of, say_end
 use std::alloc::Global;
 use std::cell::Cell;
 use std::io::{self, Write};
+use std::mem;
 use std::test::Fail;
 
 /// Calls that keep what they were asked for, a line for each, and the last cursor that was put.
@@ -153,8 +154,7 @@ fn a_file_that_fails_is_said(rt: HostRuntime) -> Result<(), Fail> {
 fn said_of(alloc: Global, deed: &Deed, note: &Note, why: Option<&str>) -> String {
     let mut calls = Noted::new(alloc, false);
     say_end(&mut calls, deed, note, why, "words");
-    let Noted { lines, .. } = calls;
-    lines
+    mem::replace(&mut calls.lines, String::new(alloc))
 }
 
 #[test]

@@ -1,41 +1,35 @@
 -- From what a joining promises to what came of a cycle.
-use Rattle.std.proofs.Common.{◌≡◌, ◌≢◌, ◌⊎◌, inl, inr, ℕ, ◌==◌, Bool, true, false, All, List, [], ◌∷◌, ◌++◌, Option, Some, None, refl, sym, ◌∙◌, ap, subst, append-nil, length}
-use Rattle.std.specs.Prelude.{Result, Ok, Err, IfErr, IfOk, IsErr, OnErr, OnOk, ◌&&◌, ◌||◌, flat_map, get_or, if◌then◌else◌, is_some, map}
+use Rattle.std.proofs.Common.{◌≡◌, ◌≢◌, ◌⊎◌, inl, inr, ℕ, zero, suc, ◌+◌, ◌==◌, Bool, true, false, All, List, [], ◌∷◌, ◌++◌, Option, Some, None, refl, sym, ◌∙◌, ap, subst, append-nil, arith, length, length-append}
+use Rattle.std.specs.Prelude.{Result, Ok, Err, IfErr, IfOk, OnErr, OnOk, ◌&&◌, ◌||◌, flat_map, get_or, if◌then◌else◌, is_some, map}
 use Rattle.std.specs.List.{Contains}
-use Rattle.std.proofs.lemmas.Bool.{ne_eqb}
+use Rattle.std.proofs.lemmas.{Bool.{ne_eqb}, List.{length-map}}
 use Rattle.std.proofs.lemmas.List.Elements.{All-cons, All-head, All-nil, All-tail}
 use Rattle.ocfl_tree.specs.Place.{Text, Place}
-use Rattle.ocfl_separators.specs.Separators.{start_of_part, end_of_part}
 use Rattle.ocfl_say.specs.Said.{Said}
 use Rattle.ocfl_disk.specs.{Names.{Stored}, PowerCut.{DiskState}}
 use Rattle.ocfl_joining.specs.{Folders.{Folders, with_noted}, Reports.{Put, Rest, SameReports, Seen}}
 use Rattle.ocfl_joining.specs.Cycles.{CanJoin, ComesTo, IsBeside, SeenCycles, MayCome, end_of, end_text, hindering_in, missing_in, with_said}
 use Rattle.ocfl_joining.specs.Facts.{facts_at, known_by, known_parts}
-use Rattle.ocfl_joining.specs.Joined.{IsAsClosed, IsJoined, IsReportIn, IsRight, MayJoin, all_parts, joined_of}
-use Rattle.ocfl_joining.specs.Missing.{KnownPart, are_right, hindering_of, missing_of, numbers, root_of}
+use Rattle.ocfl_joining.specs.Joined.{IsJoined, IsRight, MayJoin, all_parts, joined_of}
+use Rattle.ocfl_joining.specs.Missing.{KnownPart, are_right, hindering_of, missing_of, numbers, part_count, root_of}
 use Rattle.ocfl_joining.specs.Saying.{lacking_text, missing_text}
-use Rattle.ocfl_joining.specs.Stops.{IsMissingRightly, is_missing, is_output}
+use Rattle.ocfl_joining.specs.Stops.{IsCallStop, IsChangedRightly, IsMissingRightly, IsOfPart, IsStopRight, IsUpTo, is_missing, is_output}
 use Rattle.ocfl_joining.specs.declared.{facts.Facts.{Facts}, joining.{Joined.{Joined}, JoinStop.{JoinStop}}}
-use Rattle.ocfl_joining.specs.declared.joining.JoinStop.TheVariants.{Missing, Part, Output, Unsaid, Memory}
+use Rattle.ocfl_joining.specs.declared.joining.JoinStop.TheVariants.{Missing, Changed, Part, Output, Unsaid, Memory}
 use Rattle.ocfl_joining.specs.declared.status.CycleEnd.TheVariants as cycle_end
 use Rattle.ocfl_join_disk.specs.Shown.{PartFiles, joined_in, none_if, others_in, reports_in, rest_in, seen_making, text_in}
 use Rattle.ocfl_join_disk.specs.Comparing.{all_in, found_of, seen_comparing}
-use Rattle.ocfl_join_disk.specs.Cycles.{EndsAs, cycles_in, cycles_on, said_of}
+use Rattle.ocfl_join_disk.specs.Cycles.{EndsAs, StopsAs, cycles_in, cycles_on, said_of}
 use Rattle.ocfl_join_disk.specs.Internal.Coming.{HasCome, HasEnded}
 use Rattle.ocfl_join_disk.proofs.Naming.{is_among}
+use Rattle.ocfl_joining.proofs.Stopping.{at_none, call_right, right_as, stop_right, stops_as}
 
 -- ---- the same closed reports, seen otherwise
 
 module _ (separators : List Place) (parts : List (Option KnownPart)) (cycle : ℕ) (s r : Seen) (bytes : s.bytes ≡ r.bytes) (marks : s.marks ≡ r.marks) where
-  right_as : (k : ℕ) → IsRight separators s k → IsRight separators r k
-  right_as k h = record {
-    closed = subst (λ f. IsAsClosed (r.marks k) (f k)) bytes (subst (λ f. IsAsClosed (f k) (s.bytes k)) marks h.closed);
-    report = subst (λ f. IsReportIn (start_of_part separators k) (end_of_part separators k) (f k)) bytes h.report;
-  }
-
   all_right_as : (ks : List ℕ) → All (IsRight separators s) ks → All (IsRight separators r) ks
   all_right_as [] h = All-nil (IsRight separators r)
-  all_right_as (k ∷ ks) h = All-cons (IsRight separators r) k ks (right_as k (All-head (IsRight separators s) k ks h)) (all_right_as ks (All-tail (IsRight separators s) k ks h))
+  all_right_as (k ∷ ks) h = All-cons (IsRight separators r) k ks (right_as separators s r bytes marks k (All-head (IsRight separators s) k ks h)) (all_right_as ks (All-tail (IsRight separators s) k ks h))
 
   joined_as : (whole : Bool) → joined_of separators whole s ≡ joined_of separators whole r
   joined_as whole = λ i. record { whole = whole; bytes = flat_map (bytes i) (all_parts separators) }
@@ -67,9 +61,14 @@ module _ (separators : List Place) (parts : List (Option KnownPart)) (cycle : �
         by true e = may_make (none e) may
         by false e = inl (sym new ∙ unput e ∙ old)
 
+    changed_made : (joined : Result Joined JoinStop) → IfErr joined (IsChangedRightly separators s) → IfErr joined (IsChangedRightly separators r)
+    changed_made (Ok j) h = tt
+    changed_made (Err stop) h = stops_as separators s r bytes marks stop h
+
     unput_made : (joined : Result Joined JoinStop) → IfErr joined (λ stop. is_output stop ≡ false → t.put ≡ s.put) → IfErr joined (λ stop. is_missing stop ≡ true → q.put ≡ r.put)
     unput_made (Ok j) unput = tt
     unput_made (Err (Missing found)) unput = λ e. sym new ∙ unput refl ∙ old
+    unput_made (Err (Changed found)) unput = λ e. cc
     unput_made (Err (Part part why)) unput = λ e. cc
     unput_made (Err (Output why)) unput = λ e. cc
     unput_made (Err Unsaid) unput = λ e. cc
@@ -80,7 +79,7 @@ module _ (separators : List Place) (parts : List (Option KnownPart)) (cycle : �
 module _ {D : Type 0} (files : D → PartFiles) (state : D → DiskState) (separators : List Place) (parts : List (Option KnownPart)) (cycle : ℕ) (root : Text) (root_is : root ≡ root_of parts)
     (disk d0 d1 d : D) (c0 c1 : ℕ) (left0 left1 : Text) (before after : Said) (e0 : c0 ≡ cycle) (f0 : d0 ≡ disk) (f1 : d ≡ d1) (joined : Result Joined JoinStop)
     (none : OnOk joined (hindering_of separators root cycle parts ≡ [])) (whole : IfOk joined (λ j. j.whole ≡ are_right (missing_of separators root cycle parts)))
-    (missing : IfErr joined (IsMissingRightly (hindering_of separators root cycle parts))) (unhindered : IfErr joined (λ stop. is_output stop ≡ true → hindering_of separators root cycle parts ≡ [])) where
+    (missing : IfErr joined (IsMissingRightly (hindering_of separators root cycle parts))) (unhindered : IfErr joined (λ stop. is_output stop ≡ true → hindering_of separators root cycle parts ≡ [])) (part : IfErr joined (IsOfPart separators)) where
   abbrev was : Seen
   was = reports_in cycle (files disk) (state disk).seen
 
@@ -112,14 +111,16 @@ module _ {D : Type 0} (files : D → PartFiles) (state : D → DiskState) (separ
     abbrev last_seen : Seen
     last_seen = seen_making c1 (files d1) left1 (state d1).seen m1 b1
 
-    pub made_came : SameReports first_seen last_seen → IfOk joined (λ j. IsJoined separators j.whole first_seen last_seen before after) → IfErr joined (λ stop. is_output stop ≡ false → last_seen.put ≡ first_seen.put)
+    pub made_came : SameReports first_seen last_seen → IfErr joined (IsChangedRightly separators first_seen) → IfOk joined (λ j. IsJoined separators j.whole first_seen last_seen before after) → IfErr joined (λ stop. is_output stop ≡ false → last_seen.put ≡ first_seen.put)
         → OnErr joined (MayJoin separators (are_right (missing_of separators root cycle parts)) first_seen last_seen before after) → HasCome separators parts cycle None (files disk) (files d) (state disk).seen (state d).seen joined
-    made_came same is unput may = record {
+    made_came same changed is unput may = record {
       comes = all_made separators parts cycle first_seen was bytes_are marks_are last_seen is_now old new before after joined none_is whole_is is;
       missing = missing_is;
       unput = unput_made separators parts cycle first_seen was bytes_are marks_are last_seen is_now old new before after joined unput;
       may = may_made separators parts cycle first_seen was bytes_are marks_are last_seen is_now old new before after joined unhindered_is unput
           (subst (λ x. OnErr joined (MayJoin separators (are_right (missing_of separators x cycle parts)) first_seen last_seen before after)) root_is may);
+      changed = changed_made separators parts cycle first_seen was bytes_are marks_are last_seen is_now old new before after joined changed;
+      part = part;
       folders = (λ i. (files (f1 i)).folders) ∙ ap (λ x. x.folders) same.rest ∙ (λ i. (files (f0 i)).folders);
       others = (λ i. others_in (sym now i) (state (f1 i)).seen) ∙ ap (λ x. x.others) same.rest ∙ (λ i. others_in (e0 i) (state (f0 i)).seen);
     }
@@ -180,16 +181,22 @@ module _ {D : Type 0} (files : D → PartFiles) (state : D → DiskState) (separ
       none_put (Ok j) = tt
       none_put (Err stop) = λ e. unchanged cycle
 
+      changed_as_was : (result : Result Joined JoinStop) → IfErr result (IsChangedRightly separators first_found) → IfErr result (IsChangedRightly separators was)
+      changed_as_was (Ok j) h = tt
+      changed_as_was (Err stop) h = stops_as separators first_found was bytes_are marks_are stop h
+
       may_none : (result : Result Joined JoinStop) → OnErr result (MayCome separators parts cycle was is_now)
       may_none (Ok j) = tt
       may_none (Err stop) = inl (unchanged cycle)
 
-      pub compared_came : IfOk joined (λ j. IsJoined separators j.whole first_found last_found before after) → HasCome separators parts cycle (Some asked) (files disk) (files d) (state disk).seen (state d).seen joined
-      compared_came is = record {
+      pub compared_came : IfErr joined (IsChangedRightly separators first_found) → IfOk joined (λ j. IsJoined separators j.whole first_found last_found before after) → HasCome separators parts cycle (Some asked) (files disk) (files d) (state disk).seen (state d).seen joined
+      compared_came changed is = record {
         comes = all_found joined none_is whole_is is;
         missing = missing_is;
         unput = none_put joined;
         may = may_none joined;
+        changed = changed_as_was joined changed;
+        part = part;
         folders = (λ i. (files (f1 i)).folders) ∙ ap (λ x. x.folders) same.rest ∙ (λ i. (files (f0 i)).folders);
         others = λ i other. none_if (cycle == other) (unchanged other i);
       }
@@ -209,6 +216,7 @@ module _ (separators : List Place) (k : List (Option KnownPart)) (cycle : ℕ) (
   comes_end joined (Err stop) h m u e = tt
   comes_end (Ok j) (Ok w) h m u e = subst (λ v. ComesTo separators k cycle made (end_of names v) (reports_in cycle files s) (reports_in cycle now t)) (sym e) h
   comes_end (Err (Missing found)) (Ok w) h m u e = subst (λ v. ComesTo separators k cycle made (end_of names v) (reports_in cycle files s) (reports_in cycle now t)) (sym e.0) (m.1, u refl)
+  comes_end (Err (Changed found)) (Ok w) h m u e = absurd (let no = e.1 in cc)
   comes_end (Err (Part part why)) (Ok w) h m u e = absurd (let no = e.1 in cc)
   comes_end (Err (Output why)) (Ok w) h m u e = absurd (let no = e.1 in cc)
   comes_end (Err Unsaid) (Ok w) h m u e = absurd (let no = e.1 in cc)
@@ -221,10 +229,14 @@ module _ (separators : List Place) (k : List (Option KnownPart)) (cycle : ℕ) (
       said ∙ (λ i. with_noted (said_of k cycle names ((same i).path cycle false) (Ok j)) (same i)) ∙ ap (λ v. with_noted (end_text separators k cycle path_is (end_of names v)) files.folders) (sym e)
   said_end (Err (Missing found)) (Ok w) m e said =
       said ∙ (λ i. with_noted (if names then missing_text cycle k (m.0 i) else []) (same i)) ∙ ap (λ v. with_noted (end_text separators k cycle path_is (end_of names v)) files.folders) (sym e.0)
+  said_end (Err (Changed found)) (Ok w) m e said = absurd (let no = e.1 in cc)
   said_end (Err (Part part why)) (Ok w) m e said = absurd (let no = e.1 in cc)
   said_end (Err (Output why)) (Ok w) m e said = absurd (let no = e.1 in cc)
   said_end (Err Unsaid) (Ok w) m e said = absurd (let no = e.1 in cc)
   said_end (Err Memory) (Ok w) m e said = absurd (let no = e.1 in cc)
+
+  at_no_part : (stop : JoinStop) → IsCallStop (λ _. ⊥) stop → IsStopRight (part_count separators k) separators (reports_in cycle files s) stop
+  at_no_part stop h = call_right 0 (part_count separators k) separators (reports_in cycle files s) stop (omega arith) (at_none 0 stop h)
 
   may_of : (over : Option Bool) (w : Bool) → ComesTo separators k cycle over (cycle_end.IsJoined w) (reports_in cycle files s) (reports_in cycle mid t) → MayCome separators k cycle (reports_in cycle files s) (reports_in cycle now t)
   may_of None w h = inr (w, h)
@@ -236,21 +248,29 @@ module _ (separators : List Place) (k : List (Option KnownPart)) (cycle : ℕ) (
   may_end (Ok j) (Err stop) h m = may_of made j.whole h
   may_end (Err why) (Err stop) h m = m
 
-  noted_end : (whole : Result (Option Bool) JoinStop) → OnErr whole (now.folders ≡ mid.folders) → OnErr whole ((text : Text) × (now.folders ≡ with_noted text files.folders))
-  noted_end (Ok w) silent = tt
-  noted_end (Err stop) silent = ([], silent ∙ same ∙ none_noted files.folders)
+  why_end : (joined : Result Joined JoinStop) (whole : Result (Option Bool) JoinStop) → IfErr joined (IsChangedRightly separators (reports_in cycle files s)) → IfErr joined (IsOfPart separators)
+      → IfErr whole (StopsAs joined) → IfErr whole (IsStopRight (part_count separators k) separators (reports_in cycle files s))
+  why_end joined (Ok w) h p e = tt
+  why_end (Ok j) (Err stop) h p e = at_no_part stop e
+  why_end (Err why) (Err stop) h p (inl e) = at_no_part stop e
+  why_end (Err why) (Err stop) h p (inr e) = subst (IsStopRight (part_count separators k) separators (reports_in cycle files s)) (sym e.1) (stop_right separators k (reports_in cycle files s) why e.0 h p)
+
+  silent_end : (whole : Result (Option Bool) JoinStop) → OnErr whole (now.folders ≡ mid.folders) → OnErr whole (now.folders ≡ files.folders)
+  silent_end (Ok w) silent = tt
+  silent_end (Err stop) silent = silent ∙ same
 
 pub has_ended : (separators : List Place) (facts : List (Option Facts)) (k : List (Option KnownPart)) (cycle : ℕ) (made : Option Bool) (names : Bool) (files first mid now : PartFiles) (s begun t end : Stored)
     (joined : Result Joined JoinStop) (whole : Result (Option Bool) JoinStop) → k ≡ known_parts files.folders facts cycle → first ≡ files → begun ≡ s → HasCome separators k cycle made first mid begun t joined
-    → IfOk whole (EndsAs joined) → OnOk whole (now.folders ≡ with_noted (said_of k cycle names (mid.folders.path cycle false) joined) mid.folders) → OnErr whole (now.folders ≡ mid.folders) → end ≡ t
+    → IfOk whole (EndsAs joined) → OnOk whole (now.folders ≡ with_noted (said_of k cycle names (mid.folders.path cycle false) joined) mid.folders) → OnErr whole (now.folders ≡ mid.folders) → IfErr whole (StopsAs joined) → end ≡ t
     → HasEnded separators facts cycle made names files now s end whole
-has_ended separators facts k cycle made names files first mid now s begun t end joined whole known same_files same_s come ends said silent last =
+has_ended separators facts k cycle made names files first mid now s begun t end joined whole known same_files same_s come ends said silent stops last =
     subst (λ x. HasEnded separators facts cycle made names files now s x whole) (sym last) (record {
       comes = comes_end separators all cycle made names files mid now s t same joined whole here.comes here.missing here.unput ends;
       said = said_end separators all cycle made names files mid now s t same joined whole here.missing ends
           (subst (λ x. OnOk whole (now.folders ≡ with_noted (said_of x cycle names (mid.folders.path cycle false) joined) mid.folders)) known said);
       may = may_end separators all cycle made names files mid now s t same joined whole here.comes here.may;
-      noted = noted_end separators all cycle made names files mid now s t same whole silent;
+      why = why_end separators all cycle made names files mid now s t same joined whole here.changed here.part stops;
+      silent = silent_end separators all cycle made names files mid now s t same whole silent;
       others = here.others;
     })
   where
@@ -265,14 +285,21 @@ has_ended separators facts k cycle made names files first mid now s begun t end 
     same : mid.folders ≡ files.folders
     same = here.folders
 
+length_numbers : (n : ℕ) → length (numbers n) ≡ n
+length_numbers zero = refl
+length_numbers (suc n) = let e = length_numbers n in let m = length-append (numbers n) ((n + 1) ∷ []) in omega (arith, e, m)
+
 -- a call before the joining failed
 pub has_failed : (separators : List Place) (facts : List (Option Facts)) (cycle : ℕ) (made : Option Bool) (names : Bool) (files now : PartFiles) (s t : Stored) (stop : JoinStop) → now ≡ files → t ≡ s
-    → HasEnded separators facts cycle made names files now s t (Err stop)
-has_failed separators facts cycle made names files now s t stop same still = record {
+    → IsCallStop (IsUpTo (length facts)) stop → HasEnded separators facts cycle made names files now s t (Err stop)
+has_failed separators facts cycle made names files now s t stop same still call = record {
   comes = tt;
   said = tt;
   may = inl (ap (joined_in cycle) still);
-  noted = ([], ap (λ p. p.folders) same ∙ none_noted files.folders);
+  why =
+      let known = length-map (numbers (length facts)) (λ number. known_by files.folders cycle number (facts_at facts number)) ∙ length_numbers (length facts) in
+      call_right (length facts) (part_count separators (known_parts files.folders facts cycle)) separators (reports_in cycle files s) stop (omega (arith, known)) call;
+  silent = ap (λ p. p.folders) same;
   others = ap (others_in cycle) still;
 }
 
@@ -330,15 +357,6 @@ module _ (separators : List Place) (facts : List (Option Facts)) (files now : Pa
 
 -- ---- over a disk that is lent to the joining
 
-pub ok_of : {T E F : Type 0} (made : Result T E) (result : Result T F) (P : T → Type 0) → IfOk result (λ value. made ≡ Ok value) → IfOk made P → IfOk result P
-ok_of made (Ok value) P same h = subst (λ r. IfOk r P) same h
-ok_of made (Err why) P same h = tt
-
-pub err_of : {T E F : Type 0} (made : Result T E) (result : Result T F) (Q : Type 0) → IfErr result (λ _. IsErr made) → OnErr made Q → OnErr result Q
-err_of made (Ok value) Q fails h = tt
-err_of (Ok value) (Err why) Q fails h = absurd (let no : false ≡ true = fails in cc)
-err_of (Err stop) (Err why) Q fails h = h
-
 module _ {D : Type 0} (files : D → PartFiles) (state : D → DiskState) (separators : List Place) (facts : List (Option Facts)) (cycle : ℕ) (made : Option Bool) (names : Bool) (disk last : D) (whole : Result (Option Bool) JoinStop)
     (h : HasEnded separators facts cycle made names (files disk) (files last) (state disk).seen (state last).seen whole) (o n : Option D) (o_is : o ≡ Some disk) (n_is : n ≡ Some last) (separators_now : List Place) (facts_now : List (Option Facts)) (s_is : separators_now ≡ separators) (f_is : facts_now ≡ facts) where
   abbrev lent : SeenCycles
@@ -356,14 +374,14 @@ module _ {D : Type 0} (files : D → PartFiles) (state : D → DiskState) (separ
   said_then (Ok v) same = ap (λ f. f.noted) same
   said_then (Err stop) same = tt
 
-  noted_then : (w : Result (Option Bool) JoinStop) → OnErr w ((text : Text) × ((files last).folders ≡ with_noted text (files disk).folders)) → OnErr w ((text : Text) × (returned.noted ≡ lent.noted ++ text))
-  noted_then (Ok v) e = tt
-  noted_then (Err stop) e = (e.0, ap (λ f. f.noted) e.1)
+  silent_then : (w : Result (Option Bool) JoinStop) → OnErr w ((files last).folders ≡ (files disk).folders) → OnErr w (returned.noted ≡ lent.noted)
+  silent_then (Ok v) e = tt
+  silent_then (Err stop) e = ap (λ f. f.noted) e
 
   beside_then : (w : Result (Option Bool) JoinStop) → IfOk w (λ v. (files last).folders ≡ with_noted (end_text separators (known_parts (files disk).folders facts cycle) cycle ((files disk).folders.path cycle false) (end_of names v)) (files disk).folders)
-      → OnErr w ((text : Text) × ((files last).folders ≡ with_noted text (files disk).folders)) → IsBeside cycle lent returned
-  beside_then (Ok v) said noted = beside_cycle separators facts (files disk) (files last) _ said (state disk).seen (state last).seen cycle h.others
-  beside_then (Err stop) said noted = beside_cycle separators facts (files disk) (files last) noted.0 noted.1 (state disk).seen (state last).seen cycle h.others
+      → OnErr w ((files last).folders ≡ (files disk).folders) → IsBeside cycle lent returned
+  beside_then (Ok v) said silent = beside_cycle separators facts (files disk) (files last) _ said (state disk).seen (state last).seen cycle h.others
+  beside_then (Err stop) said silent = beside_cycle separators facts (files disk) (files last) [] (silent ∙ none_noted (files disk).folders) (state disk).seen (state last).seen cycle h.others
 
   pub comes_seen : IfOk whole (λ w. ComesTo (cycles_on files state separators facts o).separators ((cycles_on files state separators facts o).parts cycle) cycle made (end_of names w)
       ((cycles_on files state separators facts o).reports cycle) ((cycles_on files state separators_now facts_now n).reports cycle))
@@ -377,11 +395,15 @@ module _ {D : Type 0} (files : D → PartFiles) (state : D → DiskState) (separ
       ((cycles_on files state separators facts o).reports cycle) ((cycles_on files state separators_now facts_now n).reports cycle))
   may_seen = on (λ a b. OnErr whole (MayCome a.separators (a.parts cycle) cycle (a.reports cycle) (b.reports cycle))) h.may
 
-  pub noted_seen : OnErr whole ((text : Text) × ((cycles_on files state separators_now facts_now n).noted ≡ (cycles_on files state separators facts o).noted ++ text))
-  noted_seen = on (λ a b. OnErr whole ((text : Text) × (b.noted ≡ a.noted ++ text))) (noted_then whole h.noted)
+  pub why_seen : IfErr whole (IsStopRight (part_count (cycles_on files state separators facts o).separators ((cycles_on files state separators facts o).parts cycle))
+      (cycles_on files state separators facts o).separators ((cycles_on files state separators facts o).reports cycle))
+  why_seen = on (λ a b. IfErr whole (IsStopRight (part_count a.separators (a.parts cycle)) a.separators (a.reports cycle))) h.why
+
+  pub silent_seen : OnErr whole ((cycles_on files state separators_now facts_now n).noted ≡ (cycles_on files state separators facts o).noted)
+  silent_seen = on (λ a b. OnErr whole (b.noted ≡ a.noted)) (silent_then whole h.silent)
 
   pub beside_seen : IsBeside cycle (cycles_on files state separators facts o) (cycles_on files state separators_now facts_now n)
-  beside_seen = on (IsBeside cycle) (beside_then whole h.said h.noted)
+  beside_seen = on (IsBeside cycle) (beside_then whole h.said h.silent)
 
 -- a text more was said, and nothing else
 pub said_on : {D : Type 0} (files : D → PartFiles) (state : D → DiskState) (separators : List Place) (facts : List (Option Facts)) (disk last : D) (o n : Option D) (text : Text) → o ≡ Some disk → n ≡ Some last

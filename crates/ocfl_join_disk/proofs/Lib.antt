@@ -4,3 +4,4 @@ mod Putting
 mod Beside
 mod Naming
 mod Endings
+mod Telling

@@ -1,10 +1,10 @@
 -- What is seen of the cycles of parts on a disk, and what came of a joining there.
-use Rattle.std.specs.Prelude.{◌≡◌, ◌&&◌, ◌||◌, ℕ, List, [], Bool, true, false, if◌then◌else◌, is_some, Option, Some, None, Result, Ok, Err}
+use Rattle.std.specs.Prelude.{◌≡◌, ◌⊎◌, ◌&&◌, ◌||◌, ℕ, List, [], Bool, true, false, if◌then◌else◌, is_some, Option, Some, None, Result, Ok, Err}
 use Rattle.ocfl_tree.specs.Place.{Text, Place}
 use Rattle.ocfl_disk.specs.{Names.{Stored}, PowerCut.{DiskState}}
-use Rattle.ocfl_joining.specs.{Cycles.{SeenCycles, no_cycles}, Facts.{known_parts}, Missing.{KnownPart}, Saying.{lacking_text, missing_text}, Stops.{is_missing}}
+use Rattle.ocfl_joining.specs.{Cycles.{SeenCycles, no_cycles}, Facts.{known_parts}, Missing.{KnownPart}, Saying.{lacking_text, missing_text}, Stops.{IsCallStop, is_missing}}
 use Rattle.ocfl_joining.specs.declared.{facts.Facts.{Facts}, joining.{Joined.{Joined}, JoinStop.{JoinStop}}}
-use Rattle.ocfl_joining.specs.declared.joining.JoinStop.TheVariants.{Missing, Part, Output, Unsaid, Memory}
+use Rattle.ocfl_joining.specs.declared.joining.JoinStop.TheVariants.{Missing, Changed, Part, Output, Unsaid, Memory}
 use Rattle.ocfl_join_disk.specs.Shown.{PartFiles, reports_in}
 
 -- of the parts that the separators make, whose checkpoints say these facts
@@ -29,10 +29,17 @@ abbrev pub EndsAs : Result Joined JoinStop → Option Bool → Type 0
 EndsAs (Ok joined) whole = whole ≡ Some joined.whole
 EndsAs (Err stop) whole = (whole ≡ None) × (is_missing stop ≡ true)
 
+-- A call failed behind it, or it stopped itself for this reason, which no part was that keeps the cycle
+-- from being joined.
+abbrev pub StopsAs : Result Joined JoinStop → JoinStop → Type 0
+StopsAs (Ok joined) stop = IsCallStop (λ _. ⊥) stop
+StopsAs (Err why) stop = IsCallStop (λ _. ⊥) stop ⊎ ((is_missing why ≡ false) × (stop ≡ why))
+
 -- what is said of it, with what is known of the parts and how the path of the joined report is shown
 abbrev pub said_of : List (Option KnownPart) → ℕ → Bool → Text → Result Joined JoinStop → Text
 said_of parts cycle names path (Ok joined) = if joined.whole then [] else lacking_text cycle parts path
 said_of parts cycle names path (Err (Missing found)) = if names then missing_text cycle parts found.items else []
+said_of parts cycle names path (Err (Changed found)) = []
 said_of parts cycle names path (Err (Part part why)) = []
 said_of parts cycle names path (Err (Output why)) = []
 said_of parts cycle names path (Err Unsaid) = []

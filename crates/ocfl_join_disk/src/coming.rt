@@ -1,9 +1,9 @@
 //! The joining of one cycle on a disk.
 ghost use Rattle.std.specs.Prelude.{◌≡◌, [], false, if◌then◌else◌, Some, None};
-ghost use Rattle.std.specs.Prelude.{IsTrue, IfOk, OnErr, OnOk};
+ghost use Rattle.std.specs.Prelude.{IsTrue, IfErr, IfOk, OnErr, OnOk};
 ghost use Rattle.ocfl_joining.specs.{Folders.{with_noted}, Joined.{IsWordSaid, joined_text}};
-ghost use Rattle.ocfl_joining.specs.Saying.{lacking_text, missing_text};
-ghost use Rattle.ocfl_join_disk.specs.Cycles.{EndsAs, said_of};
+ghost use Rattle.ocfl_joining.specs.{Saying.{lacking_text, missing_text}, Stops.{IsCallStop}};
+ghost use Rattle.ocfl_join_disk.specs.Cycles.{EndsAs, StopsAs, said_of};
 ghost use Rattle.ocfl_join_disk.specs.Shown.{reports_in, with_text};
 ghost use Rattle.ocfl_join_disk.specs.Internal.Coming.{HasCome, HasEnded};
 
@@ -144,7 +144,9 @@ fn note_missing<D: JoinDisk>(
 }
 
 /// What a call that was not done means for a joining.
-pub(crate) fn stop_of(trouble: ReportTrouble) -> JoinStop {
+pub(crate) fn stop_of(trouble: ReportTrouble) -> JoinStop
+    ensures { IsCallStop (λ _. ⊥) result }
+{
     match trouble {
         ReportTrouble::Failed => JoinStop::Output(trouble),
         ReportTrouble::Memory => JoinStop::Memory,
@@ -160,6 +162,7 @@ fn say_joined<D: JoinDisk>(
     whole: bool,
 ) -> Result<Option<bool>, JoinStop>
     ensures whole { IfOk result (λ is. is ≡ Some whole) }
+    ensures why { IfErr result (IsCallStop (λ _. ⊥)) }
     ensures said { IsTrue D.told → OnOk result ((D.parts disk.new).folders ≡ with_noted
         (if whole then [] else lacking_text cycle parts.now
         ((D.parts disk.old).folders.path cycle false)) (D.parts disk.old).folders) }
@@ -185,6 +188,7 @@ fn say_hindered<D: JoinDisk>(
     missing: &[MissingPart],
 ) -> Result<Option<bool>, JoinStop>
     ensures none { IfOk result (λ is. is ≡ None) }
+    ensures why { IfErr result (IsCallStop (λ _. ⊥)) }
     ensures said { IsTrue D.told → OnOk result ((D.parts disk.new).folders ≡ with_noted
         (if asked.names then missing_text asked.cycle parts.now missing.now else [])
         (D.parts disk.old).folders) }
@@ -211,6 +215,7 @@ fn say_end<D: JoinDisk>(
     joined: Result<Joined, JoinStop>,
 ) -> Result<Option<bool>, JoinStop>
     ensures ends { IfOk result (EndsAs joined) }
+    ensures why { IfErr result (StopsAs joined) }
     ensures said { IsTrue D.told → OnOk result ((D.parts disk.new).folders ≡ with_noted
         (said_of parts.now asked.cycle asked.names
         ((D.parts disk.old).folders.path asked.cycle false) joined)
@@ -243,8 +248,8 @@ pub(crate) fn join_one<D: JoinDisk + Drop, S: Say>(
     let mut disk = disk;
     let parts = match find_parts(alloc, &mut disk, facts, asked.cycle) {
         Ok(parts) => parts,
-        Err(trouble) => {
-            let whole = Err(stop_of(trouble));
+        Err(stop) => {
+            let whole = Err(stop);
             return Ended { disk, whole };
         }
     };

@@ -1,21 +1,21 @@
 //! The cycles of parts, joined on a disk.
-ghost use Rattle.std.specs.Prelude.{◌≡◌, ◌≤◌, Ok, IfErr, IfOk, IsErr, IsTrue, Some};
+ghost use Rattle.std.specs.Prelude.{◌≡◌, [], Ok, IfErr, IfOk, IsOkAnd, IsTrue, Some, true, false};
+ghost use Rattle.std.specs.Prelude.{if◌then◌else◌, string_bytes};
 ghost use Rattle.ocfl_tree.specs.Place.{Text};
-ghost use Rattle.ocfl_joining.specs.Folders.{with_noted};
+ghost use Rattle.ocfl_joining.specs.{Cycles.{TellsStop}, Folders.{with_noted}, Stops.{IsCallStop}};
+ghost use Rattle.ocfl_joining.specs.Saying.{stop_text, words_of};
 ghost use Rattle.ocfl_join_disk.specs.Cycles.{cycles_on};
 
 use crate::coming::{Asked, Ended, join_one, stop_of};
 use crate::disk::JoinDisk;
-use crate::looking::{has_told, look_at};
+use crate::looking::{has_told, look_at, stop_at};
 use ocfl_joining::{
-    CycleFailed, Facts, JoinStop, JoinedLook, PartCycles, ReportTrouble, is_own_cause, say_stop,
+    Facts, FailedCall, JoinEnd, JoinStop, JoinedLook, PartCycles, ReportTrouble, failed_status,
+    say_stop,
 };
 use ocfl_say::Say;
 use ocfl_separators::Separators;
-use std::alloc::Global;
-
-/// The status of a call that failed.
-const FAILED: u8 = 3;
+use std::alloc::{AllocError, Global};
 
 /// The cycles of the parts that separators make, on a disk: the closed reports of each are joined by
 /// `join`, and the words on joined reports are said on an output. It tells what it shows if its disk
@@ -29,8 +29,6 @@ pub struct DiskCycles<'a, D: JoinDisk + Drop, S: Say + Drop> {
     /// It is lent to a joining while that lasts.
     disk: Option<D>,
     out: S,
-    /// Why the last call stopped that did.
-    stop: Option<JoinStop>,
 }
 
 impl<'a, D: JoinDisk + Drop, S: Say + Drop> DiskCycles<'a, D, S> {
@@ -53,7 +51,6 @@ impl<'a, D: JoinDisk + Drop, S: Say + Drop> DiskCycles<'a, D, S> {
             facts,
             disk: Some(disk),
             out,
-            stop: None,
         }
     }
 
@@ -64,53 +61,70 @@ impl<'a, D: JoinDisk + Drop, S: Say + Drop> DiskCycles<'a, D, S> {
         let DiskCycles { disk, .. } = self;
         disk
     }
+}
 
-    /// What a call gave, or that it failed, and why, which is kept.
-    fn answer<T: Drop>(&mut self, made: Result<T, JoinStop>) -> Result<T, CycleFailed>
-        ensures ok { IfOk result (λ value. made ≡ Ok value) }
-        ensures err { IfErr result (λ _. IsErr made) }
-        ensures separators { self.new.separators.now ≡ self.old.separators.now }
-        ensures facts { self.new.facts.now ≡ self.old.facts.now }
-        ensures disk { self.new.disk ≡ self.old.disk }
-    {
-        match made {
-            Ok(made) => Ok(made),
-            Err(stop) => {
-                self.stop = Some(stop);
-                Err(CycleFailed)
-            }
-        }
+/// Says a text, if it was made. Whether it was taken.
+fn note_made<D: JoinDisk>(disk: &mut D, text: Result<String, AllocError>) -> bool
+    ensures said { IsTrue D.told → result ≡ true → IsOkAnd text (λ text. (D.parts disk.new).folders
+        ≡ with_noted (string_bytes text) (D.parts disk.old).folders) }
+    ensures silent { IsTrue D.told → result ≡ false → D.parts disk.new ≡ D.parts disk.old }
+    ensures seen { IsTrue D.told → (D.state disk.new).seen ≡ (D.state disk.old).seen }
+{
+    match text {
+        Ok(text) => disk.note(text.as_str()).is_ok(),
+        Err(_) => false,
     }
 }
 
-/// What a call gave, or why a joining stops at it.
-fn made_of<T: Drop>(made: Result<T, ReportTrouble>) -> Result<T, JoinStop>
-    ensures ok { IfOk result (λ value. made ≡ Ok value) }
-    ensures err { IfErr result (λ _. IsErr made) }
+/// Says why the joining of a cycle stopped, with what the system said of a call that failed. Whether
+/// that was taken.
+fn note_why<D: JoinDisk>(
+    alloc: Global,
+    disk: &mut D,
+    cycle: u64,
+    stop: &JoinStop,
+    call: &Option<FailedCall>,
+) -> bool
+    ensures said { IsTrue D.told → (D.parts disk.new).folders ≡ with_noted (if result
+        then stop_text cycle stop.now (words_of call.now) else []) (D.parts disk.old).folders }
+    ensures seen { IsTrue D.told → (D.state disk.new).seen ≡ (D.state disk.old).seen }
+{
+    let text = say_stop(alloc, cycle, stop, call);
+    note_made(disk, text)
+}
+
+/// The same. Gives the status too.
+fn note_stop<D: JoinDisk>(alloc: Global, disk: &mut D, cycle: u64, stop: &JoinStop) -> JoinEnd
+    ensures told { IsTrue D.told → (text : Text) × (TellsStop cycle stop.now result text
+        × ((D.parts disk.new).folders ≡ with_noted text (D.parts disk.old).folders)) }
+    ensures seen { IsTrue D.told → (D.state disk.new).seen ≡ (D.state disk.old).seen }
+{
+    let call = disk.take_failure();
+    let said = note_why(alloc, disk, cycle, stop, &call);
+    let status = failed_status(stop, &call);
+    JoinEnd { status, said }
+}
+
+/// What there is of a cycle, or why its joining stops.
+fn looked(made: Result<JoinedLook, ReportTrouble>) -> Result<JoinedLook, JoinStop>
+    ensures ok { IfOk result (λ look. made ≡ Ok look) }
+    ensures why { IfErr result (IsCallStop (λ _. ⊥)) }
 {
     match made {
-        Ok(made) => Ok(made),
+        Ok(look) => Ok(look),
         Err(trouble) => Err(stop_of(trouble)),
     }
 }
 
-/// Says why a joining stopped: its own cause, or that of the call that failed, if that was kept.
-/// Gives the status.
-fn note_stop<D: JoinDisk>(alloc: Global, disk: &mut D, stop: &JoinStop) -> u8
-    ensures status { 3 ≤ result }
-    ensures said { IsTrue D.told → (text : Text)
-        × ((D.parts disk.new).folders ≡ with_noted text (D.parts disk.old).folders) }
-    ensures seen { IsTrue D.told → (D.state disk.new).seen ≡ (D.state disk.old).seen }
+/// Whether the part with this number has closed a cycle, or why its joining stops.
+fn closed(part: usize, made: Result<bool, ReportTrouble>) -> Result<bool, JoinStop>
+    ensures ok { IfOk result (λ is. made ≡ Ok is) }
+    ensures why { IfErr result (IsCallStop (λ at. at ≡ part)) }
 {
-    if !is_own_cause(stop) {
-        if let Some(status) = disk.note_failure() {
-            return status.max(FAILED);
-        }
+    match made {
+        Ok(is) => Ok(is),
+        Err(trouble) => Err(stop_at(part, trouble)),
     }
-    if let Ok(text) = say_stop(alloc, stop) {
-        let _ = disk.note(text.as_str());
-    }
-    FAILED
 }
 
 impl<D: JoinDisk + Drop, S: Say + Drop> PartCycles for DiskCycles<'_, D, S> {
@@ -118,20 +132,18 @@ impl<D: JoinDisk + Drop, S: Say + Drop> PartCycles for DiskCycles<'_, D, S> {
 
     ghost seen = { λ s. cycles_on D.parts D.state s.separators.now s.facts.now s.disk };
 
-    fn look(&mut self, cycle: u64) -> Result<JoinedLook, CycleFailed> {
-        let looked = match &mut self.disk {
-            Some(disk) => made_of(look_at(disk, cycle)),
+    fn look(&mut self, cycle: u64) -> Result<JoinedLook, JoinStop> {
+        match &mut self.disk {
+            Some(disk) => looked(look_at(disk, cycle)),
             None => Err(JoinStop::Memory),
-        };
-        self.answer(looked)
+        }
     }
 
-    fn has_closed(&mut self, part: usize, cycle: u64) -> Result<bool, CycleFailed> {
-        let has = match &mut self.disk {
-            Some(disk) => made_of(has_told(disk, part, cycle)),
+    fn has_closed(&mut self, part: usize, cycle: u64) -> Result<bool, JoinStop> {
+        match &mut self.disk {
+            Some(disk) => closed(part, has_told(disk, part, cycle)),
             None => Err(JoinStop::Memory),
-        };
-        self.answer(has)
+        }
     }
 
     fn join(
@@ -139,23 +151,25 @@ impl<D: JoinDisk + Drop, S: Say + Drop> PartCycles for DiskCycles<'_, D, S> {
         cycle: u64,
         made: Option<bool>,
         names: bool,
-    ) -> Result<Option<bool>, CycleFailed> {
+    ) -> Result<Option<bool>, JoinStop> {
         let Some(disk) = self.disk.take() else {
-            return Err(CycleFailed);
+            return Err(JoinStop::Memory);
         };
         let asked = Asked { cycle, made, names };
         let (separators, facts) = (self.separators, self.facts);
         let ended = join_one(self.alloc, separators, facts, disk, asked, &mut self.out);
         let Ended { disk, whole } = ended;
         self.disk = Some(disk);
-        self.answer(whole)
+        whole
     }
 
-    fn fail(&mut self) -> u8 {
-        let stop = self.stop.take();
-        match (&mut self.disk, stop) {
-            (Some(disk), Some(stop)) => note_stop(self.alloc, disk, &stop),
-            _ => FAILED,
+    fn fail(&mut self, cycle: u64, stop: &JoinStop) -> JoinEnd {
+        match &mut self.disk {
+            Some(disk) => note_stop(self.alloc, disk, cycle, stop),
+            None => JoinEnd {
+                status: failed_status(stop, &None),
+                said: false,
+            },
         }
     }
 }

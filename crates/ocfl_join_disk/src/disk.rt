@@ -9,7 +9,7 @@ ghost use Rattle.ocfl_disk.specs.declared.state_file.StateFile.TheVariants.{Repo
 ghost use Rattle.ocfl_join_disk.specs.Shown.{HasSureNames, PartFiles, no_files, text_in};
 ghost use Rattle.ocfl_join_disk.specs.Shown.{with_opened, with_text};
 
-use ocfl_joining::{FoundReport, KeptMark, ReportTrouble};
+use ocfl_joining::{FailedCall, FoundReport, KeptMark, ReportTrouble};
 use std::io::{self, BufRead};
 
 /// The closed report of a part that is open, and with what it was closed.
@@ -186,11 +186,10 @@ pub trait JoinDisk {
         ensures silent { IsTrue told → OnErr result (parts self.new ≡ parts self.old) }
         ensures calm { IsTrue told → Calm (state self.old) (state self.new) };
 
-    /// Says there why the last call failed that did, and gives the status of that. `None` if that was
-    /// not kept, and then nothing is said.
-    fn note_failure(&mut self) -> Option<u8>
-        ensures said { IsTrue told → (text : Text)
-            × (parts self.new ≡ with_text text (parts self.old)) }
+    /// What the system said of the last call that failed, and then it is forgotten. `None` if that was
+    /// not kept.
+    fn take_failure(&mut self) -> Option<FailedCall>
+        ensures parts { IsTrue told → parts self.new ≡ parts self.old }
         ensures calm { IsTrue told → Calm (state self.old) (state self.new) };
 
     /// The laws of what is on a disk.

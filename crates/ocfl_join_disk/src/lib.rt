@@ -26,3 +26,4 @@ pub use comparing::ComparedReports;
 pub use cycles::DiskCycles;
 pub use disk::{JoinDisk, OpenPart};
 pub use making::MakingReports;
+pub use parts::next_line;

@@ -1,11 +1,15 @@
 //! What joinings of cycles ask of a disk before they join one.
-ghost use Rattle.std.specs.Prelude.{◌≡◌, ◌&&◌, ◌||◌, true, false, IsTrue, IfOk, is_some, option_map};
+ghost use Rattle.std.specs.Prelude.{◌≡◌, ◌&&◌, ◌||◌, true, false, IsTrue, IfErr, IfOk, is_some};
+ghost use Rattle.std.specs.Prelude.{length, option_map};
 ghost use Rattle.ocfl_joining.specs.Cycles.{has_put, look_of};
-ghost use Rattle.ocfl_joining.specs.Facts.{facts_at, known_by, known_parts};
+ghost use Rattle.ocfl_joining.specs.Facts.{known_by, known_parts};
+ghost use Rattle.ocfl_joining.specs.Stops.{IsCallStop, IsUpTo};
 ghost use Rattle.ocfl_join_disk.specs.Shown.{joined_in};
 
 use crate::disk::JoinDisk;
-use ocfl_joining::{ClosedPart, Facts, JoinedLook, ReportTrouble, known_part};
+use ocfl_joining::{
+    ClosedPart, Facts, JoinStop, JoinedLook, ReportTrouble, facts_with, known_part,
+};
 use std::alloc::Global;
 
 /// Whether a joined report of a cycle is there, whole or not.
@@ -73,16 +77,6 @@ pub(crate) fn has_told<D: JoinDisk>(
     }
 }
 
-/// What the checkpoint of the part with a number says, from 1.
-fn facts_with(all: &[Option<Facts>], number: usize) -> Option<&Facts>
-    ensures { option_map (λ facts. facts.now) result ≡ facts_at all.now number }
-{
-    match all.get(number.saturating_sub(1)) {
-        Some(Some(facts)) => Some(facts),
-        _ => None,
-    }
-}
-
 /// What is known of the report that a part closed in a cycle.
 fn find_part<D: JoinDisk>(
     alloc: Global,
@@ -106,13 +100,25 @@ fn find_part<D: JoinDisk>(
     Ok(Some(known_part(alloc, facts, cycle, told, &found)?))
 }
 
+/// Why a joining stops at the part with this number, at which a call was not done.
+pub(crate) fn stop_at(part: usize, why: ReportTrouble) -> JoinStop
+    ensures { IsCallStop (λ at. at ≡ part) result }
+{
+    match why {
+        ReportTrouble::Failed => JoinStop::Part { part, why },
+        ReportTrouble::Memory => JoinStop::Memory,
+    }
+}
+
 /// What is known of the reports that all parts closed in a cycle, whose checkpoints say these facts.
+#[tactic(auto, using(ocfl_joining::proofs::Stopping::at_one))]
 pub(crate) fn find_parts<D: JoinDisk>(
     alloc: Global,
     disk: &mut D,
     all: &[Option<Facts>],
     cycle: u64,
-) -> Result<Vec<Option<ClosedPart>>, ReportTrouble>
+) -> Result<Vec<Option<ClosedPart>>, JoinStop>
+    ensures why { IfErr result (IsCallStop (IsUpTo (length all.now))) }
     ensures known { IsTrue D.told → IfOk result (λ parts.
         parts.items ≡ known_parts (D.parts disk.old).folders all.now cycle) }
     ensures seen { IsTrue D.told → (D.state disk.new).seen ≡ (D.state disk.old).seen }
@@ -121,9 +127,12 @@ pub(crate) fn find_parts<D: JoinDisk>(
     let mut parts = Vec::new(alloc);
     for index in 0..all.len() {
         let facts = facts_with(all, index + 1);
-        let part = find_part(alloc, disk, facts, cycle, index + 1)?;
+        let part = match find_part(alloc, disk, facts, cycle, index + 1) {
+            Ok(part) => part,
+            Err(trouble) => return Err(stop_at(index + 1, trouble)),
+        };
         if parts.push(part).is_err() {
-            return Err(ReportTrouble::Memory);
+            return Err(JoinStop::Memory);
         }
     }
     Ok(parts)

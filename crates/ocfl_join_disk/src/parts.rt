@@ -19,7 +19,7 @@ pub(crate) struct Parts<D: JoinDisk + Drop> {
 
 /// Reads the next line of a report with its line feed, or whatever is left, in place of what `text`
 /// had. Gives false at the end.
-pub(crate) fn next_line<R: BufRead>(report: &mut R, text: &mut Vec<u8>) -> io::Result<bool>
+pub fn next_line<R: BufRead>(report: &mut R, text: &mut Vec<u8>) -> io::Result<bool>
     ensures line { OnOk result
         (IfSome (R.remaining report.old) (λ bytes. text.new.items ≡ take_through 10 bytes)) }
     ensures rest { Consumes (R.remaining report.old) (R.remaining report.new) text.new.items }

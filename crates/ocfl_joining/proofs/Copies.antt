@@ -1,5 +1,5 @@
 -- One more line of a report, and one more report.
-use Rattle.std.proofs.Common.{◌≡◌, ℕ, ◌+◌, List, [], ◌∷◌, ◌++◌, length, Bool, false, Option, Some, None, refl, sym, ap, subst, ◌∙◌, append-nil, append_assoc, length-append}
+use Rattle.std.proofs.Common.{◌≡◌, ◌⊎◌, inl, inr, ℕ, ◌+◌, List, [], ◌∷◌, ◌++◌, length, Bool, true, false, Option, Some, None, refl, sym, ap, subst, ◌∙◌, add-one, append-nil, append_assoc, length-append}
 use Rattle.std.specs.Prelude.{flat_map}
 use Rattle.std.proofs.lemmas.Grind.{flat_map-append}
 use Rattle.std.proofs.lemmas.List.Elements.{All-append, All-cons, All-nil}
@@ -8,9 +8,9 @@ use Rattle.ocfl_report.specs.{Line.{Line}, Text.{line_text, lines_text}}
 use Rattle.ocfl_separators.specs.Separators.{start_of_part, end_of_part}
 use Rattle.ocfl_separators.specs.Splits.{HasText, IsNotLess, AreInOrder}
 use Rattle.ocfl_state.specs.Pieces.{Carries}
-use Rattle.ocfl_joining.specs.{Joined.{IsAsClosed, IsFrom, IsBelow, IsReportIn, IsRight}, Missing.{numbers}, Reports.{Seen, ReadsLine, with_open, with_left, with_made}}
+use Rattle.ocfl_joining.specs.{Joined.{IsAsClosed, IsFrom, IsBelow, IsReportIn, IsRight}, Missing.{numbers}, Reports.{SameReports, Seen, ReadsLine, with_open, with_left, with_made}, Stops.{AreChanged, unless}}
 use Rattle.ocfl_joining.specs.Internal.Copying.{last_of, HasCopied, CopiesLine, AreGiven, AreCopied, IsCopy, AreAllCopied}
-use Rattle.ocfl_joining.proofs.Numbers.{numbers_more, flat_more, all_more}
+use Rattle.ocfl_joining.proofs.{Numbers.{numbers_more, flat_more, all_more}, Stopping.{right_as}}
 use Rattle.ocfl_joining.specs.declared.reports.KeptMark.{KeptMark}
 use Rattle.ocfl_joining.specs.declared.copying.Copied.{Copied}
 
@@ -113,6 +113,29 @@ none_copied separators s = record {
   put = refl;
   right = All-nil (IsRight separators s);
 }
+
+-- ---- the parts whose reports are not right
+
+none_if_nil : (right : Bool) (number : ℕ) (xs : List ℕ) → xs ++ unless right number ≡ [] → (right ≡ true) × (xs ≡ [])
+none_if_nil true number xs e = (refl, sym (append-nil xs) ∙ e)
+none_if_nil false number [] e = cc
+none_if_nil false number (x ∷ xs) e = cc
+
+module _ (separators : List Place) (n : ℕ) (first before after : Seen) (right : Bool) (changed more : List ℕ) (same : SameReports first before) (m : more ≡ changed ++ unless right (n + 1)) where
+  pub changed_more : (right ≡ true → IsRight separators before (n + 1)) → (right ≡ false → IsRight separators before (n + 1) → ⊥) → AreChanged separators first n changed → AreChanged separators first (n + 1) more
+  changed_more right_is right_not h = subst (λ k. AreChanged separators first k more) (sym (add-one n)) (changed, (h, by right m right_is right_not))
+    where
+      by : (b : Bool) → more ≡ changed ++ unless b (n + 1) → (b ≡ true → IsRight separators before (n + 1)) → (b ≡ false → IsRight separators before (n + 1) → ⊥)
+          → (IsRight separators first (n + 1) × (more ≡ changed)) ⊎ ((IsRight separators first (n + 1) → ⊥) × (more ≡ changed ++ (n + 1) ∷ []))
+      by true e y x = inl (right_as separators before first same.bytes same.marks (n + 1) (y refl), e ∙ append-nil changed)
+      by false e y x = inr (λ is. x refl (right_as separators first before (sym same.bytes) (sym same.marks) (n + 1) is), e)
+
+  -- so far none was changed, and this one is not
+  pub copied_if_none : (changed ≡ [] → AreAllCopied separators n first before) → (right ≡ true → IsRight separators before (n + 1)) → (right ≡ true → IsCopy (n + 1) before after)
+      → more ≡ [] → AreAllCopied separators (n + 1) first after
+  copied_if_none h right_is copied none =
+      let k = none_if_nil right (n + 1) changed (sym m ∙ none) in
+      all_copied_more separators n first before after (h k.1) (right_is k.0) (copied k.0)
 
 -- ---- the report of a part
 

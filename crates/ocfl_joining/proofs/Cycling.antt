@@ -1,10 +1,12 @@
 -- One more cycle that was joined or passed by.
-use Rattle.std.proofs.Common.{◌≡◌, ◌≢◌, ◌⊎◌, inl, inr, ℕ, ◌+◌, ◌-◌, ◌<◌, ◌≤◌, List, [], ◌∷◌, ◌++◌, length, Bool, true, false, Option, Some, None, refl, sym, ap, subst, ◌∙◌, add-one, append-nil, append_assoc, length-append, arith}
+use Rattle.std.proofs.Common.{◌≡◌, ◌⊎◌, inl, inr, ℕ, ◌+◌, ◌-◌, ◌<◌, ◌≤◌, List, [], ◌∷◌, ◌++◌, length, Bool, true, false, Option, Some, None, refl, sym, ap, subst, ◌∙◌, add-one, append-nil, append_assoc, length-append, arith}
 use Rattle.std.specs.Prelude.{◌==◌, ◌&&◌, not, max, flat_map, if◌then◌else◌}
 use Rattle.std.proofs.lemmas.Grind.{flat_map-append}
 use Rattle.ocfl_tree.specs.Place.{Text}
-use Rattle.ocfl_joining.specs.Cycles.{SeenCycles, Round, passed, ended, failed, Comes, ComesTo, Fails, IsBeside, IsEarlier, IsLast, MayCome, NamesAs, AreEarlier, AreJoined, have_all, is_there, is_due, is_none, look_of, whole_of, made_of, oldest, end_of, end_text, with_said, said_by, status_by, greatest}
-use Rattle.ocfl_joining.specs.{Reports.{Seen}, Status.{status_of}, declared.status.CycleEnd.{CycleEnd}}
+use Rattle.ocfl_joining.specs.Cycles.{SeenCycles, Round, passed, ended, stopped, Comes, ComesTo, IsStopped, IsBeside, IsEarlier, IsLast, MayCome, NamesAs, AreEarlier, AreJoined, TellsStop, have_all, is_there, is_due, is_none, last_part, look_of, whole_of, made_of, oldest, end_by, end_of, end_text, ends_of, with_said, said_by}
+use Rattle.ocfl_joining.specs.{Failing.{more_of}, Missing.{part_count}, Reports.{Seen}, Status.{status_of}, Stops.{IsCallStop, IsStopRight, IsUpTo}}
+use Rattle.ocfl_joining.specs.declared.{failing.JoinEnd.{JoinEnd}, joining.JoinStop.{JoinStop}, status.CycleEnd.{CycleEnd}}
+use Rattle.ocfl_joining.proofs.Stopping.{at_none, call_right, right_more}
 use Rattle.ocfl_joining.specs.Internal.Cycling.{AreTried, Joins, JoinsNone, TriesEarlier, TriesLast}
 
 pub have_more : (closed : ℕ → ℕ → Bool) (n cycle : ℕ) → have_all closed (n + 1) cycle ≡ (have_all closed n cycle && closed cycle (n + 1))
@@ -25,16 +27,25 @@ all_beside cycle old new same = record {
   others = λ other apart. ap (λ s. s.reports other) same;
 }
 
-pub none_joined : (cycle : ℕ) (old new : SeenCycles) → new ≡ old → JoinsNone cycle old new
-none_joined cycle old new same = record {
-  text = [];
-  noted = ap (λ s. s.noted) same ∙ sym (append-nil old.noted);
+pub none_joined : (parts cycle : ℕ) (old new : SeenCycles) (why : JoinStop) → new ≡ old → IsCallStop (IsUpTo parts) why → JoinsNone parts cycle old new why
+none_joined parts cycle old new why same call = record {
+  noted = ap (λ s. s.noted) same;
   may = inl (ap (λ s. (s.reports cycle).put) same);
+  right = call_right parts (last_part old parts cycle) old.separators (old.reports cycle) why (omega arith) call;
   beside = all_beside cycle old new same;
 }
 
-pub none_then : (cycle : ℕ) (old mid new : SeenCycles) → mid ≡ old → JoinsNone cycle mid new → JoinsNone cycle old new
-none_then cycle old mid new same n = subst (λ s. JoinsNone cycle s new) same n
+-- nothing of it was asked for a part
+pub none_looked : (cycle : ℕ) (old new : SeenCycles) (why : JoinStop) → new ≡ old → IsCallStop (λ _. ⊥) why → JoinsNone 0 cycle old new why
+none_looked cycle old new why same call = none_joined 0 cycle old new why same (at_none 0 why call)
+
+pub none_then : (parts cycle : ℕ) (old mid new : SeenCycles) (why : JoinStop) → mid ≡ old → JoinsNone 0 cycle mid new why → JoinsNone parts cycle old new why
+none_then parts cycle old mid new why same n = let m = subst (λ s. JoinsNone 0 cycle s new why) same n in record {
+  noted = m.noted;
+  may = m.may;
+  right = right_more (last_part old 0 cycle) (last_part old parts cycle) old.separators (old.reports cycle) why (omega arith) m.right;
+  beside = m.beside;
+}
 
 named_as : (names : Bool) (whole : Option Bool) → NamesAs names (end_of names whole)
 named_as names None = refl
@@ -51,8 +62,14 @@ joins_of cycle made whole names old new end status c n e s = record {
   status_is = s ∙ ap status_of e;
 }
 
-pub none_of : (cycle : ℕ) (old new : SeenCycles) → (text : Text) × (new.noted ≡ old.noted ++ text) → MayCome old.separators (old.parts cycle) cycle (old.reports cycle) (new.reports cycle) → IsBeside cycle old new → JoinsNone cycle old new
-none_of cycle old new said may b = record { text = said.0; noted = said.1; may = may; beside = b }
+pub none_of : (cycle : ℕ) (old new : SeenCycles) (why : JoinStop) → new.noted ≡ old.noted → MayCome old.separators (old.parts cycle) cycle (old.reports cycle) (new.reports cycle)
+    → IsStopRight (part_count old.separators (old.parts cycle)) old.separators (old.reports cycle) why → IsBeside cycle old new → JoinsNone 0 cycle old new why
+none_of cycle old new why silent may right b = record {
+  noted = silent;
+  may = may;
+  right = right_more (part_count old.separators (old.parts cycle)) (last_part old 0 cycle) old.separators (old.reports cycle) why (omega arith) right;
+  beside = b;
+}
 
 pub joins_then : (cycle : ℕ) (made other : Option Bool) (names named : Bool) (old mid new : SeenCycles) (status : ℕ) → mid ≡ old → made ≡ other → names ≡ named
     → Joins cycle made names mid new status → Joins cycle other named old new status
@@ -61,32 +78,36 @@ joins_then cycle made other names named old mid new status same e f j =
     (subst (λ n. Joins cycle made n old new status) f
     (subst (λ s. Joins cycle made names s new status) same j))
 
-pub passed_by : (parts cycle : ℕ) (old new : SeenCycles) → new ≡ old → is_due old parts cycle ≡ false → TriesEarlier parts cycle old new 0
+pub passed_by : (parts cycle : ℕ) (old new : SeenCycles) → new ≡ old → is_due old parts cycle ≡ false → TriesEarlier parts cycle old new (record { status = 0; said = true })
 passed_by parts cycle old new same e = record {
   round = passed;
   is = (e, ap (λ s. s.reports cycle) same);
   noted = ap (λ s. s.noted) same ∙ sym (append-nil old.noted);
-  status_is = refl;
+  result_is = refl;
   beside = all_beside cycle old new same;
 }
 
 pub due_joined : (parts cycle : ℕ) (old mid new : SeenCycles) (status : ℕ) → mid ≡ old → is_due old parts cycle ≡ true → Joins cycle None false mid new status → IsBeside cycle mid new
-    → TriesEarlier parts cycle old new status
+    → TriesEarlier parts cycle old new (record { status = status; said = true })
 due_joined parts cycle old mid new status same e j b = let k = subst (λ s. Joins cycle None false s new status) same j in record {
   round = ended k.end k.text;
   is = (e, k.comes);
   noted = k.noted;
-  status_is = k.status_is;
+  result_is = λ i. record { status = k.status_is i; said = true };
   beside = same_beside cycle old mid new same b;
 }
 
--- a call failed, and then why was said
-module _ (cycle : ℕ) (old mid new : SeenCycles) (status : ℕ) (n : JoinsNone cycle old mid) (text : Text) (same : new ≡ with_said text mid) (le : 3 ≤ status) where
-  fails_then : Fails old cycle status (new.reports cycle)
-  fails_then = (le, subst (λ s. MayCome old.separators (old.parts cycle) cycle (old.reports cycle) (s.reports cycle)) (sym same) n.may)
+-- it stopped, and then why was said
+module _ (parts cycle : ℕ) (old mid new : SeenCycles) (why : JoinStop) (result : JoinEnd) (n : JoinsNone parts cycle old mid why) (text : Text) (tells : TellsStop cycle why result text) (same : new ≡ with_said text mid) where
+  stops_then : IsStopped old parts cycle why result text (new.reports cycle)
+  stops_then = record {
+    may = subst (λ s. MayCome old.separators (old.parts cycle) cycle (old.reports cycle) (s.reports cycle)) (sym same) n.may;
+    right = n.right;
+    told = tells;
+  }
 
-  noted_then : new.noted ≡ old.noted ++ (n.text ++ text)
-  noted_then = ap (λ s. s.noted) same ∙ ap (λ t. t ++ text) n.noted ∙ append_assoc old.noted n.text text
+  noted_then : new.noted ≡ old.noted ++ text
+  noted_then = ap (λ s. s.noted) same ∙ ap (λ t. t ++ text) n.noted
 
   beside_then : IsBeside cycle old new
   beside_then = record {
@@ -98,25 +119,28 @@ module _ (cycle : ℕ) (old mid new : SeenCycles) (status : ℕ) (n : JoinsNone 
     others = λ other apart. ap (λ s. s.reports other) same ∙ n.beside.others other apart;
   }
 
-pub earlier_failed : (parts cycle : ℕ) (old mid new : SeenCycles) (status : ℕ) → JoinsNone cycle old mid → (text : Text) × (new ≡ with_said text mid) → 3 ≤ status → TriesEarlier parts cycle old new status
-earlier_failed parts cycle old mid new status n said le = record {
-  round = failed status (n.text ++ said.0);
-  is = fails_then cycle old mid new status n said.0 said.1 le;
-  noted = noted_then cycle old mid new status n said.0 said.1 le;
-  status_is = refl;
-  beside = beside_then cycle old mid new status n said.0 said.1 le;
+pub earlier_failed : (parts cycle : ℕ) (old mid new : SeenCycles) (why : JoinStop) (result : JoinEnd) → JoinsNone parts cycle old mid why → (text : Text) × (TellsStop cycle why result text × (new ≡ with_said text mid))
+    → TriesEarlier parts cycle old new result
+earlier_failed parts cycle old mid new why result n said = record {
+  round = stopped why result said.0;
+  is = stops_then parts cycle old mid new why result n said.0 said.1.0 said.1.1;
+  noted = noted_then parts cycle old mid new why result n said.0 said.1.0 said.1.1;
+  result_is = refl;
+  beside = beside_then parts cycle old mid new why result n said.0 said.1.0 said.1.1;
 }
 
-pub last_joined : (cycle : ℕ) (old new : SeenCycles) (status : ℕ) → Joins cycle (made_of old cycle) (is_none (made_of old cycle)) old new status → IsBeside cycle old new → TriesLast cycle old new status
-last_joined cycle old new status j b = record { round = ended j.end j.text; is = j.comes; noted = j.noted; status_is = j.status_is; beside = b }
+pub last_joined : (cycle : ℕ) (old new : SeenCycles) (status : ℕ) → Joins cycle (made_of old cycle) (is_none (made_of old cycle)) old new status → IsBeside cycle old new
+    → TriesLast cycle old new (record { status = status; said = true })
+last_joined cycle old new status j b = record { round = ended j.end j.text; is = j.comes; noted = j.noted; result_is = λ i. record { status = j.status_is i; said = true }; beside = b }
 
-pub last_failed : (cycle : ℕ) (old mid new : SeenCycles) (status : ℕ) → JoinsNone cycle old mid → (text : Text) × (new ≡ with_said text mid) → 3 ≤ status → TriesLast cycle old new status
-last_failed cycle old mid new status n said le = record {
-  round = failed status (n.text ++ said.0);
-  is = fails_then cycle old mid new status n said.0 said.1 le;
-  noted = noted_then cycle old mid new status n said.0 said.1 le;
-  status_is = refl;
-  beside = beside_then cycle old mid new status n said.0 said.1 le;
+pub last_failed : (cycle : ℕ) (old mid new : SeenCycles) (why : JoinStop) (result : JoinEnd) → JoinsNone 0 cycle old mid why → (text : Text) × (TellsStop cycle why result text × (new ≡ with_said text mid))
+    → TriesLast cycle old new result
+last_failed cycle old mid new why result n said = record {
+  round = stopped why result said.0;
+  is = stops_then 0 cycle old mid new why result n said.0 said.1.0 said.1.1;
+  noted = noted_then 0 cycle old mid new why result n said.0 said.1.0 said.1.1;
+  result_is = refl;
+  beside = beside_then 0 cycle old mid new why result n said.0 said.1.0 said.1.1;
 }
 
 -- ---- one after the other
@@ -132,23 +156,26 @@ module _ (a b : SeenCycles) (cycle : ℕ) (separators : b.separators ≡ a.separ
     said = c.said ∙ (λ i. end_text (separators i) (parts i cycle) cycle (path i cycle) end);
   }
 
-  fails_same : (status : ℕ) → Fails b cycle status new → Fails a cycle status new
-  fails_same status f = (
-    f.0,
-    subst (λ r. MayCome a.separators (a.parts cycle) cycle r new) reports
+  stops_same : (count : ℕ) (why : JoinStop) (result : JoinEnd) (text : Text) → IsStopped b count cycle why result text new → IsStopped a count cycle why result text new
+  stops_same count why result text h = record {
+    may = subst (λ r. MayCome a.separators (a.parts cycle) cycle r new) reports
         (subst (λ p. MayCome a.separators (p cycle) cycle (b.reports cycle) new) parts
-        (subst (λ s. MayCome s (b.parts cycle) cycle (b.reports cycle) new) separators f.1)),
-  )
+        (subst (λ s. MayCome s (b.parts cycle) cycle (b.reports cycle) new) separators h.may));
+    right = subst (λ r. IsStopRight (last_part a count cycle) a.separators r why) reports
+        (subst (λ p. IsStopRight (max count (part_count a.separators (p cycle))) a.separators (b.reports cycle) why) parts
+        (subst (λ s. IsStopRight (max count (part_count s (b.parts cycle))) s (b.reports cycle) why) separators h.right));
+    told = h.told;
+  }
 
   earlier_same : (count : ℕ) (r : Round) → is_due b count cycle ≡ is_due a count cycle → IsEarlier b count cycle new r → IsEarlier a count cycle new r
   earlier_same count passed e h = (sym e ∙ h.0, h.1 ∙ reports)
   earlier_same count (ended end text) e h = (sym e ∙ h.0, comes_same None false end text h.1)
-  earlier_same count (failed status text) e h = fails_same status h
+  earlier_same count (stopped why result text) e h = stops_same count why result text h
 
   last_same : (r : Round) → made_of b cycle ≡ made_of a cycle → IsLast b cycle new r → IsLast a cycle new r
   last_same passed e h = h
   last_same (ended end text) e h = comes_same (made_of a cycle) (is_none (made_of a cycle)) end text (subst (λ m. Comes b cycle m (is_none m) end text new) e h)
-  last_same (failed status text) e h = fails_same status h
+  last_same (stopped why result text) e h = stops_same 0 why result text h
 
 -- later joinings leave the reports of these cycles as they are
 earlier_still : (s : SeenCycles) (now later : ℕ → Seen) (parts first : ℕ) (rounds : List Round) → ((other : ℕ) → first ≤ other → other < first + length rounds → later other ≡ now other)
@@ -166,20 +193,33 @@ earlier_more s new parts first next [] r h e is =
     (subst (λ n. IsEarlier s parts n (new n) r) number is, tt)
 earlier_more s new parts first next (q ∷ rounds) r h e is = (h.0, earlier_more s new parts (first + 1) next rounds r h.1 (omega (arith, e)) is)
 
-greatest_more : (rounds : List Round) (r : Round) → greatest (rounds ++ r ∷ []) ≡ max (greatest rounds) (status_by r)
-greatest_more [] r = omega arith
-greatest_more (q ∷ rounds) r = let e = greatest_more rounds r in omega (arith, e)
+and_true : (p : Bool) → (p && true) ≡ p
+and_true true = refl
+and_true false = refl
+
+and_assoc : (p q r : Bool) → ((p && q) && r) ≡ (p && (q && r))
+and_assoc true q r = refl
+and_assoc false q r = refl
+
+max_assoc : (a b c : ℕ) → max (max a b) c ≡ max a (max b c)
+max_assoc a b c = omega arith
+
+ends_more : (rounds : List Round) (r : Round) → ends_of (rounds ++ r ∷ []) ≡ more_of (ends_of rounds) (end_by r)
+ends_more [] r = λ i. record { status = (let e : max (end_by r).status 0 ≡ max 0 (end_by r).status = omega arith in e) i; said = and_true (end_by r).said i }
+ends_more (q ∷ rounds) r =
+    ap (more_of (end_by q)) (ends_more rounds r)
+    ∙ (λ i. record { status = sym (max_assoc (end_by q).status (ends_of rounds).status (end_by r).status) i; said = sym (and_assoc (end_by q).said (ends_of rounds).said (end_by r).said) i })
 
 said_more : (rounds : List Round) (r : Round) → flat_map said_by (rounds ++ r ∷ []) ≡ flat_map said_by rounds ++ said_by r
 said_more rounds r = flat_map-append said_by rounds (r ∷ []) ∙ ap (λ js. flat_map said_by rounds ++ js) (append-nil (said_by r))
 
-pub none_tried : (parts first : ℕ) (s : SeenCycles) → AreTried parts first first s s 0
+pub none_tried : (parts first : ℕ) (s : SeenCycles) → AreTried parts first first s s (record { status = 0; said = true })
 none_tried parts first s = record {
   rounds = [];
   are = tt;
   all = omega arith;
   noted = sym (append-nil s.noted);
-  greatest_is = refl;
+  result_is = refl;
   separators = refl;
   known = refl;
   closed = refl;
@@ -189,10 +229,10 @@ none_tried parts first s = record {
 }
 
 -- the cycle that comes next is as it was
-next_same : (parts first next : ℕ) (old mid : SeenCycles) (status : ℕ) → AreTried parts first next old mid status → mid.reports next ≡ old.reports next
+next_same : (parts first next : ℕ) (old mid : SeenCycles) (status : JoinEnd) → AreTried parts first next old mid status → mid.reports next ≡ old.reports next
 next_same parts first next old mid status h = h.others next (λ from below. omega (arith, below))
 
-pub tried_more : (parts first next : ℕ) (old mid new : SeenCycles) (status one all : ℕ) → AreTried parts first next old mid status → TriesEarlier parts next mid new one → all ≡ max status one
+pub tried_more : (parts first next : ℕ) (old mid new : SeenCycles) (status one all : JoinEnd) → AreTried parts first next old mid status → TriesEarlier parts next mid new one → all ≡ more_of status one
     → AreTried parts first (next + 1) old new all
 tried_more parts first next old mid new status one all h t e = let still = next_same parts first next old mid status h in record {
   rounds = h.rounds ++ t.round ∷ [];
@@ -203,7 +243,7 @@ tried_more parts first next old mid new status one all h t e = let still = next_
   all = let n = h.all in let m = length-append h.rounds (t.round ∷ []) in omega (arith, n, m);
   noted = t.noted ∙ ap (λ js. js ++ said_by t.round) h.noted ∙ append_assoc old.noted (flat_map said_by h.rounds) (said_by t.round)
       ∙ ap (λ js. old.noted ++ js) (sym (said_more h.rounds t.round));
-  greatest_is = e ∙ (λ i. max (h.greatest_is i) (t.status_is i)) ∙ sym (greatest_more h.rounds t.round);
+  result_is = e ∙ (λ i. more_of (h.result_is i) (t.result_is i)) ∙ sym (ends_more h.rounds t.round);
   separators = t.beside.separators ∙ h.separators;
   known = t.beside.parts ∙ h.known;
   closed = t.beside.closed ∙ h.closed;
@@ -233,8 +273,8 @@ not_tried first next last other bound (inl before) from below = omega (arith, be
 not_tried first next last other (inl le) (inr behind) from below = omega (arith, le, behind, below)
 not_tried first next last other (inr same) (inr behind) from below = omega (arith, same, from, below)
 
-pub all_joined : (parts last next : ℕ) (old mid new : SeenCycles) (status one all : ℕ) → (next ≤ last) ⊎ (next ≡ oldest last) → last ≤ next
-    → AreTried parts (oldest last) next old mid status → TriesLast last mid new one → all ≡ max status one → AreJoined old new parts last all
+pub all_joined : (parts last next : ℕ) (old mid new : SeenCycles) (status one all : JoinEnd) → (next ≤ last) ⊎ (next ≡ oldest last) → last ≤ next
+    → AreTried parts (oldest last) next old mid status → TriesLast last mid new one → all ≡ more_of status one → AreJoined old new parts last all
 all_joined parts last next old mid new status one all bound over h t e = let still = h.others last (outside (oldest last) next last bound) in record {
   rounds = h.rounds;
   end = t.round;
@@ -244,6 +284,6 @@ all_joined parts last next old mid new status one all bound over h t e = let sti
   end_is = last_same old mid last h.separators h.known h.path still (new.reports last) t.round (λ i. if last == 0 then None else whole_of (look_of (h.packed i last) (still i).put)) t.is;
   noted = t.noted ∙ ap (λ js. js ++ said_by t.round) h.noted ∙ append_assoc old.noted (flat_map said_by h.rounds) (said_by t.round)
       ∙ ap (λ js. old.noted ++ js) (sym (said_more h.rounds t.round));
-  greatest_is = e ∙ (λ i. max (h.greatest_is i) (t.status_is i)) ∙ sym (greatest_more h.rounds t.round);
+  result_is = e ∙ (λ i. more_of (h.result_is i) (t.result_is i)) ∙ sym (ends_more h.rounds t.round);
   others = λ other out apart. t.beside.others other apart ∙ h.others other (not_tried (oldest last) next last other bound out);
 }

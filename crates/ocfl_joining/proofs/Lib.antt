@@ -4,7 +4,8 @@ mod LastClosed
 mod Copies
 mod Decoded
 mod ClosedLaws
-pub mod Cycling
+mod Cycling
+pub mod Stopping
 mod Passing
 mod Stays
 mod Makes

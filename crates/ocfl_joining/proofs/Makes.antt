@@ -1,10 +1,10 @@
 -- The joined report that was made of reports that were copied.
-use Rattle.std.proofs.Common.{◌≡◌, ◌⊎◌, inl, inr, ℕ, ◌+◌, List, [], ◌∷◌, ◌++◌, length, All, Bool, refl, sym, ap, subst, ◌∙◌}
+use Rattle.std.proofs.Common.{◌≡◌, ◌⊎◌, inl, inr, ℕ, ◌+◌, List, [], ◌∷◌, ◌++◌, length, All, Bool, ap, subst, ◌∙◌}
 use Rattle.std.proofs.lemmas.List.Elements.{All-cons, All-head, All-nil, All-tail}
 use Rattle.ocfl_tree.specs.Place.{Place}
 use Rattle.ocfl_say.specs.Said.{Said}
-use Rattle.ocfl_joining.specs.{Crash.{Same, MayPut, Outcomes, Passes}, Reports.{Put, Seen, begun, with_put}}
-use Rattle.ocfl_joining.specs.Joined.{CanPut, IsJoined, IsRight, IsWordSaid, MayJoin, MayLeaveJoined, all_parts, joined_of, joined_text}
+use Rattle.ocfl_joining.specs.{Crash.{Same, MayPut, Outcomes, Passes}, Reports.{Seen, begun, with_put}}
+use Rattle.ocfl_joining.specs.Joined.{CanPut, IsJoined, IsRight, IsWordSaid, MayJoin, MayLeaveJoined, all_parts, joined_text}
 use Rattle.ocfl_joining.specs.Internal.Copying.{AreAllCopied}
 use Rattle.ocfl_joining.proofs.Passing.{joined_passes, two_same}
 

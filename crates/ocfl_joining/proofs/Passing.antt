@@ -1,5 +1,5 @@
 -- What a crash may leave of joined reports over several calls.
-use Rattle.std.proofs.Common.{◌≡◌, ◌⊎◌, inl, inr, ℕ, ◌≤◌, List, [], ◌∷◌, ◌++◌, Bool, refl, sym, ap, subst, ◌∙◌, arith}
+use Rattle.std.proofs.Common.{◌≡◌, ◌⊎◌, inl, inr, ℕ, ◌≤◌, List, [], ◌∷◌, ◌++◌, Bool, refl, sym, subst, arith}
 use Rattle.ocfl_tree.specs.Place.{Place}
 use Rattle.ocfl_say.specs.Said.{Said}
 use Rattle.ocfl_joining.specs.{Crash.{Step, Same, MayPut, Outcomes, After, Passes}, Reports.{Put, Seen}}

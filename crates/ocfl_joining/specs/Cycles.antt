@@ -1,10 +1,12 @@
 -- Which cycles of parts are joined, and in which order.
-use Rattle.std.specs.Prelude.{◌≡◌, ◌≢◌, ◌⊎◌, ℕ, zero, suc, ◌+◌, ◌-◌, ◌<◌, ◌≤◌, ◌==◌, ◌&&◌, ◌||◌, max, List, [], ◌∷◌, ◌++◌, length, All, flat_map, Bool, true, false, not, if◌then◌else◌, Option, Some, None, ⊤}
+use Rattle.std.specs.Prelude.{◌≡◌, ◌≢◌, ◌⊎◌, ℕ, zero, suc, ◌+◌, ◌-◌, ◌<◌, ◌==◌, ◌&&◌, ◌||◌, max, List, [], ◌∷◌, ◌++◌, length, All, flat_map, Bool, true, false, not, if◌then◌else◌, Option, Some, None, ⊤}
 use Rattle.std.specs.List.{Contains}
 use Rattle.ocfl_tree.specs.Place.{Text, Place}
-use Rattle.ocfl_joining.specs.{Joined.{IsRight, all_parts, joined_of}, Missing.{KnownPart, are_right, hindering_of, missing_of, root_of}}
-use Rattle.ocfl_joining.specs.{Reports.{Put, Seen, nothing_seen}, Saying.{lacking_text, missing_text}, Status.{status_of}}
+use Rattle.ocfl_joining.specs.{Joined.{IsRight, all_parts, joined_of}, Missing.{KnownPart, are_right, hindering_of, missing_of, part_count, root_of}}
+use Rattle.ocfl_joining.specs.{Failing.{failed_status, more_of}, Reports.{Put, Seen, nothing_seen}, Status.{status_of}, Stops.{IsStopRight}}
+use Rattle.ocfl_joining.specs.Saying.{lacking_text, missing_text, stop_text, words_of}
 use Rattle.ocfl_joining.specs.declared.{cycles.JoinedLook.{JoinedLook}, part.MissingPart.{MissingPart}, status.CycleEnd.{CycleEnd}}
+use Rattle.ocfl_joining.specs.declared.{failing.{FailedCall.{FailedCall}, JoinEnd.{JoinEnd}}, joining.JoinStop.{JoinStop}}
 use Rattle.ocfl_joining.specs.declared.cycles.JoinedLook.TheVariants.{There, Packed, Away}
 use Rattle.ocfl_joining.specs.declared.status.CycleEnd.TheVariants.{IsJoined, IsHindered}
 
@@ -132,11 +134,12 @@ end_text separators parts cycle path (IsHindered named) = if named then missing_
 
 -- ---- what comes of them
 
--- a cycle was passed by; or its joining ended, and this was said; or a call failed, with this status
+-- a cycle was passed by; or its joining ended, and this was said; or it stopped, for this reason, with
+-- this status, and this was said
 pub data Round : Type 0 where
   passed : Round
   ended : CycleEnd → Text → Round
-  failed : ℕ → Text → Round
+  stopped : JoinStop → JoinEnd → Text → Round
 
 -- if parts keep a cycle from being joined, they are named or not
 abbrev pub NamesAs : Bool → CycleEnd → Type 0
@@ -149,22 +152,36 @@ pub record Comes (s : SeenCycles) (cycle : ℕ) (made : Option Bool) (names : Bo
   pub comes : ComesTo s.separators (s.parts cycle) cycle made end (s.reports cycle) new
   pub said : text ≡ end_text s.separators (s.parts cycle) cycle (s.path cycle) end
 
-abbrev pub Fails : SeenCycles → ℕ → ℕ → Seen → Type 0
-Fails s cycle status new = (3 ≤ status) × MayCome s.separators (s.parts cycle) cycle (s.reports cycle) new
+-- It was said why a cycle stopped, with what the system said of a call that failed, if that is known;
+-- or that could not be said.
+pub record TellsStop (cycle : ℕ) (why : JoinStop) (end : JoinEnd) (text : Text) : Type 0 where
+  pub call : Option FailedCall
+  pub status_is : end.status ≡ failed_status why call
+  pub text_is : text ≡ (if end.said then stop_text cycle why (words_of call) else [])
+
+-- the greatest number of a part, of so many that are asked for
+abbrev pub last_part : SeenCycles → ℕ → ℕ → ℕ
+last_part s parts cycle = max parts (part_count s.separators (s.parts cycle))
+
+-- the joining of a cycle stopped, for a reason that holds, which was said
+pub record IsStopped (s : SeenCycles) (parts cycle : ℕ) (why : JoinStop) (end : JoinEnd) (text : Text) (new : Seen) : Type 0 where
+  pub may : MayCome s.separators (s.parts cycle) cycle (s.reports cycle) new
+  pub right : IsStopRight (last_part s parts cycle) s.separators (s.reports cycle) why
+  pub told : TellsStop cycle why end text
 
 -- A cycle before the last one, with the reports that are there of it then: if it is due it is made, and
 -- no part is named; else it is passed by.
 abbrev pub IsEarlier : SeenCycles → ℕ → ℕ → Seen → Round → Type 0
 IsEarlier s parts cycle new passed = (is_due s parts cycle ≡ false) × (new ≡ s.reports cycle)
 IsEarlier s parts cycle new (ended end text) = (is_due s parts cycle ≡ true) × Comes s cycle None false end text new
-IsEarlier s parts cycle new (failed status text) = Fails s cycle status new
+IsEarlier s parts cycle new (stopped why end text) = IsStopped s parts cycle why end text new
 
 -- the last one: it is compared with what was made of it, or made, and then the parts that keep it from
 -- it are named
 abbrev pub IsLast : SeenCycles → ℕ → Seen → Round → Type 0
 IsLast s cycle new passed = ⊥
 IsLast s cycle new (ended end text) = Comes s cycle (made_of s cycle) (is_none (made_of s cycle)) end text new
-IsLast s cycle new (failed status text) = Fails s cycle status new
+IsLast s cycle new (stopped why end text) = IsStopped s 0 cycle why end text new
 
 -- cycles before the last one, one after the other, from a number on
 abbrev pub AreEarlier : SeenCycles → (ℕ → Seen) → ℕ → ℕ → List Round → Type 0
@@ -174,25 +191,26 @@ AreEarlier s new parts first (r ∷ rounds) = IsEarlier s parts first (new first
 abbrev pub said_by : Round → Text
 said_by passed = []
 said_by (ended end text) = text
-said_by (failed status text) = text
+said_by (stopped why end text) = text
 
-abbrev pub status_by : Round → ℕ
-status_by passed = 0
-status_by (ended end text) = status_of end
-status_by (failed status text) = status
+-- its status, and whether all was said
+abbrev pub end_by : Round → JoinEnd
+end_by passed = record { status = 0; said = true }
+end_by (ended end text) = record { status = status_of end; said = true }
+end_by (stopped why end text) = end
 
-abbrev pub greatest : List Round → ℕ
-greatest [] = 0
-greatest (r ∷ rounds) = max (status_by r) (greatest rounds)
+abbrev pub ends_of : List Round → JoinEnd
+ends_of [] = record { status = 0; said = true }
+ends_of (r ∷ rounds) = more_of (end_by r) (ends_of rounds)
 
--- Each cycle up to the last one of so many parts, in order, and the greatest status. Nothing else was
--- joined or said.
-pub record AreJoined (old new : SeenCycles) (parts last status : ℕ) : Type 0 where
+-- Each cycle up to the last one of so many parts, in order, with the greatest status, and whether all
+-- was said. Nothing else was joined or said.
+pub record AreJoined (old new : SeenCycles) (parts last : ℕ) (result : JoinEnd) : Type 0 where
   pub rounds : List Round
   pub end : Round
   pub are : AreEarlier old new.reports parts (oldest last) rounds
   pub all : length rounds ≡ last - oldest last
   pub end_is : IsLast old last (new.reports last) end
   pub noted : new.noted ≡ old.noted ++ flat_map said_by (rounds ++ end ∷ [])
-  pub greatest_is : status ≡ greatest (rounds ++ end ∷ [])
+  pub result_is : result ≡ ends_of (rounds ++ end ∷ [])
   pub others : (cycle : ℕ) → (cycle < oldest last) ⊎ (last < cycle) → cycle ≢ last → new.reports cycle ≡ old.reports cycle

@@ -1,5 +1,5 @@
 -- What the checkpoints of parts say of them, and of their closed reports.
-use Rattle.std.specs.Prelude.{ℕ, ◌+◌, ◌-◌, ◌^◌, ◌==◌, ◌&&◌, min, nat_lt, List, [], ◌∷◌, ◌++◌, length, map, slice_get, Bool, true, false, if◌then◌else◌, Option, Some, None}
+use Rattle.std.specs.Prelude.{◌≡◌, ℕ, ◌+◌, ◌-◌, ◌^◌, ◌==◌, ◌&&◌, min, nat_lt, List, [], ◌∷◌, ◌++◌, length, map, slice_get, Bool, true, false, if◌then◌else◌, Option, Some, None}
 use Rattle.ocfl_tree.specs.{Place.{Text, Place}, Path.{slashed}}
 use Rattle.ocfl_cursor.specs.Cursor.{State, start, behind, ended}
 use Rattle.ocfl_cursor.specs.declared.ends.PartEnds.{PartEnds}
@@ -8,7 +8,7 @@ use Rattle.ocfl_state.specs.declared.checkpoint_parts.RootIdentity.{RootIdentity
 use Rattle.ocfl_state.specs.declared.checkpoint_parts.Phase.{Phase}
 use Rattle.ocfl_state.specs.declared.checkpoint_parts.Phase.TheVariants.{Open, Closing}
 use Rattle.ocfl_joining.specs.{Folders.{Folders}, Missing.{KnownPart, numbers}}
-use Rattle.ocfl_joining.specs.declared.facts.{Facts.{Facts}, FoundReport.{FoundReport}}
+use Rattle.ocfl_joining.specs.declared.facts.{Facts.{Facts}, FoundReport.{FoundReport}, RunCount.{RunCount}}
 use Rattle.ocfl_joining.specs.declared.reports.KeptMark.{KeptMark}
 use Rattle.ocfl_joining.specs.declared.reports.KeptMark.TheVariants.{NotKept, Kept, Damaged}
 
@@ -48,6 +48,14 @@ abbrev pub below_of : Option PartEnds → Option Place
 below_of None = None
 below_of (Some ends) = ends.below
 
+-- what it says
+pub record AreFacts (c : Checkpoint) (facts : Facts) : Type 0 where
+  pub root_is : facts.root.items ≡ root_of c.root
+  pub from_is : facts.from ≡ from_of c.part
+  pub below_is : facts.below ≡ below_of c.part
+  pub last_is : facts.last ≡ last_closed c
+  pub lines_are : facts.has_lines ≡ has_lines c
+
 -- ---- all parts
 
 abbrev pub last_by : Option Facts → ℕ
@@ -58,6 +66,14 @@ last_by (Some facts) = facts.last
 abbrev pub last_of_all : List (Option Facts) → ℕ
 last_of_all [] = 2 ^ 64 - 1
 last_of_all (facts ∷ all) = min (last_by facts) (last_of_all all)
+
+-- what the checkpoint of the part with a number says, from 1
+abbrev pub facts_at : List (Option Facts) → ℕ → Option Facts
+facts_at all number = at (slice_get all (number - 1))
+  where
+    at : Option (Option Facts) → Option Facts
+    at None = None
+    at (Some facts) = facts
 
 -- ---- what was kept when a report was closed: none where nothing was, and none in it where that is
 -- no checkpoint any more
@@ -74,6 +90,15 @@ mark_by (Some (Some c)) = Kept c.report
 -- with what it was closed
 abbrev pub mark_of : Bool → Option (Option Checkpoint) → KeptMark
 mark_of emptied kept = if emptied then Damaged else mark_by kept
+
+-- the report of a part, if its checkpoint says anything
+abbrev pub is_lost : Option Facts → ℕ → ℕ → Bool
+is_lost None cycle bytes = false
+is_lost (Some facts) cycle bytes = is_emptied facts cycle bytes
+
+-- with what the part with a number closed its report of a cycle, which has so many bytes now
+abbrev pub mark_at : List (Option Facts) → ℕ → ℕ → ℕ → Option (Option Checkpoint) → KeptMark
+mark_at all number cycle bytes kept = mark_of (is_lost (facts_at all number) cycle bytes) kept
 
 -- the places that were left out of it, as far as they are known
 abbrev pub left_in : Option (Option Checkpoint) → List Place
@@ -102,6 +127,21 @@ both_runs (Some sum) (Some more) = Some (min (sum + more) (2 ^ 64 - 1))
 abbrev pub sum_runs : Option ℕ → Option (Option Checkpoint) → Option ℕ
 sum_runs sum kept = both_runs sum (runs_in kept)
 
+-- none was counted
+abbrev pub none_counted : RunCount
+none_counted = record { cycle = 0; runs = None }
+
+-- with one more report, in the cycle of that one
+abbrev pub counted_with : RunCount → ℕ → Option (Option Checkpoint) → RunCount
+counted_with count cycle kept = record { cycle = cycle; runs = sum_runs (if count.cycle == cycle then count.runs else Some 0) kept }
+
+abbrev pub known_runs : RunCount → ℕ
+known_runs count = number_or_none count.runs
+  where
+    number_or_none : Option ℕ → ℕ
+    number_or_none None = 0
+    number_or_none (Some runs) = runs
+
 -- ---- what is known of the report that a part closed in a cycle
 
 abbrev pub known_of : Facts → ℕ → Bool → FoundReport → KnownPart
@@ -125,14 +165,6 @@ known_if facts cycle told (Some found) = Some (known_of facts cycle told found)
 abbrev pub known_by : Folders → ℕ → ℕ → Option Facts → Option KnownPart
 known_by f cycle number None = None
 known_by f cycle number (Some facts) = known_if facts cycle (f.has_said cycle number) (f.found cycle number)
-
--- what the checkpoint of the part with a number says, from 1
-abbrev pub facts_at : List (Option Facts) → ℕ → Option Facts
-facts_at all number = at (slice_get all (number - 1))
-  where
-    at : Option (Option Facts) → Option Facts
-    at None = None
-    at (Some facts) = facts
 
 -- of all parts, by what their folders show
 abbrev pub known_parts : Folders → List (Option Facts) → ℕ → List (Option KnownPart)

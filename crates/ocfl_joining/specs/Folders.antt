@@ -1,5 +1,5 @@
 -- What the state folders of all parts show, and that of their joined reports.
-use Rattle.std.specs.Prelude.{ℕ, List, [], ◌++◌, Bool, false, Option, None}
+use Rattle.std.specs.Prelude.{ℕ, [], ◌++◌, Bool, false, Option, None}
 use Rattle.ocfl_tree.specs.Place.{Text}
 use Rattle.ocfl_joining.specs.declared.facts.FoundReport.{FoundReport}
 use Rattle.ocfl_joining.specs.declared.reports.KeptMark.{KeptMark}

@@ -10,5 +10,6 @@ pub mod Facts
 pub mod Status
 pub mod Cycles
 pub mod Saying
+pub mod Failing
 -- What private functions say: a reader of the public contracts needs none of it.
 pub mod Internal

@@ -1,5 +1,5 @@
 -- Closed reports of parts in memory.
-use Rattle.std.specs.Prelude.{◌≡◌, ℕ, ◌-◌, ◌≤◌, ◌%◌, List, [], ◌∷◌, length, take, Bool, Option, Some, None, map, slice_get}
+use Rattle.std.specs.Prelude.{◌≡◌, ℕ, ◌-◌, ◌≤◌, ◌%◌, List, [], ◌∷◌, length, take, Option, Some, None, map, slice_get}
 use Rattle.std.proofs.{Common.{◌∙◌, arith, sym}, lemmas.List.{take_all}}
 use Rattle.ocfl_tree.specs.Place.{Text}
 use Rattle.ocfl_joining.specs.Reports.{Seen, Put, no_rest}

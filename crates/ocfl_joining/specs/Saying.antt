@@ -1,13 +1,15 @@
 -- What is said of parts that keep a cycle from being joined, of what parts left out, and of a joining
 -- that stopped.
-use Rattle.std.specs.Prelude.{ℕ, List, [], ◌∷◌, ◌++◌, length, flat_map, codes, decimal, Bool, true, false, if◌then◌else◌, Option, Some, None}
+use Rattle.std.specs.Prelude.{ℕ, List, [], ◌∷◌, ◌++◌, length, flat_map, codes, decimal, string_bytes, if◌then◌else◌, Option, Some, None}
 use Rattle.ocfl_tree.specs.Place.{Text, Place}
 use Rattle.ocfl_report.specs.Text.{place_text}
 use Rattle.ocfl_joining.specs.Missing.{KnownPart, most_names, names_of, numbers, part_at}
-use Rattle.ocfl_joining.specs.declared.{copying.PartStop.{PartStop}, joining.JoinStop.{JoinStop}}
-use Rattle.ocfl_joining.specs.declared.copying.PartStop.TheVariants as part_stop
-use Rattle.ocfl_joining.specs.declared.joining.JoinStop.TheVariants.{Missing, Part, Output, Unsaid, Memory}
+use Rattle.ocfl_joining.specs.declared.{failing.FailedCall.{FailedCall}, joining.JoinStop.{JoinStop}}
+use Rattle.ocfl_joining.specs.declared.joining.JoinStop.TheVariants.{Missing, Changed, Part, Output, Unsaid, Memory}
 use Rattle.ocfl_joining.specs.declared.part.{MissingPart.{MissingPart}, PartFault.{PartFault}}
+use Rattle.ocfl_joining.specs.declared.reports.ReportTrouble.{ReportTrouble}
+use Rattle.ocfl_joining.specs.declared.reports.ReportTrouble.TheVariants as trouble
+use Rattle.ocfl_joining.specs.declared.reports.ReportTrouble.TheVariants.{Failed}
 use Rattle.ocfl_joining.specs.declared.part.PartFault.TheVariants.{NoPart, NotClosed, OtherRoot, OtherPart, OtherCycle, Untold, FewNames, Incomplete}
 
 abbrev pub fault_text : PartFault → Text
@@ -74,24 +76,36 @@ partial_line cycle path = codes "ocfl-scrub: the joined report of cycle " ++ dec
 abbrev pub lacking_text : ℕ → List (Option KnownPart) → Text → Text
 lacking_text cycle parts path = flat_map (λ number. left_text number (part_at parts number)) (numbers (length parts)) ++ partial_line cycle path
 
--- ---- a joining that stopped
+-- ---- a cycle whose joining stopped
 
-abbrev pub part_stop_text : PartStop → Text
-part_stop_text part_stop.Changed = codes "its report was changed"
-part_stop_text part_stop.Failed = codes "its report could not be read, or not be copied"
-part_stop_text part_stop.Memory = codes "out of memory"
+-- the words of the system on a call that failed, if they are known
+abbrev pub words_of : Option FailedCall → Option Text
+words_of None = None
+words_of (Some call) = Some (string_bytes call.text)
 
--- its own cause, whatever a call has kept
-abbrev pub is_own_cause : JoinStop → Bool
-is_own_cause (Missing found) = false
-is_own_cause (Part part why) = false
-is_own_cause (Output why) = false
-is_own_cause Unsaid = true
-is_own_cause Memory = true
+abbrev pub after_colon : Option Text → Text
+after_colon None = []
+after_colon (Some words) = codes ": " ++ words
 
-abbrev pub stop_text : JoinStop → Text
-stop_text (Missing found) = codes "ocfl-scrub: the reports were not joined\n"
-stop_text (Part part why) = part_line part (part_stop_text why)
-stop_text (Output why) = codes "ocfl-scrub: the reports were not joined\n"
-stop_text Unsaid = codes "ocfl-scrub: output failed\n"
-stop_text Memory = codes "ocfl-scrub: out of memory\n"
+abbrev pub changed_line : ℕ → ℕ → Text
+changed_line cycle number = part_line number (codes "its report of cycle " ++ decimal cycle ++ codes " was changed")
+
+abbrev pub failed_line : ℕ → ℕ → ReportTrouble → Option Text → Text
+failed_line cycle number Failed words = part_line number (codes "its report of cycle " ++ decimal cycle ++ codes " could not be joined" ++ after_colon words)
+failed_line cycle number trouble.Memory words = part_line number (codes "out of memory")
+
+abbrev pub memory_text : Text
+memory_text = codes "ocfl-scrub: out of memory\n"
+
+abbrev pub undone_line : ℕ → ReportTrouble → Option Text → Text
+undone_line cycle Failed words = codes "ocfl-scrub: the joining of cycle " ++ decimal cycle ++ codes " failed" ++ after_colon words ++ codes "\n"
+undone_line cycle trouble.Memory words = memory_text
+
+-- Why it stopped. Parts that keep a cycle from being joined stop none: they have lines of their own.
+abbrev pub stop_text : ℕ → JoinStop → Option Text → Text
+stop_text cycle (Missing found) words = []
+stop_text cycle (Changed found) words = flat_map (changed_line cycle) found.items
+stop_text cycle (Part part why) words = failed_line cycle part why words
+stop_text cycle (Output why) words = undone_line cycle why words
+stop_text cycle Unsaid words = codes "ocfl-scrub: output failed\n"
+stop_text cycle Memory words = memory_text

@@ -1,5 +1,5 @@
 //! Copying the report of a part, and checking it as it is read.
-ghost use Rattle.std.specs.Prelude.{◌≡◌, ◌≢◌, ◌↔◌, ℕ, List, [], Option, Some, false, IsTrue};
+ghost use Rattle.std.specs.Prelude.{◌≡◌, ◌≢◌, ◌↔◌, ℕ, List, [], Option, false, true, IsTrue};
 ghost use Rattle.std.specs.Prelude.{IfOk, OnOk, option_map};
 ghost use Rattle.ocfl_separators.specs.Splits.{IsNotLess};
 ghost use Rattle.ocfl_state.specs.Pieces.{Carries};
@@ -7,7 +7,6 @@ ghost use Rattle.ocfl_joining.specs.{Crash.{Passes, Same}, Reports.{SameReports}
 ghost use Rattle.ocfl_joining.specs.Joined.{IsAsClosed, IsBelow, IsFrom, IsReportIn, IsRight};
 ghost use Rattle.ocfl_joining.specs.Internal.Copying.{AreCopied, CopiesLine, HasCopied};
 ghost use Rattle.ocfl_joining.specs.Internal.Copying.{IsCopy, IsFit, IsFitLine, IsFitPlace};
-ghost use Rattle.ocfl_joining.specs.Saying.{part_stop_text};
 ghost use Rattle.ocfl_joining.specs.declared.copying.PartStop.TheVariants.{Changed};
 ghost use Rattle.ocfl_report.specs.Line.{Line as ModelLine};
 
@@ -17,36 +16,16 @@ use ocfl_separators::Separators;
 use ocfl_state::ReportDigests;
 use ocfl_tree::Place;
 use std::alloc::Global;
-use std::fmt;
 
 /// Why the report of a part was not copied.
 #[derive(Clone, Copy, Debug, PartialEq, Eq)]
-pub enum PartStop {
+pub(crate) enum PartStop {
     /// It is not the one that was closed, or cannot be that of its part.
     Changed,
     /// It could not be read, or what was read could not be written.
     Failed,
     /// Memory was refused.
     Memory,
-}
-
-/// Why, in words.
-fn words_of(stop: PartStop) -> &'static str
-    ensures { result.now ≡ part_stop_text stop }
-{
-    match stop {
-        PartStop::Changed => "its report was changed",
-        PartStop::Failed => "its report could not be read, or not be copied",
-        PartStop::Memory => "out of memory",
-    }
-}
-
-impl fmt::Display for PartStop {
-    ghost output = { λ stop. Some (part_stop_text stop) };
-
-    fn fmt<W: fmt::Write>(&self, f: &mut fmt::Formatter<W>) -> fmt::Result {
-        f.write_str(words_of(*self))
-    }
 }
 
 /// What a call over reports that was not done means for the part.
@@ -223,9 +202,9 @@ fn is_as_closed(kept: KeptMark, copied: &Copied) -> bool
     }
 }
 
-/// Copies the report of the part with this number, and checks it.
+/// Copies the report of the part with this number, if it is the one that was closed.
 #[tactic(auto, using(crate::proofs::Passing::nothing_passes, crate::proofs::Passing::two_same, crate::proofs::Stays::same_reports, crate::proofs::Stays::reports_on))]
-pub(crate) fn copy_part<R: PartReports>(
+fn copy_as_closed<R: PartReports>(
     alloc: Global,
     separators: &Separators,
     number: usize,
@@ -251,5 +230,32 @@ pub(crate) fn copy_part<R: PartReports>(
         Ok(())
     } else {
         Err(PartStop::Changed)
+    }
+}
+
+/// Copies the report of the part with this number. Whether it is right: the one that was closed, with
+/// the lines of a report that are all in the part.
+pub(crate) fn copy_part<R: PartReports>(
+    alloc: Global,
+    separators: &Separators,
+    number: usize,
+    reports: &mut R,
+) -> Result<bool, ReportTrouble>
+    ensures right { IsTrue R.told → IfOk result (λ right.
+        right ≡ true → IsRight separators.now (R.seen reports.old) number) }
+    ensures copied { IsTrue R.told → IfOk result (λ right.
+        right ≡ true → IsCopy number (R.seen reports.old) (R.seen reports.new)) }
+    ensures changed { IsTrue R.told → IfOk result (λ right.
+        right ≡ false → IsRight separators.now (R.seen reports.old) number → ⊥) }
+    ensures unput { IsTrue R.told → (R.seen reports.new).put ≡ (R.seen reports.old).put }
+    ensures reports { IsTrue R.told → SameReports (R.seen reports.old) (R.seen reports.new) }
+    ensures crash { IsTrue R.lasts
+        → Passes R.may_leave R.moment R.left_since Same reports.old reports.new }
+{
+    match copy_as_closed(alloc, separators, number, reports) {
+        Ok(()) => Ok(true),
+        Err(PartStop::Changed) => Ok(false),
+        Err(PartStop::Failed) => Err(ReportTrouble::Failed),
+        Err(PartStop::Memory) => Err(ReportTrouble::Memory),
     }
 }

@@ -1,17 +1,21 @@
 //! What the checkpoints of parts say of them, and of their closed reports.
-ghost use Rattle.std.specs.Prelude.{◌≡◌, ◌++◌, IfOk, OnOk, map, min};
+ghost use Rattle.std.specs.Prelude.{◌≡◌, ◌⊎◌, ◌++◌, IfErr, IfOk, OnOk, map, min};
 ghost use Rattle.std.specs.Option.{option_map};
 ghost use Rattle.ocfl_cursor.specs.State.{state_of};
 ghost use Rattle.ocfl_joining.specs.Facts.{below_of, from_of, has_ended, has_lines, is_closed};
 ghost use Rattle.ocfl_joining.specs.Facts.{is_emptied as is_emptied_by, is_open, known_of, last_by};
 ghost use Rattle.ocfl_joining.specs.Facts.{last_closed, last_of_all as last_of_these, left_in};
 ghost use Rattle.ocfl_joining.specs.Facts.{mark_by, mark_of as mark_of_these, names_in};
-ghost use Rattle.ocfl_joining.specs.Facts.{root_of, runs_in, sum_runs};
+ghost use Rattle.ocfl_joining.specs.Facts.{root_of, runs_in, sum_runs, AreFacts, counted_with};
+ghost use Rattle.ocfl_joining.specs.Facts.{facts_at, is_lost as is_lost_by, known_runs, mark_at};
+ghost use Rattle.ocfl_joining.specs.Facts.{none_counted};
+ghost use Rattle.ocfl_state.specs.Checkpoint.{Checkpoint as ModelCheckpoint, IsCheckpointText};
+ghost use Rattle.ocfl_state.specs.CheckpointRefusal.{RefusedRightly};
 
 use crate::part::ClosedPart;
 use crate::reports::KeptMark;
-use ocfl_cursor::State;
-use ocfl_state::{Checkpoint, Left, Phase, RootIdentity};
+use ocfl_cursor::{Refused, State};
+use ocfl_state::{Checkpoint, Left, Phase, RootIdentity, decode_checkpoint};
 use ocfl_tree::Place;
 use std::alloc::{AllocError, Global};
 
@@ -168,6 +172,16 @@ pub fn last_of_all(all: &[Option<Facts>]) -> u64
     last
 }
 
+/// What the checkpoint of the part with a number says, from 1.
+pub fn facts_with(all: &[Option<Facts>], number: usize) -> Option<&Facts>
+    ensures { option_map (λ facts. facts.now) result ≡ facts_at all.now number }
+{
+    match all.get(number.saturating_sub(1)) {
+        Some(Some(facts)) => Some(facts),
+        _ => None,
+    }
+}
+
 /// Whether the report of a cycle, of so many bytes now, had lines when it was closed and has none.
 pub fn is_emptied(facts: &Facts, cycle: u64, bytes: u64) -> bool
     ensures { result ≡ is_emptied_by facts.now cycle bytes }
@@ -195,6 +209,32 @@ pub fn mark_of(emptied: bool, kept: &Option<Option<Checkpoint>>) -> KeptMark
     } else {
         kept_mark(kept)
     }
+}
+
+/// Whether the report of a part, of so many bytes now, had lines when it was closed and has none.
+fn is_lost(facts: Option<&Facts>, cycle: u64, bytes: u64) -> bool
+    ensures { result ≡ is_lost_by (option_map (λ facts. facts.now) facts.entry) cycle bytes }
+{
+    match facts {
+        Some(facts) => is_emptied(facts, cycle, bytes),
+        None => false,
+    }
+}
+
+/// With what the report of a cycle was closed by the part with this number, from 1, of which the
+/// checkpoints say these facts: the report has so many bytes now, and this was kept when it was closed,
+/// `None` where nothing was, and `Some(None)` where that is no checkpoint any more. One that lost all
+/// its lines is damaged.
+pub fn mark_with(
+    all: &[Option<Facts>],
+    number: usize,
+    cycle: u64,
+    bytes: u64,
+    kept: &Option<Option<Checkpoint>>,
+) -> KeptMark
+    ensures { result ≡ mark_at all.now number cycle bytes kept.now }
+{
+    mark_of(is_lost(facts_with(all, number), cycle, bytes), kept)
 }
 
 /// The places of branches that were left out.
@@ -246,6 +286,64 @@ pub fn add_runs(sum: Option<u64>, kept: &Option<Option<Checkpoint>>) -> Option<u
     match (sum, runs_of(kept)) {
         (Some(sum), Some(more)) => Some(sum.saturating_add(more)),
         _ => None,
+    }
+}
+
+/// How many runs the parts had of which reports were counted, in the cycle of the last one.
+#[derive(Clone, Copy, Debug, PartialEq, Eq)]
+pub struct RunCount {
+    cycle: u64,
+    /// `None` if that is not known of each of them.
+    runs: Option<u64>,
+}
+
+impl RunCount {
+    /// None was counted.
+    pub fn new() -> RunCount
+        ensures { result ≡ none_counted }
+    {
+        RunCount {
+            cycle: 0,
+            runs: None,
+        }
+    }
+
+    /// With one more report, of which this was kept when it was closed. The first one of another cycle
+    /// than that of the last one is counted anew.
+    pub fn with(self, cycle: u64, kept: &Option<Option<Checkpoint>>) -> RunCount
+        ensures { result ≡ counted_with self cycle kept.now }
+    {
+        let before = if self.cycle == cycle {
+            self.runs
+        } else {
+            Some(0)
+        };
+        RunCount {
+            cycle,
+            runs: add_runs(before, kept),
+        }
+    }
+
+    /// How many runs these had; 0 if that is not known of each of them.
+    pub fn known(self) -> u64
+        ensures { result ≡ known_runs self }
+    {
+        self.runs.unwrap_or(0)
+    }
+}
+
+/// What the bytes of the checkpoint of a part say of it. Else why they are none, or that memory was
+/// refused.
+pub fn read_facts(alloc: Global, bytes: &[u8]) -> Result<Facts, Refused>
+    ensures facts { IfOk result (λ facts. (c : ModelCheckpoint)
+        × (IsCheckpointText bytes.now c × AreFacts c facts)) }
+    ensures refused { IfErr result (λ why.
+        RefusedRightly bytes.now why ⊎ (why ≡ Refused.Memory)) }
+{
+    let checkpoint = decode_checkpoint(alloc, bytes)?;
+    match facts_of(alloc, &checkpoint) {
+        Ok(facts) => Ok(facts),
+        Err(_) => Err(Refused::Memory),
     }
 }
 

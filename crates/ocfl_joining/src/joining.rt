@@ -1,5 +1,5 @@
 //! Joining the closed reports of all parts.
-ghost use Rattle.std.specs.Prelude.{◌≡◌, ◌⊎◌, ◌+◌, Bool, List, [], false, length, true};
+ghost use Rattle.std.specs.Prelude.{◌≡◌, ◌⊎◌, ◌+◌, ◌++◌, Bool, List, [], false, length, true};
 ghost use Rattle.std.specs.Prelude.{IsTrue, IfOk, IfErr, IsOkUnless, OnOk, OnErr};
 ghost use Rattle.ocfl_tree.specs.Place.{Place as ModelPlace};
 ghost use Rattle.ocfl_say.specs.Said.{Grows, HasFailed, HasSaid};
@@ -7,12 +7,13 @@ ghost use Rattle.ocfl_joining.specs.{Crash.{MayPut, Passes, Same}, Reports.{Put,
 ghost use Rattle.ocfl_joining.specs.{Joined.{CanPut, IsJoined, IsWordSaid, MayJoin, MayLeaveJoined}};
 ghost use Rattle.ocfl_joining.specs.Reports.{begun, with_put};
 ghost use Rattle.ocfl_joining.specs.Missing.{are_right, hindering_of, left_of, missing_of};
-ghost use Rattle.ocfl_joining.specs.Stops.{IsChangedRightly, IsMissingRightly, IsOfPart};
-ghost use Rattle.ocfl_joining.specs.Stops.{is_missing, is_output, is_unsaid};
-ghost use Rattle.ocfl_joining.specs.declared.joining.JoinStop.TheVariants.{Memory};
+ghost use Rattle.ocfl_joining.specs.Stops.{AreChanged, IsChangedRightly, IsMissingRightly};
+ghost use Rattle.ocfl_joining.specs.Stops.{IsOfPart};
+ghost use Rattle.ocfl_joining.specs.Stops.{is_missing, is_output, is_unsaid, unless};
+ghost use Rattle.ocfl_joining.specs.declared.joining.JoinStop.TheVariants.{Changed, Memory};
 ghost use Rattle.ocfl_joining.specs.Internal.Copying.{AreAllCopied};
 
-use crate::copying::{PartStop, copy_part};
+use crate::copying::copy_part;
 use crate::missing::{find_hindering, find_left, find_missing};
 use crate::part::{ClosedPart, MissingPart};
 use crate::reports::{PartReports, ReportTrouble};
@@ -35,13 +36,16 @@ pub struct Joined {
 pub enum JoinStop {
     /// These parts cannot be joined. No report was opened.
     Missing(Vec<MissingPart>),
-    /// The report of the part with this number was not read to its end, or is not the one that was
-    /// closed.
+    /// The reports of just these parts, by their numbers from 1, are not the ones that were closed, or
+    /// cannot be those of their parts.
+    Changed(Vec<usize>),
+    /// The report of the part with this number could not be read, or what was read of it could not be
+    /// taken into the joined report.
     Part {
         /// The number of the part, from 1.
         part: usize,
         /// Why.
-        why: PartStop,
+        why: ReportTrouble,
     },
     /// The joined report was not begun, its word was not found, or it was not put.
     Output(ReportTrouble),
@@ -59,7 +63,32 @@ impl From<AllocError> for JoinStop {
     }
 }
 
-/// Copies the reports of all parts, one after the other.
+/// Appends the number of a part, unless its report is right.
+fn add_unless(right: bool, part: usize, changed: &mut Vec<usize>) -> Result<(), AllocError>
+    ensures { OnOk result (changed.new.items ≡ changed.old.items ++ unless right part) }
+{
+    if !right {
+        changed.push(part)?;
+    }
+    Ok(())
+}
+
+/// Stops at parts whose reports are not right, if there are some.
+fn refuse_changed(changed: Vec<usize>) -> Result<(), JoinStop>
+    ensures none { OnOk result (changed.items ≡ []) }
+    ensures some { IfErr result (λ stop. stop ≡ Changed changed) }
+    ensures changed { (separators : List ModelPlace) (s : Seen)
+        → AreChanged separators s (length separators + 1) changed.items
+        → IfErr result (IsChangedRightly separators s) }
+{
+    if changed.is_empty() {
+        return Ok(());
+    }
+    Err(JoinStop::Changed(changed))
+}
+
+/// Copies the reports of all parts, one after the other. Each is read, also behind one that is not
+/// right, so that all of these are named.
 fn copy_all<R: PartReports>(
     alloc: Global,
     separators: &Separators,
@@ -82,22 +111,23 @@ fn copy_all<R: PartReports>(
     let Some(count) = separators.len().checked_add(1) else {
         return Err(JoinStop::Memory);
     };
+    let mut changed = Vec::new(alloc);
     for index in 0..count {
         let part = index + 1;
         match copy_part(alloc, separators, part, reports) {
-            Ok(()) => {}
+            Ok(right) => add_unless(right, part, &mut changed)?,
             Err(why) => return Err(JoinStop::Part { part, why }),
         }
     }
-    Ok(())
+    refuse_changed(changed)
 }
 
 /// Joins the closed reports of all parts that the separators make, in one cycle of this storage
 /// root. `parts` has what is known of each of them, from the first on.
 ///
 /// The joined report has the bytes of all of them in their order, each once, and is put once each
-/// was found to be as it was closed, with lines of its part alone. Each is opened once, and read and
-/// checked while it is copied. If the report of a part is not whole, the joined one is put as one
+/// was found to be as it was closed, with lines of its part alone; else each part is named of whose
+/// report that is not so. Each is opened once, and read and checked while it is copied. If the report of a part is not whole, the joined one is put as one
 /// that is not whole, and the places that parts left out are given. Before it is put, the word on it
 /// is said, if there is one. After `Ok` a crash leaves it; at any moment one leaves all of it or none,
 /// and all of it only if its word was said.

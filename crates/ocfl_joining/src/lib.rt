@@ -16,12 +16,16 @@
 //!   each right, and nothing is put of one that parts keep from it. That is so if the cycles are as
 //!   the trait [`PartCycles`] says.
 //! - `say_missing` and `say_lacking` are what is said of parts that keep a cycle from being joined, and
-//!   of a joined report that is not whole.
+//!   of a joined report that is not whole. `say_stop` is what is said of a cycle whose joining stopped:
+//!   a line for each part whose report is not as it was closed, or one for the part, or for the cycle,
+//!   at which a call failed. Of each cycle that stopped `join_cycles` has said that, or answers that it
+//!   could not.
 //!
 //! And if the reports are as the trait [`PartReports`] says:
 //!
 //! - What `join` puts is the bytes of all of them in their order, each once. Each is as it was closed,
-//!   as far as that was kept, and has the lines of a report, in order, all in its part.
+//!   as far as that was kept, and has the lines of a report, in order, all in its part. Else just those
+//!   parts are named of whose reports that is not so.
 //! - Each is opened once, and read and checked while it is copied. Nothing is put before all of them
 //!   were, and an error puts nothing but the joined report. A part that it names is one of them.
 //! - It is put as one that is whole exactly if each report is, and else what was left out is given.
@@ -36,6 +40,7 @@
 mod copying;
 mod cycles;
 mod facts;
+mod failing;
 mod joining;
 pub mod laws;
 mod memory;
@@ -46,16 +51,17 @@ mod saying;
 mod status;
 mod within;
 
-pub use copying::PartStop;
-pub use cycles::{CycleFailed, JoinedLook, PartCycles, end_of, join_cycles};
+pub use cycles::{JoinedLook, PartCycles, end_of, join_cycles};
 pub use facts::{
-    Facts, FoundReport, add_runs, facts_of, is_emptied, known_part, last_of_all, mark_of,
+    Facts, FoundReport, RunCount, add_runs, facts_of, facts_with, is_emptied, known_part,
+    last_of_all, mark_of, mark_with, read_facts,
 };
+pub use failing::{FailedCall, JoinEnd, failed_status};
 pub use joining::{JoinStop, Joined, join};
 pub use memory::{MemoryJoined, MemoryReport, MemoryReports};
 pub use missing::{find_missing, find_most_names, find_root};
 pub use part::{ClosedPart, MissingPart, PartFault};
 pub use reports::{KeptMark, PartReports, ReportTrouble};
-pub use saying::{is_own_cause, say_lacking, say_missing, say_stop};
+pub use saying::{say_lacking, say_missing, say_stop};
 pub use status::{CycleEnd, join_status};
 pub use within::find_within;

@@ -1,16 +1,18 @@
 //! What is said of parts that keep a cycle from being joined, of what parts left out, and of a joining
 //! that stopped.
 ghost use Rattle.std.specs.Prelude.{◌≡◌, ◌++◌, [], IfOk, IsOkAnd, OnOk, Some, flat_map};
-ghost use Rattle.std.specs.Prelude.{option_map, string_bytes};
+ghost use Rattle.std.specs.Prelude.{codes, decimal, option_map, string_bytes};
 ghost use Rattle.ocfl_joining.specs.Missing.{names_of};
-ghost use Rattle.ocfl_joining.specs.Saying.{few_text, is_own_cause, lacking_text, left_line};
-ghost use Rattle.ocfl_joining.specs.Saying.{left_lines, left_text, missing_line, missing_text};
-ghost use Rattle.ocfl_joining.specs.Saying.{part_line, partial_line, reason_text, stop_text};
+ghost use Rattle.ocfl_joining.specs.Saying.{after_colon, changed_line, failed_line, few_text};
+ghost use Rattle.ocfl_joining.specs.Saying.{lacking_text, left_line, left_lines, left_text};
+ghost use Rattle.ocfl_joining.specs.Saying.{missing_line, missing_text, part_line, partial_line};
+ghost use Rattle.ocfl_joining.specs.Saying.{reason_text, stop_text, undone_line, words_of};
 
-use crate::copying::PartStop;
+use crate::failing::FailedCall;
 use crate::joining::JoinStop;
 use crate::missing::{find_most_names, part_with};
 use crate::part::{ClosedPart, MissingPart, PartFault};
+use crate::reports::ReportTrouble;
 use ocfl_report::DisplayPlace;
 use ocfl_tree::Place;
 use std::alloc::{AllocError, Global};
@@ -216,33 +218,108 @@ pub fn say_lacking(
     Ok(text)
 }
 
-/// Whether a joining that stopped so has its own cause, whatever a call has kept.
-pub fn is_own_cause(stop: &JoinStop) -> bool
-    ensures { result ≡ is_own_cause stop.now }
+/// The line about a part whose report of a cycle was changed.
+fn changed_one(alloc: Global, cycle: u64, number: usize) -> Result<String, AllocError>
+    ensures { IfOk result (λ text. string_bytes text ≡ changed_line cycle number) }
 {
-    matches!(stop, JoinStop::Unsaid | JoinStop::Memory)
+    let words = format!(in alloc; "its report of cycle {cycle} was changed")?;
+    line_about(alloc, number, words.as_str())
 }
 
-/// What is said of a joining that stopped, if nothing else is known of it: a line.
-///
-/// The only error is running out of memory.
-pub fn say_stop(alloc: Global, stop: &JoinStop) -> Result<String, AllocError>
-    ensures { IfOk result (λ text. string_bytes text ≡ stop_text stop.now) }
+/// The lines about parts whose reports of a cycle were changed.
+fn say_changed(alloc: Global, cycle: u64, found: &[usize]) -> Result<String, AllocError>
+    ensures { IfOk result (λ text. string_bytes text ≡ flat_map (changed_line cycle) found.now) }
 {
-    match stop {
-        JoinStop::Part { part, why } => stop_line(alloc, *part, *why),
-        JoinStop::Unsaid => format!(in alloc; "ocfl-scrub: output failed\n"),
-        JoinStop::Memory => format!(in alloc; "ocfl-scrub: out of memory\n"),
-        JoinStop::Missing(_) | JoinStop::Output(_) => {
-            format!(in alloc; "ocfl-scrub: the reports were not joined\n")
-        }
+    let mut text = String::new(alloc);
+    for part in found {
+        add(changed_one(alloc, cycle, *part), &mut text)?;
+    }
+    Ok(text)
+}
+
+/// The system's words behind a colon, if they are known.
+fn words_after(alloc: Global, call: &Option<FailedCall>) -> Result<String, AllocError>
+    ensures { IfOk result (λ text. string_bytes text ≡ after_colon (words_of call.now)) }
+{
+    match call {
+        Some(call) => format!(in alloc; ": {}", call.text),
+        None => Ok(String::new(alloc)),
     }
 }
 
-/// The line about a part whose report was not copied.
-fn stop_line(alloc: Global, number: usize, why: PartStop) -> Result<String, AllocError>
-    ensures { IfOk result (λ text. string_bytes text ≡ stop_text (JoinStop.Part number why)) }
+/// What is said of a part at whose report of a cycle a call failed.
+fn unjoined(alloc: Global, cycle: u64, call: &Option<FailedCall>) -> Result<String, AllocError>
+    ensures { IfOk result (λ text. string_bytes text ≡ codes "its report of cycle "
+        ++ decimal cycle ++ codes " could not be joined" ++ after_colon (words_of call.now)) }
 {
-    let words = format!(in alloc; "{why}")?;
-    line_about(alloc, number, words.as_str())
+    let words = words_after(alloc, call)?;
+    format!(in alloc; "its report of cycle {cycle} could not be joined{words}")
+}
+
+/// The line about a part at whose report of a cycle a call failed, or memory was refused.
+fn failed_one(
+    alloc: Global,
+    cycle: u64,
+    number: usize,
+    why: ReportTrouble,
+    call: &Option<FailedCall>,
+) -> Result<String, AllocError>
+    ensures { IfOk result (λ text. string_bytes text
+        ≡ failed_line cycle number why (words_of call.now)) }
+{
+    match why {
+        ReportTrouble::Failed => {
+            let words = unjoined(alloc, cycle, call)?;
+            line_about(alloc, number, words.as_str())
+        }
+        ReportTrouble::Memory => line_about(alloc, number, "out of memory"),
+    }
+}
+
+/// That the joining of a cycle failed.
+fn undone(alloc: Global, cycle: u64, call: &Option<FailedCall>) -> Result<String, AllocError>
+    ensures { IfOk result (λ text. string_bytes text
+        ≡ undone_line cycle ReportTrouble.Failed (words_of call.now)) }
+{
+    let words = words_after(alloc, call)?;
+    format!(in alloc; "ocfl-scrub: the joining of cycle {cycle} failed{words}\n")
+}
+
+/// The same, or that memory was refused.
+fn undone_one(
+    alloc: Global,
+    cycle: u64,
+    why: ReportTrouble,
+    call: &Option<FailedCall>,
+) -> Result<String, AllocError>
+    ensures { IfOk result (λ text. string_bytes text
+        ≡ undone_line cycle why (words_of call.now)) }
+{
+    match why {
+        ReportTrouble::Failed => undone(alloc, cycle, call),
+        ReportTrouble::Memory => format!(in alloc; "ocfl-scrub: out of memory\n"),
+    }
+}
+
+/// Why the joining of a cycle stopped: a line for each part whose report was changed, or one for the
+/// part, or for the cycle, at which a call failed, with what the system said of that call.
+///
+/// The only error is running out of memory.
+pub fn say_stop(
+    alloc: Global,
+    cycle: u64,
+    stop: &JoinStop,
+    call: &Option<FailedCall>,
+) -> Result<String, AllocError>
+    ensures { IfOk result (λ text. string_bytes text
+        ≡ stop_text cycle stop.now (words_of call.now)) }
+{
+    match stop {
+        JoinStop::Missing(_) => Ok(String::new(alloc)),
+        JoinStop::Changed(found) => say_changed(alloc, cycle, found.as_slice()),
+        JoinStop::Part { part, why } => failed_one(alloc, cycle, *part, *why, call),
+        JoinStop::Output(why) => undone_one(alloc, cycle, *why, call),
+        JoinStop::Unsaid => format!(in alloc; "ocfl-scrub: output failed\n"),
+        JoinStop::Memory => format!(in alloc; "ocfl-scrub: out of memory\n"),
+    }
 }

@@ -10,7 +10,7 @@ ghost use Rattle.ocfl_mem_disk.specs.Log.{disk_of};
 use crate::mem_disk::{MemDisk, MemHandle};
 use ocfl_disk::{Disk, Reason, StateFile};
 use ocfl_join_disk::{JoinDisk, OpenPart};
-use ocfl_joining::{FoundReport, MemoryReport, ReportTrouble};
+use ocfl_joining::{FailedCall, FoundReport, MemoryReport, ReportTrouble};
 use std::alloc::{AllocError, Global};
 use std::io::{self, Cursor, ErrorKind};
 
@@ -342,7 +342,8 @@ impl JoinDisk for MemJoinDisk {
         Ok(())
     }
 
-    fn note_failure(&mut self) -> Option<u8> {
+    /// It is not kept.
+    fn take_failure(&mut self) -> Option<FailedCall> {
         None
     }
 }

@@ -3,10 +3,10 @@ ghost use mathlib.Core.Bool.{false≢true};
 
 use crate::counting::counts_in;
 use ocfl_disk::{OpenReport, StateFile};
-use ocfl_files::failing::{Failure, say_failure};
+use ocfl_files::failing::Failure;
 use ocfl_files::making::failed_file;
 use ocfl_join_disk::{JoinDisk, OpenPart};
-use ocfl_joining::{Facts, FoundReport, ReportTrouble, add_runs, is_emptied, mark_of};
+use ocfl_joining::{Facts, FailedCall, FoundReport, ReportTrouble, RunCount, mark_with};
 use ocfl_kept::kept::{ClosedIn, is_packed, is_told, part_path, report_path};
 use ocfl_kept::room::Room;
 use ocfl_messages::{Joined, Shown, joined_text};
@@ -26,10 +26,8 @@ pub(crate) struct FolderDisk<'a, R: Room> {
     /// The state folder of all parts.
     state: &'a str,
     facts: &'a [Option<Facts>],
-    /// The cycle of which reports were opened last.
-    cycle: u64,
-    /// How many runs the parts had of which they are; `None` if that is not known of all.
-    runs: Option<u64>,
+    /// How many runs the parts had whose reports were opened.
+    runs: RunCount,
     /// Why the last call failed that did.
     failure: Option<Failure>,
 }
@@ -41,7 +39,6 @@ impl<'a, R: Room> Drop for FolderDisk<'a, R> {
             rt: _rt,
             state: _state,
             facts: _facts,
-            cycle: _cycle,
             runs: _runs,
             failure: _failure,
         } = self;
@@ -55,19 +52,9 @@ impl<'a, R: Room> FolderDisk<'a, R> {
             rt,
             state,
             facts,
-            cycle: 0,
-            runs: None,
+            runs: RunCount::new(),
             failure: None,
         }
-    }
-
-    /// Counts the runs of a part.
-    fn add_runs(&mut self, cycle: u64, kept: &Option<Option<Checkpoint>>) {
-        if self.cycle != cycle {
-            self.cycle = cycle;
-            self.runs = Some(0);
-        }
-        self.runs = add_runs(self.runs, kept);
     }
 
     /// Keeps why a call failed.
@@ -143,7 +130,7 @@ impl<'a, R: Room> FolderDisk<'a, R> {
             whole,
             report: path.as_str(),
             counts: counts_in(self.rt, self.new_path(cycle)?.as_str())?,
-            runs: self.runs.unwrap_or(0),
+            runs: self.runs.known(),
         };
         let text = joined_text(self.rt.global(), &joined)?;
         Ok(Vec::from_slice(self.rt.global(), text.as_bytes())?)
@@ -157,21 +144,13 @@ impl<'a, R: Room> FolderDisk<'a, R> {
         }
     }
 
-    /// Whether the report of a part had lines when it was closed, and has no bytes now.
-    fn is_lost(&self, cycle: u64, number: usize, bytes: u64) -> bool {
-        match self.facts.get(number.saturating_sub(1)) {
-            Some(Some(facts)) => is_emptied(facts, cycle, bytes),
-            _ => false,
-        }
-    }
-
     /// The closed report of a part.
     fn find_report(&self, cycle: u64, number: usize) -> Result<ClosedIn, Failure> {
         let alloc = self.rt.global();
         let path = part_path(alloc, self.state, number)?;
         match self.rt.closed_in(path.as_str(), cycle)? {
             Some(closed) => Ok(closed),
-            None => Err(Failure::saying(format!(in alloc; "part {number}: its report is gone\n"))),
+            None => Err(Failure::saying(String::from_str(alloc, "it is gone\n"))),
         }
     }
 
@@ -196,8 +175,8 @@ impl<'a, R: Room> FolderDisk<'a, R> {
             bytes,
             kept,
         } = self.find_report(cycle, number)?;
-        self.add_runs(cycle, &kept);
-        let mark = mark_of(self.is_lost(cycle, number, bytes), &kept);
+        self.runs = self.runs.with(cycle, &kept);
+        let mark = mark_with(self.facts, number, cycle, bytes, &kept);
         let OpenReport {
             file,
             whole: _whole,
@@ -238,11 +217,27 @@ fn synced(folder: io::Result<File>) -> io::Result<()> {
 }
 
 /// What is said of the report of a part that was not read on.
-fn failed_report(alloc: Global, cycle: u64, error: &io::Error) -> Failure {
+fn failed_report(alloc: Global, error: &io::Error) -> Failure {
     if error.kind() == ErrorKind::OutOfMemory {
         return Failure::from(AllocError);
     }
-    Failure::saying(format!(in alloc; "a report of cycle {cycle}: {error}\n"))
+    Failure::saying(format!(in alloc; "{error}\n"))
+}
+
+/// What was said of a call that failed, without its line feed. `None` if memory was refused.
+fn call_of(alloc: Global, failure: &Failure) -> Option<FailedCall> {
+    let Some(text) = &failure.text else {
+        return None;
+    };
+    let text = text.as_str();
+    let line = text.strip_suffix('\n').unwrap_or(text);
+    match String::from_str(alloc, line) {
+        Ok(text) => Some(FailedCall {
+            status: failure.status,
+            text,
+        }),
+        Err(_) => None,
+    }
 }
 
 /// What kind of failure one is.
@@ -269,8 +264,8 @@ impl<R: Room + Eprint> JoinDisk for FolderDisk<'_, R> {
         self.answer(found)
     }
 
-    fn keep_failure(&mut self, cycle: u64, error: io::Error) -> ReportTrouble {
-        self.keep(failed_report(self.rt.global(), cycle, &error))
+    fn keep_failure(&mut self, _cycle: u64, error: io::Error) -> ReportTrouble {
+        self.keep(failed_report(self.rt.global(), &error))
     }
 
     fn open_joined(&mut self, cycle: u64, whole: bool) -> Result<BufReader<File>, ReportTrouble> {
@@ -356,10 +351,8 @@ impl<R: Room + Eprint> JoinDisk for FolderDisk<'_, R> {
         Ok(())
     }
 
-    fn note_failure(&mut self) -> Option<u8> {
-        match self.failure.take() {
-            Some(failure) => Some(say_failure(self.rt, &failure)),
-            None => None,
-        }
+    fn take_failure(&mut self) -> Option<FailedCall> {
+        let failure = self.failure.take()?;
+        call_of(self.rt.global(), &failure)
     }
 }

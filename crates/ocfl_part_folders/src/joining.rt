@@ -4,6 +4,7 @@ use crate::folder_disk::FolderDisk;
 use crate::part_facts::read_all;
 use ocfl_arguments::JoinAsked;
 use ocfl_files::failing::{Failure, say_failure};
+use ocfl_files::saying::say_out_of_memory;
 use ocfl_join_disk::DiskCycles;
 use ocfl_joining::{join_cycles, last_of_all};
 use ocfl_kept::room::Room;
@@ -50,7 +51,11 @@ where
     let mut writer = io::writer(rt);
     let out = Speaking { out: &mut writer };
     let mut cycles = DiskCycles::over(rt.global(), &separators, &facts, disk, out);
-    Ok(join_cycles(&mut cycles, facts.len(), last_of_all(&facts)))
+    let end = join_cycles(&mut cycles, facts.len(), last_of_all(&facts));
+    if !end.said {
+        say_out_of_memory(rt);
+    }
+    Ok(end.status)
 }
 
 /// Joins the reports of all parts of each cycle that all of them have closed, the oldest first, and

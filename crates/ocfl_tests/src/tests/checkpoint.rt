@@ -4,8 +4,8 @@ use crate::tests::common::store::place_of;
 use crate::tests::common::{Runtime, expect_shown};
 use ocfl_cursor::{Cursor, CursorStop, Refused, ShowStop, State, TextKind};
 use ocfl_joining::{
-    CycleEnd, FoundReport, KeptMark, add_runs, facts_of, is_emptied, join_status, known_part,
-    last_of_all, mark_of,
+    CycleEnd, FoundReport, KeptMark, RunCount, add_runs, facts_of, facts_with, is_emptied,
+    join_status, known_part, last_of_all, mark_of, mark_with, read_facts,
 };
 use ocfl_state::{
     Checkpoint, Left, NotShown, Phase, ReportMark, RootIdentity, TopNames, checkpoint_lines,
@@ -395,6 +395,31 @@ fn checkpoints_say_what_parts_have_closed(rt: HostRuntime) -> Result<(), Fail> {
     }
     assert_eq!(rt; last_of_all(&all[1..]), 6);
     assert_eq!(rt; last_of_all(&all), 0);
+    assert_eq!(rt; facts_with(&all, 3).map(|facts| facts.last), Some(7));
+    assert!(rt; facts_with(&all, 4).is_none());
+    // The report of the third part had lines in cycle 7.
+    for (number, cycle, bytes, mark) in [
+        (3, 7, 0, KeptMark::Damaged),
+        (3, 7, 1, KeptMark::NotKept),
+        (3, 6, 0, KeptMark::NotKept),
+        (2, 7, 0, KeptMark::NotKept),
+        (4, 7, 0, KeptMark::NotKept),
+    ] {
+        assert_eq!(rt;
+            mark_with(&all, number, cycle, bytes, &None),
+            mark,
+            "{number}"
+        );
+    }
+    let text = encode_checkpoint(alloc, &closed_checkpoint(alloc)?)?;
+    match read_facts(alloc, text.as_slice()) {
+        Ok(facts) => assert!(rt; facts.last == 7 && facts.has_lines),
+        Err(_) => return Err(Fail::new("no checkpoint")),
+    }
+    assert_eq!(rt;
+        read_facts(alloc, &text[1..]).err(),
+        Some(Refused::NotA(TextKind::Checkpoint))
+    );
     assert_eq!(rt; last_of_all(&[]), u64::MAX);
     assert_eq!(rt; last_of_all(&[None]), 0);
     Ok(())
@@ -419,6 +444,14 @@ fn a_part_is_known_by_what_was_kept(rt: HostRuntime) -> Result<(), Fail> {
     assert_eq!(rt; add_runs(Some(5), kept), Some(7));
     assert_eq!(rt; add_runs(Some(u64::MAX), kept), Some(u64::MAX));
     assert_eq!(rt; add_runs(None, kept), None);
+    // 2 runs of each of two parts, of one cycle; of one of which nothing was kept they are not known.
+    let one = RunCount::new().with(3, kept);
+    assert_eq!(rt; (RunCount::new().known(), one.known()), (0, 2));
+    assert_eq!(rt;
+        (one.with(3, kept).known(), one.with(4, kept).known()),
+        (4, 2)
+    );
+    assert_eq!(rt; one.with(3, &None).known(), 0);
     assert_eq!(rt; mark_of(true, kept), KeptMark::Damaged);
     assert!(rt; matches!(mark_of(false, kept), KeptMark::Kept(mark) if mark.lines == 7));
     assert_eq!(rt; mark_of(false, &Some(None)), KeptMark::Damaged);

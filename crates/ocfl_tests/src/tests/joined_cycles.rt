@@ -2,7 +2,8 @@
 use crate::tests::common::store::place_of;
 use ocfl_join_disk::{DiskCycles, JoinDisk};
 use ocfl_joining::{
-    Facts, JoinedLook, KeptMark, MemoryReport, PartCycles, end_of, join_cycles, join_status,
+    Facts, FailedCall, JoinStop, JoinedLook, KeptMark, MemoryReport, PartCycles, ReportTrouble,
+    end_of, failed_status, join_cycles, join_status, say_stop,
 };
 use ocfl_mem_disk::{MemClosed, MemDisk, MemJoinDisk};
 use ocfl_say::MemOutput;
@@ -89,9 +90,10 @@ fn joins(alloc: Global, disk: MemJoinDisk, last: u64) -> Result<(u8, MemJoinDisk
     let (separators, facts) = (separators(alloc)?, facts(alloc)?);
     let out = MemOutput::new(alloc);
     let mut cycles = DiskCycles::over(alloc, &separators, &facts, disk, out);
-    let status = join_cycles(&mut cycles, 2, last);
+    let end = join_cycles(&mut cycles, 2, last);
     match cycles.into_disk() {
-        Some(disk) => Ok((status, disk)),
+        Some(disk) if end.said => Ok((end.status, disk)),
+        Some(_) => Err(Fail::new("a cycle that stopped was not said")),
         None => Err(Fail::new("the disk is gone")),
     }
 }
@@ -128,7 +130,7 @@ fn cycles_that_are_due_are_joined(rt: HostRuntime) -> Result<(), Fail> {
     disk.put_parts(parts_of(alloc, OTHER)?);
     let (status, disk) = joins(alloc, disk, 5)?;
     assert_eq!(rt; status, 3);
-    let said = b"ocfl-scrub: part 2: its report could not be read, or not be copied\n";
+    let said = b"ocfl-scrub: part 2: its report of cycle 5 could not be joined\n";
     assert_eq!(rt; disk.noted(), said.as_slice());
     Ok(())
 }
@@ -177,9 +179,46 @@ fn what_a_joined_report_lacks_is_said(rt: HostRuntime) -> Result<(), Fail> {
     Ok(())
 }
 
+#[test]
+fn each_part_whose_report_was_changed_is_named(rt: HostRuntime) -> Result<(), Fail> {
+    let alloc = rt.alloc();
+    let mut disk = disk_with(alloc, MemDisk::new(alloc), 0, 0)?;
+    let mut parts = Vec::new(alloc);
+    for (text, kept) in [
+        ("ok\t.\t-\nok\tb\t-\n", KeptMark::NotKept),
+        (REPORTS[1], KeptMark::Damaged),
+    ] {
+        parts.push(MemoryReport {
+            bytes: Vec::from_slice(alloc, text.as_bytes())?,
+            kept,
+        })?;
+    }
+    disk.put_parts(parts);
+    let (status, mut disk) = joins(alloc, disk, 1)?;
+    assert_eq!(rt; status, 3);
+    let said = b"ocfl-scrub: part 1: its report of cycle 1 was changed\n\
+        ocfl-scrub: part 2: its report of cycle 1 was changed\n";
+    assert_eq!(rt; disk.noted(), said.as_slice());
+    assert_eq!(rt; joined_on(alloc, &mut disk, true)?.len(), 0);
+    Ok(())
+}
+
 /// More calls than the joinings make of a disk.
 const MANY: u64 = 60;
 
+/// Whether lines say of just these cycles that their joining failed.
+fn says_failed(alloc: Global, said: &[u8], cycles: &[u64]) -> Result<bool, Fail> {
+    let mut wanted = String::new(alloc);
+    for cycle in cycles {
+        let line = format!(in alloc; "ocfl-scrub: the joining of cycle {cycle} failed\n")?;
+        wanted.push_str(line.as_str())?;
+    }
+    Ok(said == wanted.as_bytes())
+}
+
+/// Of a disk that keeps what it began to write, one call fails: of the cycles 1, 4 and 5 each is said
+/// that is not joined then. The last one that is joined may have its name and be said too, as one that
+/// a power cut may take.
 #[test]
 fn a_cycle_that_fails_is_said(rt: HostRuntime) -> Result<(), Fail> {
     let alloc = rt.alloc();
@@ -188,14 +227,36 @@ fn a_cycle_that_fails_is_said(rt: HostRuntime) -> Result<(), Fail> {
         let mut mem = MemDisk::new(alloc);
         mem.fail_call(number);
         let disk = disk_with(alloc, mem, 0, 0)?;
-        let (status, disk) = joins(alloc, disk, 5)?;
+        let (status, mut disk) = joins(alloc, disk, 5)?;
+        let noted = Vec::from_slice(alloc, disk.noted())?;
+        let joined = joined_on(alloc, &mut disk, true)?;
         if status == 0 {
+            assert_eq!(rt; noted.len(), 0, "{number}");
             continue;
         }
         failed += 1;
         assert_eq!(rt; status, 3, "{number}");
-        let said = b"ocfl-scrub: the reports were not joined\n";
-        assert!(rt; disk.noted().starts_with(said), "{number}");
+        if joined.len() == 3 {
+            // All have their names, of which one was not brought to the disk.
+            let mut one = 0;
+            for cycle in [1, 4, 5] {
+                if says_failed(alloc, noted.as_slice(), &[cycle])? {
+                    one += 1;
+                }
+            }
+            assert_eq!(rt; one, 1, "{number}");
+            continue;
+        }
+        let mut lacking = Vec::new(alloc);
+        for cycle in [1, 4, 5] {
+            if !joined.as_slice().contains(&cycle) {
+                lacking.push(cycle)?;
+            }
+        }
+        assert!(rt;
+            says_failed(alloc, noted.as_slice(), lacking.as_slice())?,
+            "{number}"
+        );
     }
     assert!(rt; failed > 10 && failed < MANY - 1);
     Ok(())
@@ -234,13 +295,49 @@ fn what_is_there_of_a_cycle_is_seen(rt: HostRuntime) -> Result<(), Fail> {
         (3, JoinedLook::Packed),
         (5, JoinedLook::Away),
     ] {
-        assert_eq!(rt; cycles.look(cycle), Ok(look), "{cycle}");
+        assert_eq!(rt; cycles.look(cycle).ok(), Some(look), "{cycle}");
     }
-    assert_eq!(rt; cycles.has_closed(2, 1), Ok(true));
-    assert_eq!(rt; cycles.has_closed(2, 2), Ok(false));
+    assert_eq!(rt; cycles.has_closed(2, 1).ok(), Some(true));
+    assert_eq!(rt; cycles.has_closed(2, 2).ok(), Some(false));
     let whole = cycles.join(5, None, true);
-    assert_eq!(rt; whole, Ok(Some(true)));
+    assert_eq!(rt; whole.ok(), Some(Some(true)));
     assert_eq!(rt; join_status(end_of(true, Some(true))), 0);
-    assert_eq!(rt; cycles.fail(), 3);
+    let end = cycles.fail(5, &JoinStop::Unsaid);
+    assert_eq!(rt; (end.status, end.said), (3, true));
+    Ok(())
+}
+
+#[test]
+fn what_the_system_says_of_a_call_is_said(rt: HostRuntime) -> Result<(), Fail> {
+    let alloc = rt.alloc();
+    let call = Some(FailedCall {
+        status: 75,
+        text: String::from_str(alloc, "S: no space")?,
+    });
+    let failed = ReportTrouble::Failed;
+    let part = JoinStop::Part {
+        part: 2,
+        why: failed,
+    };
+    for (stop, status, line) in [
+        (
+            part,
+            75,
+            "part 2: its report of cycle 7 could not be joined: S: no space",
+        ),
+        (
+            JoinStop::Output(failed),
+            75,
+            "the joining of cycle 7 failed: S: no space",
+        ),
+        (JoinStop::Output(ReportTrouble::Memory), 3, "out of memory"),
+        (JoinStop::Memory, 3, "out of memory"),
+        (JoinStop::Unsaid, 3, "output failed"),
+    ] {
+        assert_eq!(rt; failed_status(&stop, &call), status, "{line}");
+        let said = say_stop(alloc, 7, &stop, &call)?;
+        let wanted = format!(in alloc; "ocfl-scrub: {line}\n")?;
+        assert_eq!(rt; said.as_str(), wanted.as_str());
+    }
     Ok(())
 }

@@ -4,7 +4,7 @@ ghost use mathlib.Core.Bool.{false≢true};
 use crate::tests::common::store::place_of;
 use ocfl_joining::{
     ClosedPart, JoinStop, Joined, KeptMark, MemoryReport, MemoryReports, MissingPart, PartFault,
-    PartReports, PartStop, ReportTrouble, find_missing, find_most_names, find_within, join,
+    PartReports, ReportTrouble, find_missing, find_most_names, find_within, join,
 };
 use ocfl_say::MemOutput;
 use ocfl_separators::{Separators, read_parts};
@@ -242,14 +242,12 @@ fn a_report_that_was_changed_is_not_joined(rt: HostRuntime) -> Result<(), Fail> 
     ] {
         let mut reports = reports(alloc, text, kept)?;
         let stop = joined(alloc, &parts, &mut reports)?.err();
-        let is_named = matches!(
-            stop,
-            Some(JoinStop::Part {
-                part: 2,
-                why: PartStop::Changed,
-            })
-        );
-        assert!(rt; is_named, "{row}");
+        match stop {
+            Some(JoinStop::Changed(found)) => {
+                assert_eq!(rt; found.as_slice(), [2].as_slice(), "{row}")
+            }
+            _ => return Err(Fail::new(row)),
+        }
         assert_eq!(rt; reports.joined().len(), 0, "{row}");
     }
     Ok(())

@@ -1,5 +1,4 @@
-use Rattle.std.proofs.Common.{rules, ◌≡◌, inl, arith}
-use Rattle.std.specs.Prelude.{max}
+use Rattle.std.proofs.Common.{inl, arith}
 use Rattle.ocfl_joining.proofs.Cycling.{tried_more}
 use Rattle.ocfl_joining.proofs.cycles.join_earlier_ones.Goals as goal
 
@@ -7,11 +6,10 @@ pub loop-cycle-preserved : goal.loop-cycle-preserved
 loop-cycle-preserved g c =
     let seen = g.C.PartCycles.seen in
     let below = c.loop-cycle-test.true in
-    let status : c.max-status.result ≡ max c.loop-cycle.status c.join_or_fail.result = search rules in
     record {
       first = c.loop-cycle.invariant.first;
       bound = inl (omega (arith, below));
       tried = λ t.
           tried_more c.args.parts c.oldest_of-first.result c.loop-cycle.cycle (seen c.args.cycles.now) (seen c.loop-cycle.cycles) (seen c.join_or_fail.new.cycles)
-          c.loop-cycle.status c.join_or_fail.result c.max-status.result (c.loop-cycle.invariant.tried t) (c.join_or_fail.ensures.tried t) status;
+          c.loop-cycle.all c.join_or_fail.result c.both-all.result (c.loop-cycle.invariant.tried t) (c.join_or_fail.ensures.tried t) c.both-all.ensures;
     }

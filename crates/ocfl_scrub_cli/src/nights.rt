@@ -1,28 +1,26 @@
 //! A night over a storage root and its state folder.
 mod clock;
-mod ending;
 mod speaking;
 
-use crate::nights::clock::{RunLog, stop_file};
-use crate::nights::ending::{Runs, said_of};
+use crate::nights::clock::stop_file;
 use crate::nights::speaking::Words;
 use ocfl_arguments::NightAsked;
 use ocfl_closing::closing::{ToldBy, tell_closings};
 use ocfl_digest::Block;
+use ocfl_endings::{RunLog, Runs};
 use ocfl_files::failing::Failure;
 use ocfl_files::reasons::{Reasons, words_on};
 use ocfl_files::timing::seconds_now;
 use ocfl_folder::FsTree;
 use ocfl_given::given::{Found, Given, find_given, program_digest, text_of};
-use ocfl_given::waiting::{find_wait, say_wait};
+use ocfl_given::planning::{find_plan, last_cost};
 use ocfl_journal::ending::{Ended, EndedFolder, end_night, log_ended, log_unbegun, status_told};
 use ocfl_journal::noting::{Beside, Noting, open_noting};
 use ocfl_journal::{NightLog, SystemLog};
 use ocfl_kept::room::Room;
-use ocfl_kept::stand::Standing;
 use ocfl_kept::state_dir::Folder;
 use ocfl_night::{Site, night};
-use ocfl_plan::{Budgeted, Hearing, Telling, plan_of};
+use ocfl_plan::{Budgeted, Hearing, Telling};
 use ocfl_state::StateFolder;
 use ocfl_terminal::progress::{Clearing, Reasoned, Sight, Terminals, Watched, clear};
 use ocfl_terminal::streams::take_streams;
@@ -65,32 +63,11 @@ impl<'a> Planned<'a> {
     }
 }
 
-/// What a night may do. One that may not begin a new cycle yet says so.
-fn find_plan<R>(rt: &R, given: &Given<'_>, began: Standing) -> Result<Plan, AllocError>
-where
-    R: Files + AllocGlobal + Eprint,
-{
-    let wait = find_wait(rt, given, began);
-    if let Some(wait) = wait {
-        say_wait(rt, wait)?;
-    }
-    Ok(plan_of(given.asked, given.began, given.shown, wait.is_some()))
-}
-
 /// Whether progress is shown, and what the last cycle cost, if that is known.
 #[derive(Clone, Copy)]
 struct Shown {
     is_shown: bool,
     last_cost: Option<u128>,
-}
-
-/// What the last cycle cost, if the night begins the next one.
-fn last_cost(began: Standing) -> Option<u128> {
-    if began.has_ended {
-        Some(u128::from(began.spent))
-    } else {
-        None
-    }
 }
 
 /// Makes a night over a store, and shows progress.
@@ -163,7 +140,7 @@ where
     let began = planned.given.began;
     let mut clock = Hearing {
         clock,
-        listener: RunLog { journal, began },
+        listener: RunLog::of(journal, began),
     };
     let words = Words {
         alloc: rt.global(),
@@ -183,7 +160,7 @@ where
     Runs {
         end,
         why: why_of(rt.global(), &reasons, tree.reason_of_last()),
-        told: noting.told_by(out.into_message().speaker),
+        told: noting.told_by(out.into_message().speaker, clock.listener.journal()),
     }
 }
 
@@ -248,7 +225,7 @@ where
     if shown_on.error {
         clear(rt);
     }
-    let said = said_of(rt.alloc(), planned.given.names(), &runs, noting.reason())?;
+    let said = runs.said(rt.alloc(), planned.given.names(), noting.reason())?;
     Ok((runs, said))
 }
 

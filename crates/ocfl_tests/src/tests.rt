@@ -20,6 +20,7 @@ mod item;
 mod join_disk;
 mod joined_cycles;
 mod joining;
+mod journal;
 mod laws;
 mod line;
 mod night;

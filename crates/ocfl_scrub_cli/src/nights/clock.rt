@@ -1,9 +1,8 @@
-//! The clock of a night, and the log of its runs.
+//! The clock of a night.
 
 use ocfl_disk::StateFile;
 use ocfl_files::timing::read_seconds;
-use ocfl_journal::{Journal, NightLog, RunMade};
-use ocfl_plan::{Listener, StopCalls, StopFile};
+use ocfl_plan::{StopCalls, StopFile};
 use ocfl_terms::Made;
 use std::alloc::AllocError;
 use std::fs;
@@ -40,28 +39,4 @@ impl<R: Files + Clock> StopCalls for System<'_, R> {
     }
 
     fn hears(&mut self, _made: &Made) {}
-}
-
-/// The log of the runs of a night.
-#[derive(Drop)]
-pub(crate) struct RunLog<L: Drop> {
-    pub(crate) journal: Journal<L>,
-    /// The time that the clock showed last: when the run under way began.
-    pub(crate) began: u64,
-}
-
-impl<L: NightLog + Drop> Listener for RunLog<L> {
-    fn note_time(&mut self, now: u64) {
-        self.began = now;
-    }
-
-    /// Logs a run.
-    fn note_run(&mut self, made: &Made, status: u8) {
-        let run = RunMade {
-            checkpoint: &made.checkpoint,
-            cost: made.spent,
-            status,
-        };
-        self.journal.run(run, self.began);
-    }
 }

@@ -89,7 +89,7 @@ fn untimed(alloc: Global, log: &str) -> Result<String, Fail> {
 
 const LOGGED: &str = r#"{"bytes":90,"cycle":1,"lines":4,"night":10,"part":2,"program":"abc","root":"/srv/ocfl","row":"began","stands":"after o"
 {"cycle":1,"night":10,"place":"b","row":"left"
-{"cycle":1,"night":10,"place":"d%20e","row":"left"
+{"cycle":1,"night":10,"place":"d e","row":"left"
 "#;
 
 #[test]

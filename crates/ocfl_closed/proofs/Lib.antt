@@ -6,3 +6,6 @@ mod Pushing
 mod Putting
 mod Reading
 mod Changeless
+mod Checking
+mod Ends
+mod Opened

@@ -6,6 +6,7 @@ use Rattle.ocfl_words.specs.Counted.{AreCounted, changes_of, counted, is_news}
 use Rattle.ocfl_closed.specs.{Taken.{IsMarked, Stand}, Words.{Parts, all_of}}
 use Rattle.ocfl_state.specs.{Pieces.{Carries}, declared.pieces.ReportDigests.{ReportDigests}}
 pub mod Backs
+pub mod Checked
 pub mod Stands
 pub mod Takes
 

@@ -7,8 +7,8 @@ ghost use Rattle.ocfl_closed.specs.{Cut.{Still}, Words.{runs_in, why_text}};
 use crate::account::{Account, CycleMade, why_not};
 use crate::back::find_back;
 use crate::disk::ClosedDisk;
-use crate::finding::open_reader;
 use crate::looking::read_kept;
+use crate::opening::open_reader;
 use crate::words::{SaidWith, Words};
 use ocfl_accounts::{ClosingStop, Pair};
 use ocfl_report::Line;
@@ -146,7 +146,7 @@ fn find_again<D: ClosedDisk>(
     let Ok(named) = named_in(alloc, since, whole) else {
         return Err(ClosingStop::Memory);
     };
-    let mut report = open_reader(disk, cycle, false)?;
+    let mut report = open_reader(alloc, disk, cycle)?;
     match find_lines(alloc, &mut report, &named, noting.known(), noting.said()) {
         Ok(found) => Ok(found),
         Err(error) => Err(disk.refuse_lines(cycle, error)),

@@ -5,7 +5,8 @@ ghost use Rattle.ocfl_accounts.specs.Causes.{HasCause};
 ghost use Rattle.ocfl_closed.specs.{Cut.{Still}, Internal.{Backs.{missing_seen, missing_then}}};
 
 use crate::disk::ClosedDisk;
-use crate::finding::{left_by_both, open_reader};
+use crate::finding::left_by_both;
+use crate::opening::open_reader;
 use ocfl_accounts::{ClosedCycle, ClosingStop, Pair};
 use ocfl_compare::{Change, Side, TakeChange, TakeStop, find_expected};
 use ocfl_report::{Line, TextStop, read_place, split_once};
@@ -164,10 +165,13 @@ fn find_lacking<D: ClosedDisk>(
     let mut lacking = Places {
         places: Vec::new(alloc),
     };
-    let mut report = open_reader(disk, cycle, false)?;
+    let mut report = open_reader(alloc, disk, cycle)?;
     match find_expected(alloc, objects, &mut report, left, &mut lacking) {
         Ok(()) => Ok(lacking.places),
-        Err(stop) => Err(disk.refuse_search(cycle, cycle, stop, report)),
+        Err(stop) => {
+            let error = report.get_ref().error();
+            Err(disk.refuse_search(cycle, cycle, stop, error))
+        }
     }
 }
 

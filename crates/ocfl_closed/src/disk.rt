@@ -1,11 +1,11 @@
 //! The calls of the system that are made on the files of closed cycles.
-ghost use Rattle.std.specs.Prelude.{◌≡◌, ◌⊎◌, ◌<◌, ◌≤◌, ◌^◌, ℕ, Bool, false, IsTrue, IfOk, MatchResult, OnOk, Some, [], length, take};
+ghost use Rattle.std.specs.Prelude.{◌≡◌, ◌⊎◌, ◌<◌, ◌^◌, Bool, false, IsTrue, IfOk, MatchResult, OnOk, Some, [], length, take};
+ghost use Rattle.std.specs.Io.{ReadsAtMost};
 ghost use Rattle.std.specs.Option.{option_map};
 ghost use Rattle.ocfl_tree.specs.Place.{Text};
 ghost use Rattle.ocfl_state.specs.Calls.{IsReadOf, bytes_of};
 ghost use Rattle.ocfl_accounts.specs.{Causes.{HasCause, IsCause}, Kept.{is_some}};
 ghost use Rattle.ocfl_closed.specs.{Cut.{AreNamed, Calm, ClosedState, IsClosedDisk, Names, Still, untold}, Files.{report_named}};
-ghost use Rattle.ocfl_closed.specs.Unchanged.{IsUnchangedSince};
 
 use crate::account::{Account, Paths};
 use ocfl_accounts::{ClosingStop, Pair};
@@ -13,16 +13,34 @@ use ocfl_compare::CompareStop;
 use ocfl_tree::Place;
 use std::io::{self, BufRead, Write};
 
+/// An open closed report, which is read from any place. It stays as it is while it is open.
+///
+/// One that states nothing of what is in it does not tell it.
+pub trait OpenReport {
+    /// Whether the clauses say what is in it.
+    ghost told: { Bool } = { false };
+
+    /// Its bytes.
+    ghost bytes: { Self → Text } = { λ _. [] };
+
+    /// Reads bytes from an offset on into the front of the buffer, and gives how many. For a buffer
+    /// that is not empty, 0 is the end of the report.
+    fn read_at(&self, start: u64, buffer: &mut [u8]) -> io::Result<usize>
+        ensures bound { ReadsAtMost result buffer.new }
+        ensures value { IsTrue told → IfOk result (λ count.
+            IsReadOf (bytes self.now) start (take count buffer.new) (length buffer.new)) };
+
+    /// No report is longer than the system's files may be.
+    ghost short: { IsTrue told → (report : Self) → length (bytes report) < 2 ^ 63 };
+}
+
 /// What closings ask of the system, by the numbers of cycles. `Failed` is answered if a call failed,
 /// and `Memory` if memory was refused.
 ///
 /// One that states nothing of what is on the disk does not tell it.
 pub trait ClosedDisk {
     /// An open report.
-    type Report: Drop;
-
-    /// An open report that is read from its start to its end.
-    type Reader: BufRead + Drop;
+    type Report: OpenReport + Drop;
 
     /// The list of what is gone, while it is written.
     type List: Write + Drop;
@@ -35,9 +53,6 @@ pub trait ClosedDisk {
 
     /// What is on the disk, and what a power cut may leave of it.
     ghost state: { Self → ClosedState } = { λ _. untold };
-
-    /// The bytes of an open report.
-    ghost bytes: { Self.Report → Text } = { λ _. [] };
 
     /// Whether the list of what is gone at the end of a cycle is there.
     fn has_list(&mut self, cycle: u64) -> Result<bool, ClosingStop>
@@ -66,36 +81,7 @@ pub trait ClosedDisk {
     fn open_report(&mut self, cycle: u64, whole: bool) -> Result<Option<Self::Report>, ClosingStop>
         ensures still { IsTrue told → Still (state self.old) (state self.new) }
         ensures value { IsTrue told → IfOk result (λ found.
-            option_map bytes found ≡ report_named (state self.old).files whole cycle) }
-        ensures cause { IsTrue told
-            → HasCause (state self.old).faults (state self.new).faults result };
-
-    /// Reads bytes of an open report from an offset on into the front of the buffer, and gives how
-    /// many. For a buffer that is not empty, 0 is the end of the report.
-    fn read_at(
-        &mut self,
-        report: &Self::Report,
-        start: u64,
-        buffer: &mut [u8],
-    ) -> Result<usize, ClosingStop>
-        ensures bound { IfOk result (λ count. count ≤ length buffer.new) }
-        ensures still { IsTrue told → Still (state self.old) (state self.new) }
-        ensures value { IsTrue told → IfOk result (λ count.
-            IsReadOf (bytes report.now) start (take count buffer.new) (length buffer.new)) }
-        ensures cause { IsTrue told
-            → HasCause (state self.old).faults (state self.new).faults result };
-
-    /// Opens a closed report as `open_report` does, to read all of it. With `checks` its bytes are
-    /// compared with what was kept of its closing while they are read.
-    fn open_reader(
-        &mut self,
-        cycle: u64,
-        whole: bool,
-        checks: bool,
-    ) -> Result<Option<Self::Reader>, ClosingStop>
-        ensures still { IsTrue told → Still (state self.old) (state self.new) }
-        ensures value { IsTrue told → IfOk result (λ found. option_map Self.Reader.remaining found
-            ≡ option_map Some (report_named (state self.old).files whole cycle)) }
+            option_map Self.Report.bytes found ≡ report_named (state self.old).files whole cycle) }
         ensures cause { IsTrue told
             → HasCause (state self.old).faults (state self.new).faults result };
 
@@ -104,42 +90,37 @@ pub trait ClosedDisk {
         ensures still { IsTrue told → Still (state self.old) (state self.new) }
         ensures cause { IsTrue told → IsCause (state self.old).faults (state self.new).faults result };
 
-    /// Ends the reading of the report of a pair and of that of a cycle before, to their ends. `Failed`
-    /// if one that was checked is not as it was closed: the one before is, and that of the pair if it
-    /// is compared with its report before.
-    fn end_readers(
-        &mut self,
-        pair: &Pair,
-        before: u64,
-        earlier: Self::Reader,
-        now: Self::Reader,
-    ) -> Result<(), ClosingStop>
-        ensures unchanged { IsTrue told
-            → OnOk result (IsUnchangedSince (state self.old).files pair.now before) }
+    /// Keeps why an open report was not read.
+    fn refuse_report(&mut self, report: &Self::Report, error: io::Error) -> ClosingStop
         ensures still { IsTrue told → Still (state self.old) (state self.new) }
-        ensures cause { IsTrue told
-            → HasCause (state self.old).faults (state self.new).faults result };
+        ensures cause { IsTrue told → IsCause (state self.old).faults (state self.new).faults result };
 
-    /// Keeps why the report of a pair was not compared with that of a cycle before.
-    fn refuse_readers(
+    /// Keeps why the report of a pair was not compared with that of a cycle before, and why a read
+    /// of one of the two failed, if that is why.
+    fn refuse_reports(
         &mut self,
         pair: &Pair,
         before: u64,
         stop: CompareStop,
-        earlier: Self::Reader,
-        now: Self::Reader,
+        error: Option<io::Error>,
     ) -> ClosingStop
         ensures still { IsTrue told → Still (state self.old) (state self.new) }
         ensures cause { IsTrue told → IsCause (state self.old).faults (state self.new).faults result };
 
+    /// Keeps that the report of a pair was not compared with that of a cycle before, since that one
+    /// is not as it was closed.
+    fn refuse_changed(&mut self, pair: &Pair, before: u64) -> ClosingStop
+        ensures still { IsTrue told → Still (state self.old) (state self.new) }
+        ensures cause { IsTrue told → IsCause (state self.old).faults (state self.new).faults result };
+
     /// Keeps why objects were not looked for in the report of a cycle, which is compared with that
-    /// of one before; 0 for none.
+    /// of one before, 0 for none; and why a read of it failed, if that is why.
     fn refuse_search(
         &mut self,
         cycle: u64,
         before: u64,
         stop: CompareStop,
-        report: Self::Reader,
+        error: Option<io::Error>,
     ) -> ClosingStop
         ensures still { IsTrue told → Still (state self.old) (state self.new) }
         ensures cause { IsTrue told → IsCause (state self.old).faults (state self.new).faults result };
@@ -229,8 +210,8 @@ pub trait ClosedDisk {
         ensures calm { IsTrue told → Calm (state self.old) (state self.new) }
         ensures faults { IsTrue told → (state self.new).faults ≡ (state self.old).faults };
 
-    /// No report is longer than the system's files may be.
-    ghost short: { IsTrue told → (report : Self.Report) → length (bytes report) < 2 ^ 63 };
+    /// Where it is told what is on the disk, it is told what is in a report.
+    ghost reports: { IsTrue told → IsTrue Self.Report.told };
 
     /// The laws of what is on a disk.
     ghost is_disk: { IsTrue told → (disk : Self) → IsClosedDisk (state disk) };

@@ -2,13 +2,13 @@
 ghost use Rattle.std.specs.Prelude.{◌≡◌, ◌++◌, [], true, IsTrue, IfOk, IsOkUnless, OnOk, Some};
 ghost use Rattle.ocfl_tree.specs.Place.{Text};
 ghost use Rattle.ocfl_compare.specs.{Compared.{IsCompared}, Expected.{IsSearched}};
-ghost use Rattle.ocfl_accounts.specs.Causes.{HasCause};
+ghost use Rattle.ocfl_accounts.specs.Causes.{HasCause, IsCause};
 ghost use Rattle.ocfl_accounts.specs.Changes.{Finds, IsMissing, IsSince, IsSinceWhole};
 ghost use Rattle.ocfl_words.specs.Counted.{AreCounted, Counted, counted, joined};
 ghost use Rattle.ocfl_closed.specs.{Cut.{Calm, Still}, Files.{kept_of}, Taken.{HasTaken}};
 ghost use Rattle.ocfl_closed.specs.Unchanged.{AreAllUnchanged, AreUnchanged, IsBeforeUnchanged};
 ghost use Rattle.ocfl_closed.specs.Unchanged.{IsUnchangedSince, IsWholeUnchanged};
-ghost use Rattle.ocfl_closed.specs.Unchanged.{is_before as is_before_by, is_unchanged};
+ghost use Rattle.ocfl_closed.specs.Unchanged.{is_unchanged};
 ghost use Rattle.ocfl_closed.specs.Words.{AreOf, AreParts, HasText, beside_of, runs_in};
 ghost use Rattle.ocfl_closed.specs.{Words.{said_beside}, Internal.{Took, AllTaken}};
 ghost use Rattle.ocfl_closed.specs.Internal.Stands.{stand_of};
@@ -16,6 +16,8 @@ ghost use Rattle.ocfl_closed.specs.Internal.Stands.{stand_of};
 use crate::account::{Account, compared, text_of};
 use crate::accounting::account_of;
 use crate::disk::ClosedDisk;
+use crate::opening::{open_checked, open_now, open_reader};
+use crate::reader::ReportReader;
 use crate::taking::Taking;
 use crate::within::Within;
 use crate::words::{SaidWith, Words};
@@ -349,10 +351,13 @@ fn search<D: ClosedDisk, T: TakeChange>(
     ensures cause { IsTrue D.told
         → HasCause (D.state disk.old).faults (D.state disk.new).faults result }
 {
-    let mut report = open_reader(disk, pair.closed.cycle(), false)?;
+    let mut report = open_reader(alloc, disk, pair.closed.cycle())?;
     match find_expected(alloc, listed, &mut report, pair.closed.left(), taker) {
         Ok(()) => Ok(()),
-        Err(stop) => { Err(disk.refuse_search(pair.closed.cycle(), compared(pair), stop, report)) }
+        Err(stop) => {
+            let error = report.get_ref().error();
+            Err(disk.refuse_search(pair.closed.cycle(), compared(pair), stop, error))
+        }
     }
 }
 
@@ -376,42 +381,37 @@ fn compare_with<D: ClosedDisk, T: TakeChange>(
     ensures cause { IsTrue D.told
         → HasCause (D.state disk.old).faults (D.state disk.new).faults result }
 {
-    let mut earlier = open_reader(disk, before, true)?;
-    let mut now = open_reader(disk, pair.closed.cycle(), is_before(pair, before))?;
-    match compare(alloc, &mut earlier, &mut now, left, taker) {
-        Ok(()) => disk.end_readers(pair, before, earlier, now),
-        Err(stop) => Err(disk.refuse_readers(pair, before, stop, earlier, now)),
+    let mut earlier = open_checked(alloc, disk, before)?;
+    let mut later = open_now(alloc, disk, pair, before)?;
+    match compare(alloc, &mut earlier, &mut later, left, taker) {
+        Ok(()) => Ok(()),
+        Err(stop) => {
+            let (earlier, later) = (earlier.get_ref(), later.get_ref());
+            Err(refuse(disk, pair, before, stop, earlier, later))
+        }
     }
 }
 
-/// Whether the report before of a pair is that of a cycle.
-fn is_before(pair: &Pair, cycle: u64) -> bool
-    ensures { result ≡ is_before_by pair.now cycle }
-{
-    match &pair.before {
-        Some(before) => before.cycle() == cycle,
-        None => false,
-    }
-}
-
-/// Opens the closed report of a cycle to read all of it: the whole one, if there is one. With
-/// `checks` it is compared with what was kept of its closing while it is read.
-pub(crate) fn open_reader<D: ClosedDisk>(
+/// Keeps why two reports were not compared. That the first one was changed is known once it was
+/// read to its end; else the disk looks for which of them was.
+fn refuse<D: ClosedDisk>(
     disk: &mut D,
-    cycle: u64,
-    checks: bool,
-) -> Result<D::Reader, ClosingStop>
-    ensures bytes { IsTrue D.told → IfOk result (λ reader. D.Reader.remaining reader
-        ≡ Some ((kept_of (D.state disk.old).files).reports cycle)) }
+    pair: &Pair,
+    before: u64,
+    stop: CompareStop,
+    earlier: &ReportReader<D::Report>,
+    later: &ReportReader<D::Report>,
+) -> ClosingStop
     ensures still { IsTrue D.told → Still (D.state disk.old) (D.state disk.new) }
     ensures cause { IsTrue D.told
-        → HasCause (D.state disk.old).faults (D.state disk.new).faults result }
+        → IsCause (D.state disk.old).faults (D.state disk.new).faults result }
 {
-    if let Some(reader) = disk.open_reader(cycle, true, checks)? {
-        return Ok(reader);
+    if earlier.is_changed() {
+        return disk.refuse_changed(pair, before);
     }
-    match disk.open_reader(cycle, false, checks)? {
-        Some(reader) => Ok(reader),
-        None => Err(disk.miss_report(cycle)),
-    }
+    let error = match stop {
+        CompareStop::BeforeFailed => earlier.error(),
+        _ => later.error(),
+    };
+    disk.refuse_reports(pair, before, stop, error)
 }

@@ -5,18 +5,21 @@
 mod account;
 mod accounting;
 mod back;
+mod check;
 mod disk;
 mod disk_closings;
 mod finding;
 pub mod laws;
 mod looking;
 mod marking;
+mod opening;
+mod reader;
 mod taking;
 mod within;
 mod words;
 
 pub use account::{Account, CycleMade, Paths, compared, compared_whole, count_of};
-pub use disk::ClosedDisk;
+pub use disk::{ClosedDisk, OpenReport};
 pub use disk_closings::DiskClosings;
 pub use finding::{Told, find_changes};
 pub use looking::look_at;

@@ -56,7 +56,7 @@ fn look_at_incomplete<D: ClosedDisk>(
     report: &D::Report,
 ) -> Result<Look, ClosingStop>
     ensures value { IsTrue D.told → IfOk result (λ look. sight_of_look look ≡ incomplete_by cycle
-        ((D.state disk.old).files.checkpoint cycle) (D.bytes report.now)) }
+        ((D.state disk.old).files.checkpoint cycle) (D.Report.bytes report.now)) }
     ensures still { IsTrue D.told → Still (D.state disk.old) (D.state disk.new) }
     ensures cause { IsTrue D.told
         → HasCause (D.state disk.old).faults (D.state disk.new).faults result }
@@ -105,7 +105,7 @@ pub(crate) fn read_kept<D: ClosedDisk>(
 }
 
 /// The checkpoint that these bytes are. `None` if they are none.
-fn checkpoint_of(alloc: Global, bytes: &[u8]) -> Result<Option<Checkpoint>, ClosingStop>
+pub(crate) fn checkpoint_of(alloc: Global, bytes: &[u8]) -> Result<Option<Checkpoint>, ClosingStop>
     ensures value { IfOk result (λ found. IsRead (Some bytes.now) found) }
     ensures memory { IsOkUnless result ClosingStop.Memory }
 {
@@ -156,7 +156,7 @@ fn is_lost<D: ClosedDisk>(
     kept: &Option<Checkpoint>,
 ) -> Result<bool, ClosingStop>
     ensures value { IsTrue D.told → IfOk result (λ lost.
-        lost ≡ is_lost_by kept.now (D.bytes report.now)) }
+        lost ≡ is_lost_by kept.now (D.Report.bytes report.now)) }
     ensures still { IsTrue D.told → Still (D.state disk.old) (D.state disk.new) }
     ensures cause { IsTrue D.told
         → HasCause (D.state disk.old).faults (D.state disk.new).faults result }

@@ -4,9 +4,10 @@ ghost use Rattle.ocfl_state.specs.{Calls.{IsReadOf}, Pieces.{Carries, summary_of
 ghost use Rattle.ocfl_accounts.specs.Causes.{HasCause};
 ghost use Rattle.ocfl_closed.specs.{Cut.{Still}, Files.{is_mark}, Internal.{IsPushed}};
 
-use crate::disk::ClosedDisk;
+use crate::disk::{ClosedDisk, OpenReport};
 use ocfl_accounts::ClosingStop;
 use ocfl_state::{ReportDigests, ReportMark};
+use std::io;
 
 /// How many bytes of a report are read at once.
 const READ_LEN: usize = 16_384;
@@ -16,22 +17,18 @@ const NO_REPORT: u64 = 1 << 63;
 
 /// Reads bytes of a report from an offset on into the front of the buffer, at most `room` of them,
 /// and gives how many.
-fn read_part<D: ClosedDisk>(
-    disk: &mut D,
-    report: &D::Report,
+fn read_part<F: OpenReport>(
+    report: &F,
     start: u64,
     buffer: &mut [u8; READ_LEN],
     room: usize,
-) -> Result<usize, ClosingStop>
+) -> io::Result<usize>
     requires { room ≤ 16384 }
     ensures bound { IfOk result (λ count. count ≤ room) }
-    ensures value { IsTrue D.told → IfOk result (λ count.
-        IsReadOf (D.bytes report.now) start (take count buffer.new) room) }
-    ensures still { IsTrue D.told → Still (D.state disk.old) (D.state disk.new) }
-    ensures cause { IsTrue D.told
-        → HasCause (D.state disk.old).faults (D.state disk.new).faults result }
+    ensures value { IsTrue F.told → IfOk result (λ count.
+        IsReadOf (F.bytes report.now) start (take count buffer.new) room) }
 {
-    disk.read_at(report, start, &mut buffer[..room])
+    report.read_at(start, &mut buffer[..room])
 }
 
 /// Reads the bytes of a report from an offset on, and pushes them. Gives how many: 0 only at its end.
@@ -43,16 +40,20 @@ fn push_part<D: ClosedDisk>(
     digests: &mut ReportDigests,
 ) -> Result<usize, ClosingStop>
     ensures bound { IfOk result (λ count. count ≤ 16384) }
-    ensures pushed { IsTrue D.told → start ≤ length (D.bytes report.now)
-        → Carries digests.old (take start (D.bytes report.now)) → IfOk result (λ count.
-        IsPushed (D.bytes report.now) start count digests.new) }
+    ensures pushed { IsTrue D.told → start ≤ length (D.Report.bytes report.now)
+        → Carries digests.old (take start (D.Report.bytes report.now)) → IfOk result (λ count.
+        IsPushed (D.Report.bytes report.now) start count digests.new) }
     ensures still { IsTrue D.told → Still (D.state disk.old) (D.state disk.new) }
     ensures cause { IsTrue D.told
         → HasCause (D.state disk.old).faults (D.state disk.new).faults result }
 {
-    let count = read_part(disk, report, start, buffer, READ_LEN)?;
-    digests.push(&buffer[..count]);
-    Ok(count)
+    match read_part(report, start, buffer, READ_LEN) {
+        Ok(count) => {
+            digests.push(&buffer[..count]);
+            Ok(count)
+        }
+        Err(error) => Err(disk.refuse_report(report, error)),
+    }
 }
 
 /// Pushes the bytes of a report, from its start to its end.
@@ -62,7 +63,7 @@ fn push_all<D: ClosedDisk>(
     digests: &mut ReportDigests,
 ) -> Result<(), ClosingStop>
     ensures carried { IsTrue D.told → Carries digests.old []
-        → OnOk result (Carries digests.new (D.bytes report.now)) }
+        → OnOk result (Carries digests.new (D.Report.bytes report.now)) }
     ensures still { IsTrue D.told → Still (D.state disk.old) (D.state disk.new) }
     ensures cause { IsTrue D.told
         → HasCause (D.state disk.old).faults (D.state disk.new).faults result }
@@ -81,7 +82,7 @@ fn push_all<D: ClosedDisk>(
 
 /// The length, the lines and the digests of a report, which is read once.
 fn mark_of<D: ClosedDisk>(disk: &mut D, report: &D::Report) -> Result<ReportMark, ClosingStop>
-    ensures value { IsTrue D.told → IfOk result (λ mark. mark ≡ summary_of (D.bytes report.now)) }
+    ensures value { IsTrue D.told → IfOk result (λ mark. mark ≡ summary_of (D.Report.bytes report.now)) }
     ensures still { IsTrue D.told → Still (D.state disk.old) (D.state disk.new) }
     ensures cause { IsTrue D.told
         → HasCause (D.state disk.old).faults (D.state disk.new).faults result }
@@ -98,7 +99,7 @@ pub(crate) fn has_mark<D: ClosedDisk>(
     mark: &ReportMark,
 ) -> Result<bool, ClosingStop>
     ensures value { IsTrue D.told → IfOk result (λ has.
-        has ≡ is_mark mark.now (summary_of (D.bytes report.now))) }
+        has ≡ is_mark mark.now (summary_of (D.Report.bytes report.now))) }
     ensures still { IsTrue D.told → Still (D.state disk.old) (D.state disk.new) }
     ensures cause { IsTrue D.told
         → HasCause (D.state disk.old).faults (D.state disk.new).faults result }

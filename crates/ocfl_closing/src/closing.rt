@@ -5,13 +5,12 @@
 
 ghost use Rattle.std.proofs.lemmas.Bool.{false≢true};
 
-use crate::comparing::{
-    checked_reader, gone_report, refuse_changed_pair, refuse_read, uncompared, uncounted,
-};
+use crate::comparing::{changed_report, gone_report, refuse_changed_pair, uncompared, uncounted};
 use crate::naming::paths_of;
 use ocfl_accounts::{ClosingStop, Pair, find_unsaid, say_cycles};
 use ocfl_closed::{
-    Account, ClosedDisk, DiskClosings, Paths, SaidWith, compared, compared_whole, count_of,
+    Account, ClosedDisk, DiskClosings, OpenReport, Paths, SaidWith, compared, compared_whole,
+    count_of,
 };
 use ocfl_compare::CompareStop;
 use ocfl_disk::StateFile;
@@ -24,7 +23,6 @@ use ocfl_kept::room::Room;
 use ocfl_kept::state::failed_folder;
 use ocfl_kept::state_dir::Folder;
 use ocfl_messages::{ClosingRow, LogRow, log_line};
-use ocfl_reading::checking::Checking;
 use ocfl_reading::expected::{Listed, read_expected};
 use ocfl_report::Line;
 use ocfl_say::Speaking;
@@ -154,6 +152,14 @@ struct Opened {
     whole: bool,
 }
 
+impl OpenReport for Opened {
+    ghost short = { λ told report. absurd (false≢true told) };
+
+    fn read_at(&self, start: u64, buffer: &mut [u8]) -> io::Result<usize> {
+        self.file.read_at(buffer, start)
+    }
+}
+
 /// That an open report could not be read.
 fn failed_report(alloc: Global, state: &str, report: &Opened, error: &io::Error) -> Failure {
     match report_path(alloc, state, report.cycle, report.whole) {
@@ -255,21 +261,6 @@ impl<R: Room + Clock, F: Folder> Telling<'_, '_, R, F> {
         }
     }
 
-    /// Opens a closed report to read all of it.
-    fn open_checked(
-        &mut self,
-        cycle: u64,
-        whole: bool,
-        checks: bool,
-    ) -> Result<Option<BufReader<Checking>>, Failure> {
-        let Some(report) = self.open_named(cycle, whole)? else {
-            return Ok(None);
-        };
-        let Opened { file, .. } = report;
-        let (alloc, state) = (self.rt.global(), self.told.about.names.state);
-        Ok(Some(checked_reader(alloc, self.folder, state, cycle, file, checks)?))
-    }
-
     /// Opens the closed report of a cycle that has the name of a whole one, or of one that is not.
     fn open_named(&mut self, cycle: u64, whole: bool) -> Result<Option<Opened>, Failure> {
         match self.folder.closed_report_as(cycle, whole) {
@@ -320,13 +311,11 @@ impl<R: Room + Clock, F: Folder> Telling<'_, '_, R, F> {
 impl<R: Room + Clock + Eprint, F: Folder> ClosedDisk for Telling<'_, '_, R, F> {
     type Report = Opened;
 
-    type Reader = BufReader<Checking>;
-
     type List = File;
 
     type Rows = BufReader<File>;
 
-    ghost short = { λ told report. absurd (false≢true told) };
+    ghost reports = { λ told. absurd (false≢true told) };
 
     ghost is_disk = { λ told disk. absurd (false≢true told) };
 
@@ -339,32 +328,6 @@ impl<R: Room + Clock + Eprint, F: Folder> ClosedDisk for Telling<'_, '_, R, F> {
 
     fn open_report(&mut self, cycle: u64, whole: bool) -> Result<Option<Opened>, ClosingStop> {
         let found = self.open_named(cycle, whole);
-        self.keep(found)
-    }
-
-    fn read_at(
-        &mut self,
-        report: &Opened,
-        start: u64,
-        buffer: &mut [u8],
-    ) -> Result<usize, ClosingStop> {
-        match report.file.read_at(buffer, start) {
-            Ok(count) => Ok(count),
-            Err(error) => {
-                let state = self.told.about.names.state;
-                self.failure = Some(failed_report(self.rt.global(), state, report, &error));
-                Err(ClosingStop::Failed)
-            }
-        }
-    }
-
-    fn open_reader(
-        &mut self,
-        cycle: u64,
-        whole: bool,
-        checks: bool,
-    ) -> Result<Option<BufReader<Checking>>, ClosingStop> {
-        let found = self.open_checked(cycle, whole, checks);
         self.keep(found)
     }
 
@@ -389,29 +352,19 @@ impl<R: Room + Clock + Eprint, F: Folder> ClosedDisk for Telling<'_, '_, R, F> {
         ClosingStop::Failed
     }
 
-    fn end_readers(
-        &mut self,
-        pair: &Pair,
-        before: u64,
-        earlier: BufReader<Checking>,
-        now: BufReader<Checking>,
-    ) -> Result<(), ClosingStop> {
-        let (earlier, now) = (earlier.get_ref(), now.get_ref());
-        self.keep(refuse_read(self.rt.global(), pair, before, earlier, now))
+    fn refuse_report(&mut self, report: &Opened, error: io::Error) -> ClosingStop {
+        let state = self.told.about.names.state;
+        self.failure = Some(failed_report(self.rt.global(), state, report, &error));
+        ClosingStop::Failed
     }
 
-    fn refuse_readers(
+    fn refuse_reports(
         &mut self,
         pair: &Pair,
         before: u64,
         stop: CompareStop,
-        earlier: BufReader<Checking>,
-        now: BufReader<Checking>,
+        error: Option<io::Error>,
     ) -> ClosingStop {
-        let error = match stop {
-            CompareStop::BeforeFailed => earlier.get_ref().error(),
-            _ => now.get_ref().error(),
-        };
         let (alloc, state) = (self.rt.global(), self.told.about.names.state);
         self.failure = Some(match refuse_changed_pair(alloc, self.folder, state, pair) {
             Ok(()) => uncompared(alloc, pair.closed.cycle(), before, stop, error),
@@ -420,14 +373,19 @@ impl<R: Room + Clock + Eprint, F: Folder> ClosedDisk for Telling<'_, '_, R, F> {
         ClosingStop::Failed
     }
 
+    fn refuse_changed(&mut self, pair: &Pair, before: u64) -> ClosingStop {
+        let (cycle, last) = (pair.closed.cycle(), compared(pair));
+        self.failure = Some(changed_report(self.rt.global(), cycle, last, before));
+        ClosingStop::Failed
+    }
+
     fn refuse_search(
         &mut self,
         cycle: u64,
         before: u64,
         stop: CompareStop,
-        report: BufReader<Checking>,
+        error: Option<io::Error>,
     ) -> ClosingStop {
-        let error = report.get_ref().error();
         self.failure = Some(uncompared(self.rt.global(), cycle, before, stop, error));
         ClosingStop::Failed
     }

@@ -4,13 +4,11 @@ use ocfl_accounts::Pair;
 use ocfl_closed::compared;
 use ocfl_compare::CompareStop;
 use ocfl_files::failing::Failure;
-use ocfl_kept::kept::{is_as_closed, read_kept};
+use ocfl_kept::kept::is_as_closed;
 use ocfl_kept::state_dir::Folder;
 use ocfl_messages::Shown;
-use ocfl_reading::checking::{Checking, ClosedCheck, report_reader};
 use std::alloc::{AllocError, Global};
-use std::fs::File;
-use std::io::{self, BufReader};
+use std::io;
 
 /// Why a comparison stopped, with the words of the reader that failed.
 fn words_of(
@@ -43,34 +41,6 @@ pub(crate) fn uncompared(
     }
 }
 
-/// By what the closed report of a cycle is checked while it is read.
-fn check_of<F: Folder>(
-    alloc: Global,
-    folder: &mut F,
-    state: &str,
-    cycle: u64,
-    checks: bool,
-) -> Result<ClosedCheck, Failure> {
-    if !checks {
-        return Ok(ClosedCheck::Unchecked);
-    }
-    let kept = read_kept(alloc, folder, state, cycle)?;
-    Ok(ClosedCheck::by(&kept))
-}
-
-/// A reader of an opened report of a cycle, which checks what it reads or does not.
-pub(crate) fn checked_reader<F: Folder>(
-    alloc: Global,
-    folder: &mut F,
-    state: &str,
-    cycle: u64,
-    file: File,
-    checks: bool,
-) -> Result<BufReader<Checking>, Failure> {
-    let check = check_of(alloc, folder, state, cycle, checks)?;
-    Ok(report_reader(alloc, file, check)?)
-}
-
 /// That the report of a cycle which is to be read is not there.
 pub(crate) fn gone_report(alloc: Global, state: &str, cycle: u64) -> Failure {
     Failure::saying(format!(in alloc;
@@ -80,30 +50,11 @@ pub(crate) fn gone_report(alloc: Global, state: &str, cycle: u64) -> Failure {
 }
 
 /// That the report of a cycle, one of a pair, was changed since it was closed.
-fn changed_report(alloc: Global, cycle: u64, before: u64, changed: u64) -> Failure {
+pub(crate) fn changed_report(alloc: Global, cycle: u64, before: u64, changed: u64) -> Failure {
     Failure::saying(format!(in alloc;
         "the report of cycle {cycle} was not compared with that of cycle {before}: that of \
          cycle {changed} was changed since it was closed\n"
     ))
-}
-
-/// Refuses the report of a pair, or that of a cycle before, if it was read to its end and is not as
-/// it was closed. One that was not checked counts as it was.
-pub(crate) fn refuse_read(
-    alloc: Global,
-    pair: &Pair,
-    before: u64,
-    earlier: &Checking,
-    now: &Checking,
-) -> Result<(), Failure> {
-    let cycle = pair.closed.cycle();
-    if !earlier.is_as_closed() {
-        return Err(changed_report(alloc, cycle, compared(pair), before));
-    }
-    if !now.is_as_closed() {
-        return Err(changed_report(alloc, cycle, before, cycle));
-    }
-    Ok(())
 }
 
 /// Refuses the report of a cycle, one of a pair, that is not as it was closed.

@@ -2,7 +2,6 @@
 //! the findings of a closed report, and what changed in it.
 #![tactic(auto)]
 
-pub mod checking;
 pub mod expected;
 pub mod known;
 mod refusing;

@@ -1,15 +1,14 @@
 //! What is there of closed cycles on a disk, and in which order the calls are made that put a list.
 ghost use Rattle.std.proofs.lemmas.Bool.{false≢true};
 
+use crate::tests::common::closed_reports::{MemReport, closed_with, mark_of};
 use crate::tests::common::store::place_of;
 use ocfl_accounts::{ClosedCycle, ClosingStop, Closings, Look, Pair};
 use ocfl_closed::{Account, ClosedDisk, DiskClosings, Paths, SaidWith, look_at};
 use ocfl_compare::CompareStop;
-use ocfl_cursor::{Cursor as AuditCursor, State};
 use ocfl_messages::Known;
-use ocfl_state::{Checkpoint, Left, Phase, ReportMark, RootIdentity, TopNames, encode_checkpoint};
+use ocfl_state::{Left, ReportMark};
 use ocfl_tree::Place;
-use sha2::{Digest, Sha256};
 use std::alloc::Global;
 use std::io::{self, Cursor};
 use std::test::Fail;
@@ -69,15 +68,13 @@ impl OneCycle {
 }
 
 impl ClosedDisk for OneCycle {
-    type Report = Vec<u8>;
-
-    type Reader = Cursor<Vec<u8>>;
+    type Report = MemReport;
 
     type List = Vec<u8>;
 
     type Rows = Cursor<Vec<u8>>;
 
-    ghost short = { λ told report. absurd (false≢true told) };
+    ghost reports = { λ told. absurd (false≢true told) };
 
     ghost is_disk = { λ told disk. absurd (false≢true told) };
 
@@ -85,39 +82,14 @@ impl ClosedDisk for OneCycle {
         Ok(cycle == 2)
     }
 
-    fn open_report(&mut self, _cycle: u64, whole: bool) -> Result<Option<Vec<u8>>, ClosingStop> {
+    fn open_report(&mut self, _cycle: u64, whole: bool) -> Result<Option<MemReport>, ClosingStop> {
         let is_there = if whole { self.whole } else { self.incomplete };
         if !is_there {
             return Ok(None);
         }
         match Vec::from_slice(self.alloc, REPORT) {
-            Ok(report) => Ok(Some(report)),
+            Ok(bytes) => Ok(Some(MemReport { bytes })),
             Err(_) => Err(ClosingStop::Memory),
-        }
-    }
-
-    /// Gives at most 5 bytes.
-    fn read_at(
-        &mut self,
-        report: &Vec<u8>,
-        start: u64,
-        buffer: &mut [u8],
-    ) -> Result<usize, ClosingStop> {
-        let from = (start as usize).min(report.len());
-        let count = (report.len() - from).min(5).min(buffer.len());
-        buffer[..count].copy_from_slice(&report[from..from + count]);
-        Ok(count)
-    }
-
-    fn open_reader(
-        &mut self,
-        cycle: u64,
-        whole: bool,
-        _checks: bool,
-    ) -> Result<Option<Cursor<Vec<u8>>>, ClosingStop> {
-        match self.open_report(cycle, whole)? {
-            Some(report) => Ok(Some(Cursor::new(report))),
-            None => Ok(None),
         }
     }
 
@@ -125,24 +97,21 @@ impl ClosedDisk for OneCycle {
         ClosingStop::Failed
     }
 
-    fn end_readers(
-        &mut self,
-        _pair: &Pair,
-        _before: u64,
-        _earlier: Cursor<Vec<u8>>,
-        _now: Cursor<Vec<u8>>,
-    ) -> Result<(), ClosingStop> {
-        Ok(())
+    fn refuse_report(&mut self, _report: &MemReport, _error: io::Error) -> ClosingStop {
+        ClosingStop::Failed
     }
 
-    fn refuse_readers(
+    fn refuse_reports(
         &mut self,
         _pair: &Pair,
         _before: u64,
         _stop: CompareStop,
-        _earlier: Cursor<Vec<u8>>,
-        _now: Cursor<Vec<u8>>,
+        _error: Option<io::Error>,
     ) -> ClosingStop {
+        ClosingStop::Failed
+    }
+
+    fn refuse_changed(&mut self, _pair: &Pair, _before: u64) -> ClosingStop {
         ClosingStop::Failed
     }
 
@@ -167,7 +136,7 @@ impl ClosedDisk for OneCycle {
         _cycle: u64,
         _before: u64,
         _stop: CompareStop,
-        _report: Cursor<Vec<u8>>,
+        _error: Option<io::Error>,
     ) -> ClosingStop {
         ClosingStop::Failed
     }
@@ -251,33 +220,11 @@ fn bytes_of(alloc: Global, kept: Kept) -> Result<Option<Vec<u8>>, Fail> {
             after: None,
         })?;
     }
-    let lines = if is_right { REPORT } else { &REPORT[7..] };
     let mark = ReportMark {
-        bytes: REPORT.len() as u64,
-        lines: 2,
-        pieces: [0; 32],
-        tail: Sha256::digest(lines),
+        tail: mark_of(if is_right { REPORT } else { &REPORT[7..] }).tail,
+        ..mark_of(REPORT)
     };
-    Ok(Some(encode_checkpoint(
-        alloc,
-        &Checkpoint {
-            root: RootIdentity {
-                path: place_of(alloc, "srv/ocfl")?,
-                declared: [0x11; 32],
-            },
-            names: TopNames {
-                count: 3,
-                digest: [0xAB; 32],
-            },
-            phase: Phase::Closing,
-            whole,
-            report: mark,
-            told: 0,
-            left,
-            part: None,
-            cursor: AuditCursor::from_parts(1, 1, 4, 1, State::Ended).ok_or("a cursor")?,
-        },
-    )?))
+    Ok(Some(closed_with(alloc, mark, whole, left)?))
 }
 
 /// What is there: which reports, what was kept, and whether one is compressed; and what is seen:

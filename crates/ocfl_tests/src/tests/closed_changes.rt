@@ -1,6 +1,7 @@
 //! What changed in a closed cycle by its files on a disk, and the list of what is gone.
 ghost use Rattle.std.proofs.lemmas.Bool.{false≢true};
 
+use crate::tests::common::closed_reports::{MemReport, closed_with, mark_of};
 use crate::tests::common::store::place_of;
 use ocfl_accounts::{ClosedCycle, ClosingStop, Pair};
 use ocfl_closed::{Account, ClosedDisk, Paths, SaidWith, Told, find_changes};
@@ -15,6 +16,10 @@ use std::test::Fail;
 /// The reports of cycles: the cycle, whether the report is whole, and its lines.
 type Reports = &'static [(u64, bool, &'static str)];
 
+/// The cycles of whose closing something was kept: the checkpoint of a report with these lines, or
+/// other bytes.
+type Kept = &'static [(u64, Option<&'static str>)];
+
 /// Reports in memory, and the objects that must be there; none if they are not listed.
 struct ReportsOn {
     alloc: Global,
@@ -22,6 +27,8 @@ struct ReportsOn {
     listed: Option<&'static [&'static str]>,
     /// The list of what is gone at the end of cycle 1.
     rows: &'static str,
+    /// What was kept of the closings of cycles.
+    kept: Kept,
     /// What was called.
     calls: String,
     list: Vec<u8>,
@@ -34,6 +41,7 @@ impl Drop for ReportsOn {
             reports: _reports,
             listed: _listed,
             rows: _rows,
+            kept: _kept,
             calls: _calls,
             list: _list,
         } = self;
@@ -66,16 +74,32 @@ impl ReportsOn {
     }
 }
 
-impl ClosedDisk for ReportsOn {
-    type Report = ();
+impl ReportsOn {
+    /// The bytes of what was kept.
+    fn kept_of(&self, lines: Option<&str>) -> Result<Option<Vec<u8>>, ClosingStop> {
+        let Some(lines) = lines else {
+            return Ok(Some(kept(Vec::from_slice(self.alloc, b"no checkpoint".as_slice()))?));
+        };
+        match closed_with(
+            self.alloc,
+            mark_of(lines.as_bytes()),
+            true,
+            Vec::new(self.alloc),
+        ) {
+            Ok(bytes) => Ok(Some(bytes)),
+            Err(_) => Err(ClosingStop::Failed),
+        }
+    }
+}
 
-    type Reader = Cursor<Vec<u8>>;
+impl ClosedDisk for ReportsOn {
+    type Report = MemReport;
 
     type List = Vec<u8>;
 
     type Rows = Cursor<Vec<u8>>;
 
-    ghost short = { λ told report. absurd (false≢true told) };
+    ghost reports = { λ told. absurd (false≢true told) };
 
     ghost is_disk = { λ told disk. absurd (false≢true told) };
 
@@ -99,58 +123,35 @@ impl ClosedDisk for ReportsOn {
         })
     }
 
-    fn open_report(&mut self, _cycle: u64, _whole: bool) -> Result<Option<()>, ClosingStop> {
-        Ok(None)
-    }
-
-    fn read_at(
-        &mut self,
-        _report: &(),
-        _start: u64,
-        _buffer: &mut [u8],
-    ) -> Result<usize, ClosingStop> {
-        Ok(0)
-    }
-
-    fn open_reader(
-        &mut self,
-        cycle: u64,
-        whole: bool,
-        checks: bool,
-    ) -> Result<Option<Cursor<Vec<u8>>>, ClosingStop> {
+    fn open_report(&mut self, cycle: u64, whole: bool) -> Result<Option<MemReport>, ClosingStop> {
         let Some(lines) = self.report(cycle, whole) else {
             return Ok(None);
         };
-        let mark = if checks { "checked " } else { "" };
-        let _ = self.note(format!(in self.alloc; "{mark}{cycle};"));
+        let _ = self.note(format!(in self.alloc; "{cycle};"));
         let bytes = kept(Vec::from_slice(self.alloc, lines.as_bytes()))?;
-        Ok(Some(Cursor::new(bytes)))
+        Ok(Some(MemReport { bytes }))
     }
 
     fn miss_report(&mut self, cycle: u64) -> ClosingStop {
         self.note(format!(in self.alloc; "no {cycle};"))
     }
 
-    fn end_readers(
-        &mut self,
-        _pair: &Pair,
-        before: u64,
-        _earlier: Cursor<Vec<u8>>,
-        _now: Cursor<Vec<u8>>,
-    ) -> Result<(), ClosingStop> {
-        let _ = self.note(format!(in self.alloc; "since {before};"));
-        Ok(())
+    fn refuse_report(&mut self, _report: &MemReport, error: io::Error) -> ClosingStop {
+        self.note(format!(in self.alloc; "{error};"))
     }
 
-    fn refuse_readers(
+    fn refuse_reports(
         &mut self,
         _pair: &Pair,
         before: u64,
         stop: CompareStop,
-        _earlier: Cursor<Vec<u8>>,
-        _now: Cursor<Vec<u8>>,
+        _error: Option<io::Error>,
     ) -> ClosingStop {
         self.note(format!(in self.alloc; "{before}: {stop};"))
+    }
+
+    fn refuse_changed(&mut self, _pair: &Pair, before: u64) -> ClosingStop {
+        self.note(format!(in self.alloc; "changed {before};"))
     }
 
     fn refuse_search(
@@ -158,7 +159,7 @@ impl ClosedDisk for ReportsOn {
         _cycle: u64,
         _before: u64,
         stop: CompareStop,
-        _report: Cursor<Vec<u8>>,
+        _error: Option<io::Error>,
     ) -> ClosingStop {
         self.note(format!(in self.alloc; "{stop};"))
     }
@@ -184,7 +185,13 @@ impl ClosedDisk for ReportsOn {
         Ok(Some(places))
     }
 
-    fn kept_checkpoint(&mut self, _cycle: u64) -> Result<Option<Vec<u8>>, ClosingStop> {
+    fn kept_checkpoint(&mut self, cycle: u64) -> Result<Option<Vec<u8>>, ClosingStop> {
+        let _ = self.note(format!(in self.alloc; "kept {cycle};"));
+        for (number, lines) in self.kept {
+            if *number == cycle {
+                return self.kept_of(*lines);
+            }
+        }
         Ok(None)
     }
 
@@ -311,7 +318,7 @@ const ROWS: [Row; 11] = [
         rows: "",
         known: "z",
         compared: SINCE_2,
-        calls: "list 3;checked 2;checked 3;since 2;",
+        calls: "list 3;2;kept 2;3;kept 3;kept 3;",
         list: "object\to\nfile\tp/v1/content/a\nobject\tq\n",
         text: "Cycle 3 ended: 0 of 0 files right, 1 object, 0 bytes.\n\
                Nothing new, 3 objects and files gone since cycle 2.\n\
@@ -330,7 +337,7 @@ const ROWS: [Row; 11] = [
         rows: "",
         known: "z",
         compared: SINCE_2,
-        calls: "list 3;checked 2;checked 3;since 2;",
+        calls: "list 3;2;kept 2;3;kept 3;kept 3;",
         list: "object\to\nfile\tp/v1/content/a\nobject\tq\n",
         text: "Cycle 3 ended: 0 of 0 files right, 1 object, 0 bytes.\n\
                Nothing new, 3 objects and files gone since cycle 2.\n\
@@ -344,7 +351,7 @@ const ROWS: [Row; 11] = [
         rows: "",
         known: "q",
         compared: SINCE_2,
-        calls: "list 3;checked 2;checked 3;since 2;",
+        calls: "list 3;2;kept 2;3;kept 3;kept 3;",
         list: "",
         text: "Cycle 3 ended: 1 of 1 file right, 3 objects, 0 bytes.\n\
                Nothing new, nothing gone since cycle 2.\n",
@@ -356,7 +363,7 @@ const ROWS: [Row; 11] = [
         rows: "",
         known: "p",
         compared: SINCE_2,
-        calls: "list 3;checked 2;checked 3;since 2;",
+        calls: "list 3;2;kept 2;3;kept 3;kept 3;",
         list: "",
         text: "Cycle 3 ended: 1 of 1 file right, 3 objects, 0 bytes.\n\
                1 new finding, nothing gone since cycle 2.\n\
@@ -369,7 +376,7 @@ const ROWS: [Row; 11] = [
         rows: "",
         known: "p",
         compared: SINCE_2,
-        calls: "list 3;checked 2;checked 3;since 2;",
+        calls: "list 3;2;kept 2;3;kept 3;kept 3;",
         list: "",
         text: "Cycle 3 ended: 1 of 1 file right, 3 objects, 0 bytes.\n\
                Nothing new, nothing gone since cycle 2.\n\
@@ -382,7 +389,7 @@ const ROWS: [Row; 11] = [
         rows: "object\to\nfile\tp/v1/content/a\nundeclared\tq\nobject\tr\n",
         known: "p",
         compared: SINCE_2,
-        calls: "list 3;checked 2;checked 3;since 2;2;3;",
+        calls: "list 3;2;kept 2;3;kept 3;kept 3;2;3;",
         list: "",
         text: "Cycle 3 ended: 1 of 1 file right, 3 objects, 0 bytes.\n\
                Nothing new, nothing gone since cycle 2.\n\
@@ -401,7 +408,7 @@ const ROWS: [Row; 11] = [
             whole: 0,
             lost: false,
         },
-        calls: "list 3;checked 2;checked 3;since 2;",
+        calls: "list 3;2;kept 2;3;kept 3;kept 3;",
         list: "object\to\n",
         text: "Cycle 3 ended, but its report is incomplete: /s/now\n\
                In it: 0 of 0 files right, 1 object, 0 bytes.\n\
@@ -425,7 +432,7 @@ const ROWS: [Row; 11] = [
             whole: 1,
             lost: false,
         },
-        calls: "list 3;checked 2;checked 3;since 2;checked 1;3;since 1;3;",
+        calls: "list 3;2;kept 2;3;kept 3;1;kept 1;3;kept 3;3;",
         list: "object\tq\n",
         text: "Cycle 3 ended: 0 of 0 files right, 1 object, 0 bytes.\n\
                Nothing new, 1 object or file gone since cycle 2.\n\
@@ -444,7 +451,7 @@ const ROWS: [Row; 11] = [
             whole: 0,
             lost: false,
         },
-        calls: "list 3;3;3;",
+        calls: "list 3;3;kept 3;3;",
         list: "expected\tn\nexpected\tq\n",
         text: "Cycle 3 ended: 0 of 0 files right, 1 object, 0 bytes.\n\
                Not compared.\n\
@@ -460,7 +467,7 @@ const ROWS: [Row; 11] = [
         rows: "",
         known: "z",
         compared: SINCE_2,
-        calls: "list 3;checked 2;checked 3;since 2;3;",
+        calls: "list 3;2;kept 2;3;kept 3;3;kept 3;",
         list: "",
         text: "Cycle 3 ended: 1 of 1 file right, 3 objects, 0 bytes.\n\
                Nothing new, nothing gone since cycle 2.\n",
@@ -478,7 +485,7 @@ const ROWS: [Row; 11] = [
             whole: 0,
             lost: true,
         },
-        calls: "list 3;",
+        calls: "list 3;kept 3;",
         list: "",
         text: "What is new or gone since the last report is not known: \
                lines of this report were lost\n",
@@ -492,6 +499,7 @@ fn disk_of(alloc: Global, row: &Row) -> ReportsOn {
         reports: row.reports,
         listed: row.listed,
         rows: row.rows,
+        kept: &[],
         calls: String::new(alloc),
         list: Vec::new(alloc),
     }
@@ -543,10 +551,10 @@ fn changes_are_those_of_the_right_reports(rt: HostRuntime) -> Result<(), Fail> {
 /// Reports that cannot be compared, and the calls until then.
 const STOPS: [(Reports, &str); 3] = [
     (&[(3, true, ONE)], "list 3;no 2;"),
-    (&[(2, true, ONE)], "list 3;checked 2;no 3;"),
+    (&[(2, true, ONE)], "list 3;2;kept 2;no 3;"),
     (
         &[(2, true, ONE), (3, true, "ok\n")],
-        "list 3;checked 2;checked 3;2: bad report: line 1;",
+        "list 3;2;kept 2;3;kept 3;2: bad report: line 1;",
     ),
 ];
 
@@ -568,6 +576,76 @@ fn what_is_not_compared_is_not_said(rt: HostRuntime) -> Result<(), Fail> {
         let mut disk = disk_of(alloc, &row);
         assert!(rt; find(alloc, &mut disk, &row)?.is_err(), "{calls}");
         assert_eq!(rt; disk.calls.as_str(), calls);
+    }
+    Ok(())
+}
+
+/// What was kept of cycles, which cycles are compared, and the calls of those that are refused.
+const CHANGED: [(Kept, Compared, &str); 7] = [
+    (&[(2, Some(THREE)), (3, Some(ONE))], SINCE_2, ""),
+    (
+        &[(2, Some(ONE)), (3, Some(ONE))],
+        SINCE_2,
+        "list 3;2;kept 2;3;kept 3;changed 2;",
+    ),
+    (
+        &[(2, None), (3, Some(ONE))],
+        SINCE_2,
+        "list 3;2;kept 2;3;kept 3;changed 2;",
+    ),
+    (
+        &[(2, Some(THREE)), (3, Some(THREE))],
+        SINCE_2,
+        "list 3;2;kept 2;3;kept 3;2: report failed;",
+    ),
+    (
+        &[(3, None)],
+        SINCE_2,
+        "list 3;2;kept 2;3;kept 3;2: report failed;",
+    ),
+    (
+        &[(1, Some(THREE)), (2, Some(THREE)), (3, Some(ONE))],
+        SINCE_1_AND_2,
+        "",
+    ),
+    (
+        &[(1, Some(ONE)), (2, Some(THREE)), (3, Some(ONE))],
+        SINCE_1_AND_2,
+        "list 3;2;kept 2;3;kept 3;1;kept 1;3;changed 1;",
+    ),
+];
+
+/// Cycle 3 since cycle 2, and since the whole cycle 1 in what that one left out.
+const SINCE_1_AND_2: Compared = Compared {
+    left: &[],
+    before: 2,
+    left_before: &["q"],
+    whole: 1,
+    lost: false,
+};
+
+#[test]
+fn a_report_that_is_not_as_it_was_closed_is_not_compared(rt: HostRuntime) -> Result<(), Fail> {
+    let alloc = rt.alloc();
+    for (index, (kept, compared, calls)) in CHANGED.iter().enumerate() {
+        let row = Row {
+            reports: &[(1, true, THREE), (2, true, THREE), (3, true, ONE)],
+            listed: None,
+            rows: "",
+            known: "z",
+            compared: *compared,
+            calls: *calls,
+            list: "",
+            text: "",
+            is_grave: false,
+        };
+        let mut disk = disk_of(alloc, &row);
+        disk.kept = *kept;
+        let found = find(alloc, &mut disk, &row)?;
+        assert_eq!(rt; found.is_ok(), calls.is_empty(), "{index}");
+        if found.is_err() {
+            assert_eq!(rt; disk.calls.as_str(), *calls, "{index}");
+        }
     }
     Ok(())
 }

@@ -4,6 +4,7 @@ use std::process::Abort;
 use std::test::Fail;
 
 pub mod changes;
+pub mod closed_reports;
 pub mod cursors;
 pub mod digests;
 mod fixtures;

@@ -9,7 +9,7 @@ returns-then-count-eq0-clause-carried g c = λ told begun.
 
 pub returns-clause-carried : goal.returns-clause-carried
 returns-clause-carried g c = λ told begun.
-    let short = g.met.D.ClosedDisk.short told c.args.report.now in
+    let short = g.met.D.Report.OpenReport.short (g.met.D.ClosedDisk.reports told) c.args.report.now in
     let within = c.loop-start.invariant.within told begun in
     let over = c.loop-start-test.false in
     absurd (omega (arith, short, within, over))

@@ -10,8 +10,8 @@ invariant-loop-start g l =
     record {
       still : IsTrue D.told → Still (D.state l.fn.disk) (D.state l.disk);
       faults : IsTrue D.told → (D.state l.fn.disk).faults ≤ (D.state l.disk).faults;
-      within : IsTrue D.told → Carries l.fn.digests [] → l.start ≤ length (D.bytes l.report);
-      carries : IsTrue D.told → Carries l.fn.digests [] → Carries l.digests (take l.start (D.bytes l.report));
+      within : IsTrue D.told → Carries l.fn.digests [] → l.start ≤ length (g.D.Report.OpenReport.bytes l.report);
+      carries : IsTrue D.told → Carries l.fn.digests [] → Carries l.digests (take l.start (g.D.Report.OpenReport.bytes l.report));
     }
 
 abbrev pub decreases-loop-start : goal.decreases-loop-start

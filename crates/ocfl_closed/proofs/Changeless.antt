@@ -1,5 +1,5 @@
 -- Reports that are as they were closed.
-use Rattle.std.proofs.Common.{◌≡◌, true, Option, Some, None, refl, sym, subst, eq-eqb}
+use Rattle.std.proofs.Common.{◌≡◌, true, Some, None, refl, sym, subst, eq-eqb}
 use Rattle.ocfl_accounts.specs.{Cycle.{Cycle}, declared.pair.Pair.{Pair}}
 use Rattle.ocfl_closed.specs.{Files.{Files}, Unchanged.{IsBeforeUnchanged, IsSinceUnchanged, IsUnchangedSince, is_number}}
 

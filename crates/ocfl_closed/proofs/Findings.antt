@@ -1,23 +1,25 @@
 -- Which changes were taken of a closed cycle.
 use Rattle.std.proofs.Common.{◌≡◌, ℕ, List, [], ◌++◌, map, Bool, true, false, Option, Some, None, Result, OnOk, IfSome, Vec, Global, refl, sym, ap, subst, ◌∙◌}
-use Rattle.std.specs.{Prelude.{All, filter, ◌||◌}, List.{list_any}, Option.{option_map}, Io.KnownBytes.{Appends}}
-use Rattle.std.proofs.{KnownBytes.{Appends-nil}, lemmas.Bool.{false≢true}, lemmas.List.{map-append}, lemmas.List.Elements.{All-append, All-nil}, lemmas.List.Folds.{list_any-append}}
+use Rattle.std.specs.{Prelude.{filter, ◌||◌}, List.{list_any}, Option.{option_map}, Io.KnownBytes.{Appends}}
+use Rattle.std.proofs.{KnownBytes.{Appends-nil}, lemmas.Bool.{false≢true}, lemmas.List.{map-append}, lemmas.List.Folds.{list_any-append}}
 use Rattle.ocfl_tree.specs.Place.{Text, Place}
-use Rattle.ocfl_compare.specs.{Changes.{is_left}, Seen.{Seen, changes_in, changes_seen}, Compared.{IsCompared}, Expected.{IsSearched, missing, missing_objects}, Gone.{gone_text}}
+use Rattle.ocfl_compare.specs.{Changes.{comparison, is_left}, Seen.{Seen, changes_in, changes_seen}, Compared.{IsCompared}, Expected.{IsSearched, missing, missing_objects}, Gone.{gone_text}}
 use Rattle.ocfl_compare.specs.declared.change.ChangeAt.{ChangeAt}
 use Rattle.ocfl_compare.specs.Internal.Gones.{texts_joined}
 use Rattle.ocfl_accounts.specs.{Cycle.{Cycle}, Kept.{Kept, no_accounts}, declared.pair.Pair.{Pair}}
-use Rattle.ocfl_accounts.specs.Changes.{IsSince, IsSinceWhole, IsMissing, AreFound, AreChanges, Finds}
-use Rattle.ocfl_words.specs.Counted.{AreCounted, Noted, changes_of, counted, is_news}
+use Rattle.ocfl_accounts.specs.Changes.{IsSince, IsSinceWhole, IsMissing, AreFound, Finds}
+use Rattle.ocfl_messages.specs.declared.known.KnownEntry.{KnownEntry}
+use Rattle.ocfl_words.specs.{Counted.{AreCounted, counted, is_news}, Kept.{none_kept, noted_from}, Noted.{Noted, changes_of, noted_in}}
 use Rattle.ocfl_words.specs.declared.changes.Changes.{Changes}
-use Rattle.ocfl_closed.specs.{Files.{Files, kept_of}, Internal.{AllTaken, Took, Takes.{changes_within, within}}, Taken.{HasTaken, IsMarked, Stand}}
-use Rattle.ocfl_closed.specs.Words.{AreOf, AreParts, Beside, HasText, Parts, all_of, counted_in, no_parts, said_beside}
+use Rattle.ocfl_closed.specs.{Files.{Files, kept_of}, Internal.{AllTaken, Took, SeenOf.{IsSeenMissing, IsSeenSince, IsSeenSinceWhole}, Takes.{within}}, Taken.{HasTaken, Stand}}
+use Rattle.ocfl_closed.specs.Words.{AreOf, AreParts, AreSince, AreSinceWhole, Beside, HasText, Parts, all_of, counted_in, no_finding, no_parts, said_beside}
+use Rattle.ocfl_closed.proofs.NotedIn.{all_compared, changes_noted, changes_of_no_findings, changes_of_noted, changes_of_within, changes_seen_all, noted_missing, noted_whole, noted_within}
 
 pub since_of : (k : Kept) (now before : Cycle) (left : List Place) (Taken : List Seen → Type 0) → left ≡ now.left ++ before.left
-    → IsCompared left (k.reports before.cycle) (k.reports now.cycle) Taken → Took (IsSince k now (Some before)) Taken
+    → IsCompared left (k.reports before.cycle) (k.reports now.cycle) Taken → Took (IsSeenSince k now (Some before)) Taken
 since_of k now before left Taken e c = by (subst (λ l. IsCompared l (k.reports before.cycle) (k.reports now.cycle) Taken) e c)
   where
-    by : IsCompared (now.left ++ before.left) (k.reports before.cycle) (k.reports now.cycle) Taken → Took (IsSince k now (Some before)) Taken
+    by : IsCompared (now.left ++ before.left) (k.reports before.cycle) (k.reports now.cycle) Taken → Took (IsSeenSince k now (Some before)) Taken
     by d = (_, (record { before = d.before; now = d.now; is_before = d.is_before; is_now = d.is_now; taken = refl }, d.taken))
 
 -- what was seen of two reports that were compared
@@ -25,10 +27,10 @@ compared_seen : (left : List Place) (b n : Text) (Taken : List Seen → Type 0) 
 compared_seen left b n Taken d = (_, (d.taken, record { before = d.before; now = d.now; is_before = d.is_before; is_now = d.is_now; taken = refl }))
 
 pub since_whole_of : (k : Kept) (now whole : Cycle) (again : List Place) (Taken : List Seen → Type 0)
-    → IsCompared now.left (k.reports whole.cycle) (k.reports now.cycle) (λ seen. Taken (within again seen)) → Took (IsSinceWhole k now again (Some whole)) Taken
+    → IsCompared now.left (k.reports whole.cycle) (k.reports now.cycle) (λ seen. Taken (within again seen)) → Took (IsSeenSinceWhole k now again (Some whole)) Taken
 since_whole_of k now whole again Taken d = by (compared_seen now.left (k.reports whole.cycle) (k.reports now.cycle) (λ seen. Taken (within again seen)) d)
   where
-    by : (seen : List Seen) × (Taken (within again seen) × IsCompared now.left (k.reports whole.cycle) (k.reports now.cycle) (λ s. seen ≡ s)) → Took (IsSinceWhole k now again (Some whole)) Taken
+    by : (seen : List Seen) × (Taken (within again seen) × IsCompared now.left (k.reports whole.cycle) (k.reports now.cycle) (λ s. seen ≡ s)) → Took (IsSeenSinceWhole k now again (Some whole)) Taken
     by c = (
       within again c.0,
       (
@@ -37,7 +39,7 @@ since_whole_of k now whole again Taken d = by (compared_seen now.left (k.reports
           now = c.1.1.now;
           is_before = c.1.1.is_before;
           is_now = c.1.1.is_now;
-          taken = changes_within again c.0 ∙ ap (λ s. filter (λ x. is_left again x.place) (changes_in s)) c.1.1.taken;
+          taken = ap (within again) c.1.1.taken;
         },
         c.1.0,
       ),
@@ -48,7 +50,7 @@ weaker_compared left b n P Q f d = record { before = d.before; now = d.now; is_b
 
 -- the same as the code has it
 pub since_whole_within : (k : Kept) (now whole : Cycle) (again places after left : List Place) (cycle : ℕ) (Taken : List Seen → Type 0) → left ≡ now.left → cycle ≡ whole.cycle → places ≡ again
-    → IsCompared left (k.reports cycle) (k.reports now.cycle) (λ seen. (after ≡ places) × Taken (within places seen)) → Took (IsSinceWhole k now again (Some whole)) Taken
+    → IsCompared left (k.reports cycle) (k.reports now.cycle) (λ seen. (after ≡ places) × Taken (within places seen)) → Took (IsSeenSinceWhole k now again (Some whole)) Taken
 since_whole_within k now whole again places after left cycle Taken l e p d =
     since_whole_of k now whole again Taken
     (weaker_compared now.left (k.reports whole.cycle) (k.reports now.cycle) (λ seen. (after ≡ again) × Taken (within again seen)) (λ seen. Taken (within again seen)) (λ seen h. h.1)
@@ -57,16 +59,16 @@ since_whole_within k now whole again places after left cycle Taken l e p d =
     (subst (λ x. IsCompared x (k.reports cycle) (k.reports now.cycle) (λ seen. (after ≡ places) × Taken (within places seen))) l d))))
 
 pub missing_of : (k : Kept) (now : Cycle) (listed : List Place) (Taken : List Seen → Type 0)
-    → IsSearched now.left listed (k.reports now.cycle) Taken → Took (IsMissing k now (Some listed)) Taken
+    → IsSearched now.left listed (k.reports now.cycle) Taken → Took (IsSeenMissing k now (Some listed)) Taken
 missing_of k now listed Taken s = (changes_seen (map missing (missing_objects now.left listed s.lines)), (record { lines = s.lines; report = s.report; taken = refl }, s.taken))
 
 pub none_listed : (k : Kept) (now : Cycle) (found : Option (Vec Place Global)) (listed : Option (List Place)) (Taken : List Seen → Type 0) → None ≡ found
-    → option_map (λ (places : Vec Place Global). places.items) found ≡ listed → Taken [] → Took (IsMissing k now listed) Taken
-none_listed k now found listed Taken none e taken = ([], (subst (λ l. IsMissing k now l []) (ap (option_map (λ (places : Vec Place Global). places.items)) none ∙ e) refl, taken))
+    → option_map (λ (places : Vec Place Global). places.items) found ≡ listed → Taken [] → Took (IsSeenMissing k now listed) Taken
+none_listed k now found listed Taken none e taken = ([], (subst (λ l. IsSeenMissing k now l []) (ap (option_map (λ (places : Vec Place Global). places.items)) none ∙ e) refl, taken))
 
 pub some_listed : (k : Kept) (now : Cycle) (places : List Place) (listed : Option (List Place)) (Taken : List Seen → Type 0) → Some places ≡ listed
-    → Took (IsMissing k now (Some places)) Taken → Took (IsMissing k now listed) Taken
-some_listed k now places listed Taken e took = subst (λ l. Took (IsMissing k now l) Taken) e took
+    → Took (IsSeenMissing k now (Some places)) Taken → Took (IsSeenMissing k now listed) Taken
+some_listed k now places listed Taken e took = subst (λ l. Took (IsSeenMissing k now l) Taken) e took
 
 -- what is known of the bytes of two reports, or of one
 pub both_known : {T E : Type 0} (r : Result T E) (b n : Option Text) (before now : Text) (Says : Text → Text → Type 0) → b ≡ Some before → n ≡ Some now
@@ -76,47 +78,87 @@ both_known r b n before now Says e f says = subst (λ m. OnOk r (IfSome m (λ y.
 pub one_known : {T E : Type 0} (r : Result T E) (b : Option Text) (bytes : Text) (Says : Text → Type 0) → b ≡ Some bytes → OnOk r (IfSome b Says) → OnOk r (Says bytes)
 one_known r b bytes Says e says = subst (λ m. OnOk r (IfSome m Says)) e says
 
+-- ---- what was noted of what was seen
+
+since_noted : (known : List KnownEntry) (k : Kept) (now : Cycle) (before : Option Cycle) (seen : List Seen) → IsSeenSince k now before seen → AreSince known k now before (noted_from known none_kept seen)
+since_noted known k now None seen e = ap (noted_from known none_kept) e
+since_noted known k now (Some b) seen d = record {
+  before = d.before;
+  now = d.now;
+  is_before = d.is_before;
+  is_now = d.is_now;
+  are = ap (noted_from known none_kept) d.taken ∙ noted_whole known (now.left ++ b.left) d.before d.now;
+}
+
+whole_noted : (known : List KnownEntry) (k : Kept) (now : Cycle) (again : List Place) (whole : Option Cycle) (seen : List Seen)
+    → IsSeenSinceWhole k now again whole seen → AreSinceWhole known k now again whole (noted_from known none_kept seen)
+whole_noted known k now again None seen e = ap (noted_from known none_kept) e
+whole_noted known k now again (Some w) seen d = record {
+  before = d.before;
+  now = d.now;
+  is_before = d.is_before;
+  is_now = d.is_now;
+  are = ap (noted_from known none_kept) d.taken ∙ noted_within known none_kept again (all_compared now.left d.before d.now)
+      ∙ ap (filter (λ n. is_left again n.at.place)) (noted_whole known now.left d.before d.now);
+}
+
+missing_noted : (known : List KnownEntry) (k : Kept) (now : Cycle) (listed : Option (List Place)) (seen : List Seen) → IsSeenMissing k now listed seen
+    → IsMissing k now listed (changes_of (noted_from known none_kept seen)) × (noted_from known none_kept seen ≡ map no_finding (changes_of (noted_from known none_kept seen)))
+missing_noted known k now None seen e = (ap (λ s. changes_of (noted_from known none_kept s)) e, (λ i. noted_from known none_kept (e i)) ∙ sym (λ i. map no_finding (changes_of (noted_from known none_kept (e i)))))
+missing_noted known k now (Some listed) seen s =
+    let all = map missing (missing_objects now.left listed s.lines) in
+    let is : noted_from known none_kept seen ≡ map no_finding all = ap (noted_from known none_kept) s.taken ∙ noted_missing known none_kept (missing_objects now.left listed s.lines) in (
+      record { lines = s.lines; report = s.report; taken = changes_noted known none_kept seen ∙ ap changes_in s.taken },
+      is ∙ ap (map no_finding) (sym (ap changes_of is ∙ changes_of_no_findings all)),
+    )
+
 -- ---- all that was taken
 
--- the same stand, with nothing counted in the comparison under way, after the one with the report
--- before, or after that with the last whole one
+-- the same stand, with nothing kept and counted in the comparison under way, after the one with the
+-- report before, or after that with the last whole one
 abbrev pub next_since : Changes → Stand → Stand
-next_since none s = record { list = s.list; known = s.known; noting = none; since = s.noting; whole = s.whole; is_grave = s.is_grave }
+next_since none s = record { list = s.list; known = s.known; kept = none_kept; noting = none; since = s.noting; whole = s.whole; is_grave = s.is_grave }
 
 abbrev pub next_whole : Changes → Stand → Stand
-next_whole none s = record { list = s.list; known = s.known; noting = none; since = s.since; whole = s.noting; is_grave = s.is_grave }
+next_whole none s = record { list = s.list; known = s.known; kept = none_kept; noting = none; since = s.since; whole = s.noting; is_grave = s.is_grave }
 
 -- of files that stay; between two comparisons what is counted is put aside
 pub all_found : (f g h : Files) (pair : Pair) (a b b1 c c1 d : Stand) (n1 n2 : Changes) → g ≡ f → h ≡ g → b1 ≡ next_since n1 b → c1 ≡ next_whole n2 c
-    → AreCounted a.noting (counted []) → AreCounted n1 (counted []) → AreCounted n2 (counted [])
-    → Took (IsSince (kept_of f) pair.closed pair.before) (λ seen. HasTaken a seen b) → Took (IsSinceWhole (kept_of g) pair.closed pair.again.items pair.whole) (λ seen. HasTaken b1 seen c)
-    → Took (IsMissing (kept_of h) pair.closed h.listed) (λ seen. HasTaken c1 seen d) → AllTaken (AreOf (kept_of f) pair) a d
-all_found f g h pair a b b1 c c1 d n1 n2 gf hg bb cc1 za z1 z2 since whole missing = by since
-    (subst (λ x. Took (IsSinceWhole (kept_of f) pair.closed pair.again.items pair.whole) (λ seen. HasTaken x seen c)) bb (subst (λ x. Took (IsSinceWhole (kept_of x) pair.closed pair.again.items pair.whole) (λ seen. HasTaken b1 seen c)) gf whole))
-    (subst (λ x. Took (IsMissing (kept_of f) pair.closed f.listed) (λ seen. HasTaken x seen d)) cc1 (subst (λ x. Took (IsMissing (kept_of x) pair.closed x.listed) (λ seen. HasTaken c1 seen d)) (hg ∙ gf) missing))
+    → a.kept ≡ none_kept → AreCounted a.noting (counted []) → AreCounted n1 (counted []) → AreCounted n2 (counted [])
+    → Took (IsSeenSince (kept_of f) pair.closed pair.before) (λ seen. HasTaken a seen b) → Took (IsSeenSinceWhole (kept_of g) pair.closed pair.again.items pair.whole) (λ seen. HasTaken b1 seen c)
+    → Took (IsSeenMissing (kept_of h) pair.closed h.listed) (λ seen. HasTaken c1 seen d) → AllTaken (AreOf a.known (kept_of f) pair) a d
+all_found f g h pair a b b1 c c1 d n1 n2 gf hg bb cc1 none za z1 z2 since whole missing = by since
+    (subst (λ x. Took (IsSeenSinceWhole (kept_of f) pair.closed pair.again.items pair.whole) (λ seen. HasTaken x seen c)) bb (subst (λ x. Took (IsSeenSinceWhole (kept_of x) pair.closed pair.again.items pair.whole) (λ seen. HasTaken b1 seen c)) gf whole))
+    (subst (λ x. Took (IsSeenMissing (kept_of f) pair.closed f.listed) (λ seen. HasTaken x seen d)) cc1 (subst (λ x. Took (IsSeenMissing (kept_of x) pair.closed x.listed) (λ seen. HasTaken c1 seen d)) (hg ∙ gf) missing))
   where
-    by : Took (IsSince (kept_of f) pair.closed pair.before) (λ seen. HasTaken a seen b) → Took (IsSinceWhole (kept_of f) pair.closed pair.again.items pair.whole) (λ seen. HasTaken (next_since n1 b) seen c)
-        → Took (IsMissing (kept_of f) pair.closed f.listed) (λ seen. HasTaken (next_whole n2 c) seen d) → AllTaken (AreOf (kept_of f) pair) a d
+    by : Took (IsSeenSince (kept_of f) pair.closed pair.before) (λ seen. HasTaken a seen b) → Took (IsSeenSinceWhole (kept_of f) pair.closed pair.again.items pair.whole) (λ seen. HasTaken (next_since n1 b) seen c)
+        → Took (IsSeenMissing (kept_of f) pair.closed f.listed) (λ seen. HasTaken (next_whole n2 c) seen d) → AllTaken (AreOf a.known (kept_of f) pair) a d
     by x y z =
         let p = x.1.1 in
         let q = y.1.1 in
         let r = z.1.1 in
+        let ps = noted_from a.known none_kept x.0 in
+        let qs = noted_from a.known none_kept y.0 in
+        let rs = noted_from a.known none_kept z.0 in
+        let first : noted_from a.known a.kept x.0 ≡ ps = ap (λ k. noted_from a.known k x.0) none in
+        let then : noted_from b.known none_kept y.0 ≡ qs = ap (λ known. noted_from known none_kept y.0) p.known in
+        let last : noted_from c.known none_kept z.0 ≡ rs = ap (λ known. noted_from known none_kept z.0) (q.known ∙ p.known) in
+        let lacking = missing_noted a.known (kept_of f) pair.closed f.listed z.0 z.1.0 in
         record {
-          parts = record { since = p.noted; whole = q.noted; missing = r.noted };
+          parts = record { since = ps; whole = qs; missing = rs };
           are = record {
-            compared = subst (IsSince (kept_of f) pair.closed pair.before) (sym p.are) x.1.0;
-            again = subst (IsSinceWhole (kept_of f) pair.closed pair.again.items pair.whole) (sym q.are) y.1.0;
-            listed = subst (IsMissing (kept_of f) pair.closed f.listed) (sym r.are) z.1.0;
+            since = since_noted a.known (kept_of f) pair.closed pair.before x.0 x.1.0;
+            whole = whole_noted a.known (kept_of f) pair.closed pair.again.items pair.whole y.0 y.1.0;
+            missing = record { listed = lacking.0; are = lacking.1 };
           };
-          marked = All-append (IsMarked a.known) p.noted (q.noted ++ r.noted) p.marked
-              (subst (λ known. All (IsMarked known) (q.noted ++ r.noted)) p.known (All-append (IsMarked b.known) q.noted r.noted q.marked (subst (λ known. All (IsMarked known) r.noted) q.known r.marked)));
-          list = subst (λ cs. Appends a.list d.list (gone_text cs)) (same p.noted q.noted r.noted (changes_in x.0) (changes_in y.0) (changes_in z.0) p.are q.are r.are)
+          list = subst (λ cs. Appends a.list d.list (gone_text cs)) (same ps qs rs (changes_in x.0) (changes_in y.0) (changes_in z.0) (changes_noted a.known none_kept x.0) (changes_noted a.known none_kept y.0) (changes_noted a.known none_kept z.0))
               (texts_joined a.list b.list d.list (changes_in x.0) (changes_in y.0 ++ changes_in z.0) p.list (texts_joined b.list c.list d.list (changes_in y.0) (changes_in z.0) q.list r.list));
-          since = subst (λ s. AreCounted s (counted p.noted)) (sym (r.since ∙ q.since)) (p.counted_on [] za);
-          whole = subst (λ s. AreCounted s (counted q.noted)) (sym r.whole) (q.counted_on [] z1);
-          missing = r.counted_on [] z2;
-          grave = r.grave ∙ ap (λ g. g || list_any is_news r.noted) (q.grave ∙ ap (λ g. g || list_any is_news q.noted) p.grave)
-              ∙ all_or a.is_grave p.noted q.noted r.noted;
+          since = subst (λ s. AreCounted s (counted ps)) (sym (r.since ∙ q.since)) (subst (λ ns. AreCounted b.noting (counted ns)) first (p.counted_on [] za));
+          whole = subst (λ s. AreCounted s (counted qs)) (sym r.whole) (subst (λ ns. AreCounted c.noting (counted ns)) then (q.counted_on [] z1));
+          missing = subst (λ ns. AreCounted d.noting (counted ns)) last (r.counted_on [] z2);
+          grave = r.grave ∙ (λ i. c.is_grave || list_any is_news (last i)) ∙ ap (λ g. g || list_any is_news rs) (q.grave ∙ (λ i. b.is_grave || list_any is_news (then i)))
+              ∙ ap (λ g. (g || list_any is_news qs) || list_any is_news rs) (p.grave ∙ (λ i. a.is_grave || list_any is_news (first i)))
+              ∙ all_or a.is_grave ps qs rs;
         }
       where
         same : (ps qs rs : List Noted) (first then last : List ChangeAt) → changes_of ps ≡ first → changes_of qs ≡ then → changes_of rs ≡ last → first ++ (then ++ last) ≡ changes_of (ps ++ (qs ++ rs))
@@ -134,11 +176,10 @@ all_found f g h pair a b b1 c c1 d n1 n2 gf hg bb cc1 za z1 z2 since whole missi
             ∙ sym (list_any-append is_news ps (qs ++ rs)))
 
 pub none_of_lost : (k : Kept) (pair : Pair) (a : Stand) → pair.closed.lost ≡ true → AreCounted a.since (counted []) → AreCounted a.whole (counted []) → AreCounted a.noting (counted [])
-    → AllTaken (AreParts k pair) a a
+    → AllTaken (AreParts a.known k pair) a a
 none_of_lost k pair a lost since whole noting = record {
   parts = no_parts;
   are = (λ is. refl, λ is. absurd (false≢true (sym is ∙ lost)));
-  marked = All-nil (IsMarked a.known);
   list = Appends-nil a.list;
   since = since;
   whole = whole;
@@ -150,11 +191,10 @@ none_of_lost k pair a lost since whole noting = record {
     nothing_more true = refl
     nothing_more false = refl
 
-pub taken_of_kept : (k : Kept) (pair : Pair) (a d : Stand) → pair.closed.lost ≡ false → AllTaken (AreOf k pair) a d → AllTaken (AreParts k pair) a d
-taken_of_kept k pair a d kept t = record {
+pub taken_of_kept : (known : List KnownEntry) (k : Kept) (pair : Pair) (a d : Stand) → pair.closed.lost ≡ false → AllTaken (AreOf known k pair) a d → AllTaken (AreParts known k pair) a d
+taken_of_kept known k pair a d kept t = record {
   parts = t.parts;
   are = (λ is. absurd (false≢true (sym kept ∙ is)), λ is. t.are);
-  marked = t.marked;
   list = t.list;
   since = t.since;
   whole = t.whole;
@@ -163,45 +203,68 @@ taken_of_kept k pair a d kept t = record {
 }
 
 -- what is found hangs on no account
-without_accounts : (k : Kept) (pair : Pair) (p : Parts) → AreOf k pair p → AreOf (no_accounts k) pair p
-without_accounts k pair p h = record { compared = compared pair.before h.compared; again = again pair.whole h.again; listed = listed k.listed h.listed }
+without_accounts : (known : List KnownEntry) (k : Kept) (pair : Pair) (p : Parts) → AreOf known k pair p → AreOf known (no_accounts k) pair p
+without_accounts known k pair p h = record { since = since pair.before h.since; whole = whole pair.whole h.whole; missing = record { listed = listed k.listed h.missing.listed; are = h.missing.are } }
   where
-    compared : (before : Option Cycle) → IsSince k pair.closed before (changes_of p.since) → IsSince (no_accounts k) pair.closed before (changes_of p.since)
-    compared None is = is
-    compared (Some b) is = is
+    since : (before : Option Cycle) → AreSince known k pair.closed before p.since → AreSince known (no_accounts k) pair.closed before p.since
+    since None is = is
+    since (Some b) is = is
 
-    again : (whole : Option Cycle) → IsSinceWhole k pair.closed pair.again.items whole (changes_of p.whole) → IsSinceWhole (no_accounts k) pair.closed pair.again.items whole (changes_of p.whole)
-    again None is = is
-    again (Some w) is = is
+    whole : (w : Option Cycle) → AreSinceWhole known k pair.closed pair.again.items w p.whole → AreSinceWhole known (no_accounts k) pair.closed pair.again.items w p.whole
+    whole None is = is
+    whole (Some w) is = is
 
     listed : (places : Option (List Place)) → IsMissing k pair.closed places (changes_of p.missing) → IsMissing (no_accounts k) pair.closed places (changes_of p.missing)
     listed None is = is
     listed (Some places) is = is
 
-found_in : (k : Kept) (pair : Pair) (p : Parts) → AreOf k pair p → AreFound k pair (changes_of (all_of p))
-found_in k pair p h = record {
+since_changes : (known : List KnownEntry) (k : Kept) (now : Cycle) (before : Option Cycle) (ns : List Noted) → AreSince known k now before ns → IsSince k now before (changes_of ns)
+since_changes known k now None ns e = ap changes_of e
+since_changes known k now (Some b) ns d = record {
+  before = d.before;
+  now = d.now;
+  is_before = d.is_before;
+  is_now = d.is_now;
+  taken = ap changes_of d.are ∙ changes_of_noted known d.before d.now (comparison (now.left ++ b.left) d.before d.now) ∙ changes_seen_all known (now.left ++ b.left) d.before d.now;
+}
+
+whole_changes : (known : List KnownEntry) (k : Kept) (now : Cycle) (again : List Place) (whole : Option Cycle) (ns : List Noted)
+    → AreSinceWhole known k now again whole ns → IsSinceWhole k now again whole (changes_of ns)
+whole_changes known k now again None ns e = ap changes_of e
+whole_changes known k now again (Some w) ns d =
+    let all = comparison now.left d.before d.now in
+    record {
+      before = d.before;
+      now = d.now;
+      is_before = d.is_before;
+      is_now = d.is_now;
+      taken = ap changes_of d.are ∙ changes_of_within again (map (noted_in known d.before d.now) all)
+          ∙ ap (filter (λ c. is_left again c.place)) (changes_of_noted known d.before d.now all ∙ changes_seen_all known now.left d.before d.now);
+    }
+
+found_in : (known : List KnownEntry) (k : Kept) (pair : Pair) (p : Parts) → AreOf known k pair p → AreFound k pair (changes_of (all_of p))
+found_in known k pair p h = record {
   since = changes_of p.since;
   since_whole = changes_of p.whole;
   missing = changes_of p.missing;
   is = map-append (λ (n : Noted). n.at) p.since (p.whole ++ p.missing) ∙ ap (λ cs. changes_of p.since ++ cs) (map-append (λ (n : Noted). n.at) p.whole p.missing);
-  compared = h.compared;
-  again = h.again;
-  listed = h.listed;
+  compared = since_changes known k pair.closed pair.before p.since h.since;
+  again = whole_changes known k pair.closed pair.again.items pair.whole p.whole h.whole;
+  listed = h.missing.listed;
 }
 
 -- what is found, of an empty list and no change on
 pub finds_of : (k : Kept) (pair : Pair) (b : Beside) (text : Text) (is_grave : Bool) (beside : Text) (old new : Stand)
-    → old.list ≡ Some [] → old.is_grave ≡ false → old.known ≡ b.known → AllTaken (AreParts k pair) old new
+    → old.list ≡ Some [] → old.is_grave ≡ false → old.known ≡ b.known → AllTaken (AreParts old.known k pair) old new
     → ((bytes : Text) → new.list ≡ Some bytes → beside ≡ bytes) → ((p : Parts) → AreCounted new.since (counted p.since) → AreCounted new.whole (counted p.whole) → AreCounted new.noting (counted p.missing) → HasText b pair (counted_in p) text)
     → is_grave ≡ new.is_grave → Finds k pair (said_beside b) text is_grave beside
 finds_of k pair b text is_grave beside old new empty calm names t written said grave = record {
   changes = changes_of (all_of t.parts);
-  are = (λ lost. ap (λ p. changes_of (all_of p)) (t.are.0 lost), λ kept. found_in k pair t.parts (t.are.1 kept));
+  are = (λ lost. ap (λ p. changes_of (all_of p)) (t.are.0 lost), λ kept. found_in old.known k pair t.parts (t.are.1 kept));
   said = record {
     parts = t.parts;
-    are = (t.are.0, λ kept. without_accounts k pair t.parts (t.are.1 kept));
+    are = (t.are.0, λ kept. without_accounts b.known k pair t.parts (subst (λ known. AreOf known k pair t.parts) names (t.are.1 kept)));
     is = refl;
-    marked = subst (λ known. All (IsMarked known) (all_of t.parts)) names t.marked;
     said = said t.parts t.since t.whole t.missing;
     grave = grave ∙ t.grave ∙ ap (λ g. g || list_any is_news (all_of t.parts)) calm;
   };

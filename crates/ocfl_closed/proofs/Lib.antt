@@ -1,6 +1,7 @@
 mod Findings
 mod Losing
 mod Marks
+mod NotedIn
 mod Passing
 mod Pushing
 mod Putting

@@ -1,12 +1,13 @@
 -- How a report is read, and what is taken of its changes.
-use Rattle.std.specs.{Prelude.{◌≡◌, ℕ, ◌+◌, ◌≤◌, ◌||◌, All, List, length, take}, List.{list_any}, Io.KnownBytes.{Appends}}
+use Rattle.std.specs.{Prelude.{◌≡◌, ℕ, ◌+◌, ◌≤◌, ◌||◌, List, length, take}, List.{list_any}, Io.KnownBytes.{Appends}}
 use Rattle.ocfl_tree.specs.Place.{Text}
-use Rattle.ocfl_compare.specs.{Gone.{gone_text}, Seen.{Seen, changes_in}, declared.change.ChangeAt.{ChangeAt}}
-use Rattle.ocfl_words.specs.Counted.{AreCounted, changes_of, counted, is_news}
-use Rattle.ocfl_closed.specs.{Taken.{IsMarked, Stand}, Words.{Parts, all_of}}
+use Rattle.ocfl_compare.specs.{Gone.{gone_text}, Seen.{Seen}}
+use Rattle.ocfl_words.specs.{Counted.{AreCounted, counted, is_news}, Noted.{changes_of}}
+use Rattle.ocfl_closed.specs.{Taken.{Stand}, Words.{Parts, all_of}}
 use Rattle.ocfl_state.specs.{Pieces.{Carries}, declared.pieces.ReportDigests.{ReportDigests}}
 pub mod Backs
 pub mod Checked
+pub mod SeenOf
 pub mod Stands
 pub mod Takes
 
@@ -16,15 +17,14 @@ pub record IsPushed (report : Text) (start count : ℕ) (digests : ReportDigests
   pub carries : Carries digests (take (start + count) report)
   pub end : count ≡ 0 → length report ≤ start
 
--- the changes among what was seen are such, and it was taken
-abbrev pub Took : (List ChangeAt → Type 0) → (List Seen → Type 0) → Type 0
-Took Are Taken = (seen : List Seen) × (Are (changes_in seen) × Taken seen)
+-- this was seen, and it was taken
+abbrev pub Took : (List Seen → Type 0) → (List Seen → Type 0) → Type 0
+Took Is Taken = (seen : List Seen) × (Is seen × Taken seen)
 
 -- all changes were taken, from one stand to another: those of these parts
 pub record AllTaken (Are : Parts → Type 0) (old new : Stand) : Type 0 where
   pub parts : Parts
   pub are : Are parts
-  pub marked : All (IsMarked old.known) (all_of parts)
   pub list : Appends old.list new.list (gone_text (changes_of (all_of parts)))
   pub since : AreCounted new.since (counted parts.since)
   pub whole : AreCounted new.whole (counted parts.whole)

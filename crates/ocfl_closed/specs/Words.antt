@@ -1,16 +1,16 @@
 -- What is said of the changes of a closed cycle.
-use Rattle.std.specs.Prelude.{◌≡◌, ℕ, ◌^◌, ◌<◌, ◌||◌, nat_lt, ◌==◌, ◌&&◌, List, [], ◌++◌, All, Bool, true, false, Option, Some, None, length, codes, decimal, if◌then◌else◌}
+use Rattle.std.specs.Prelude.{◌≡◌, ℕ, ◌^◌, ◌<◌, ◌||◌, nat_lt, ◌==◌, ◌&&◌, List, [], ◌++◌, Bool, true, false, Option, Some, None, length, codes, decimal, filter, map, if◌then◌else◌}
 use Rattle.std.specs.List.{list_any}
-use Rattle.ocfl_tree.specs.Place.{Text}
-use Rattle.ocfl_report.specs.Text.{escape}
-use Rattle.ocfl_compare.specs.declared.change.ChangeAt.{ChangeAt}
-use Rattle.ocfl_accounts.specs.{Changes.{IsMissing, IsSince, IsSinceWhole, Says}, Cycle.{Cycle}, Kept.{Kept}}
+use Rattle.ocfl_tree.specs.Place.{Text, Place}
+use Rattle.ocfl_report.specs.{Line.{line_of}, Text.{escape}}
+use Rattle.ocfl_compare.specs.{Changes.{is_left}, declared.change.ChangeAt.{ChangeAt}}
+use Rattle.ocfl_accounts.specs.{Changes.{IsMissing, Says}, Cycle.{Cycle}, Kept.{Kept}}
 use Rattle.ocfl_accounts.specs.declared.pair.Pair.{Pair}
 use Rattle.ocfl_messages.specs.{Closing.{closing_text}, Finding.{Finding}, Gravest.{IsOf, by_weight}, Tally.{IsCount}}
-use Rattle.ocfl_messages.specs.declared.{closing.Closing.{Closing}, known.KnownEntry.{KnownEntry}, tally.Counts.{Counts}}
-use Rattle.ocfl_words.specs.Counted.{Counted, Noted, changes_of, counted, gone_in, is_news, joined, shown_of}
+use Rattle.ocfl_messages.specs.declared.{closing.Closing.{Closing}, known.KnownEntry.{KnownEntry}}
+use Rattle.ocfl_words.specs.{Counted.{Counted, counted, gone_in, is_news, joined, shown_of}, Noted.{AreNoted, Noted, changes_of, noted}}
 use Rattle.ocfl_state.specs.Checkpoint.{Checkpoint}
-use Rattle.ocfl_closed.specs.{Files.{Files}, Taken.{IsMarked}, declared.words.SaidWith.{SaidWith}}
+use Rattle.ocfl_closed.specs.{Files.{Files}, declared.words.SaidWith.{SaidWith}}
 
 -- ---- which changes
 
@@ -32,15 +32,34 @@ all_of p = p.since ++ (p.whole ++ p.missing)
 abbrev pub counted_in : Parts → Counted
 counted_in p = joined (joined (counted p.since) (counted p.missing)) (counted p.whole)
 
--- each is of the right comparison
-pub record AreOf (k : Kept) (pair : Pair) (p : Parts) : Type 0 where
-  pub compared : IsSince k pair.closed pair.before (changes_of p.since)
-  pub again : IsSinceWhole k pair.closed pair.again.items pair.whole (changes_of p.whole)
-  pub listed : IsMissing k pair.closed k.listed (changes_of p.missing)
+-- since the report before, outside of what either left out
+abbrev pub AreSince : List KnownEntry → Kept → Cycle → Option Cycle → List Noted → Type 0
+AreSince known k now None ns = ns ≡ []
+AreSince known k now (Some before) ns = AreNoted known (now.left ++ before.left) (k.reports before.cycle) (k.reports now.cycle) (λ all. ns ≡ all)
+
+-- since the last whole report, in the places that the report before alone left out
+abbrev pub AreSinceWhole : List KnownEntry → Kept → Cycle → List Place → Option Cycle → List Noted → Type 0
+AreSinceWhole known k now again None ns = ns ≡ []
+AreSinceWhole known k now again (Some whole) ns =
+    AreNoted known now.left (k.reports whole.cycle) (k.reports now.cycle) (λ all. ns ≡ filter (λ n. is_left again n.at.place) all)
+
+abbrev pub no_finding : ChangeAt → Noted
+no_finding c = noted c None false
+
+-- the listed objects that are missing
+pub record AreMissing (k : Kept) (now : Cycle) (ns : List Noted) : Type 0 where
+  pub listed : IsMissing k now k.listed (changes_of ns)
+  pub are : ns ≡ map no_finding (changes_of ns)
+
+-- each is of the right comparison, and by its lines it is known which new findings are known
+pub record AreOf (known : List KnownEntry) (k : Kept) (pair : Pair) (p : Parts) : Type 0 where
+  pub since : AreSince known k pair.closed pair.before p.since
+  pub whole : AreSinceWhole known k pair.closed pair.again.items pair.whole p.whole
+  pub missing : AreMissing k pair.closed p.missing
 
 -- of a cycle whose report lost lines there are none
-abbrev pub AreParts : Kept → Pair → Parts → Type 0
-AreParts k pair p = (pair.closed.lost ≡ true → p ≡ no_parts) × (pair.closed.lost ≡ false → AreOf k pair p)
+abbrev pub AreParts : List KnownEntry → Kept → Pair → Parts → Type 0
+AreParts known k pair p = (pair.closed.lost ≡ true → p ≡ no_parts) × (pair.closed.lost ≡ false → AreOf known k pair p)
 
 -- ---- why something is not known
 
@@ -123,6 +142,7 @@ pub record IsClosing (b : Beside) (pair : Pair) (w : Counted) (c : Closing) : Ty
   pub whole : c.whole ≡ pair.closed.whole
   pub appeared : IsCount c.appeared_count w.appeared
   pub repaired : IsCount c.repaired_count w.repaired
+  pub repaired_shown : map line_of c.repaired.now ≡ w.repaired_shown
   pub gone : c.gone.now ≡ shown_of w
   pub gone_count : IsCount c.gone_count (gone_in w)
   pub unlooked : IsCount c.unlooked w.unlooked
@@ -139,9 +159,8 @@ HasText b pair w text = (c : Closing) × (IsClosing b pair w c × IsTextOf c tex
 -- the changes are those of these comparisons, and their text is said
 pub record IsSaidOf (b : Beside) (k : Kept) (pair : Pair) (changes : List ChangeAt) (text : Text) (is_grave : Bool) : Type 0 where
   pub parts : Parts
-  pub are : AreParts k pair parts
+  pub are : AreParts b.known k pair parts
   pub is : changes ≡ changes_of (all_of parts)
-  pub marked : All (IsMarked b.known) (all_of parts)
   pub said : HasText b pair (counted_in parts) text
   pub grave : is_grave ≡ list_any is_news (all_of parts)
 

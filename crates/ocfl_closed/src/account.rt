@@ -9,7 +9,6 @@ ghost use Rattle.ocfl_closed.specs.Words.{whole_missing_text as whole_missing_wo
 use crate::words::SaidWith;
 use ocfl_accounts::{ClosedCycle, Pair};
 use ocfl_messages::{Closing, Counts, Gone, Shown, closing_text};
-use ocfl_report::Line;
 use ocfl_state::Checkpoint;
 use ocfl_tree::Place;
 use ocfl_words::{Changes, Findings};
@@ -84,8 +83,6 @@ pub struct Account {
     pub gone: Vec<Gone>,
     /// What the report has of findings that are new.
     pub findings: Findings,
-    /// The lines of what is repaired, as the reports before have them, as many as are shown.
-    pub repaired: Vec<Line>,
     /// Objects that are back.
     pub back: Vec<Place>,
     /// How many objects must be there; 0 if they were not looked for.
@@ -102,7 +99,6 @@ impl Drop for Account {
             changes: _changes,
             gone: _gone,
             findings: _findings,
-            repaired: _repaired,
             back: _back,
             listed: _listed,
             paths: _paths,
@@ -173,7 +169,7 @@ fn closing_of<'a>(with: &SaidWith<'a>, pair: &Pair, account: &'a Account) -> Clo
         appeared: &account.findings.gravest,
         appeared_count: changes.appeared_count,
         said: account.findings.said,
-        repaired: account.repaired.as_slice(),
+        repaired: changes.repaired.as_slice(),
         repaired_count: changes.repaired_count,
         back: account.back.as_slice(),
         back_count: count_of(&account.back),

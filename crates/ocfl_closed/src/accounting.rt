@@ -11,7 +11,6 @@ use crate::looking::read_kept;
 use crate::opening::open_reader;
 use crate::words::{SaidWith, Words};
 use ocfl_accounts::{ClosingStop, Pair};
-use ocfl_report::Line;
 use ocfl_tree::Place;
 use ocfl_words::{ChangedLines, Changes, Findings, Noting, Part, find_lines, named_in};
 use std::alloc::{AllocError, Global};
@@ -49,9 +48,6 @@ pub(crate) fn account_of<D: ClosedDisk>(
         listed,
     } = words;
     let last = noting.take_part();
-    let Ok(repaired) = repaired_in(alloc, &since.lines, &whole.lines) else {
-        return Err(ClosingStop::Memory);
-    };
     let findings = find_new(alloc, disk, pair, noting, &since.lines, &whole.lines)?;
     let Ok(changes) = changes_in(since, last, whole) else {
         return Err(ClosingStop::Memory);
@@ -66,7 +62,6 @@ pub(crate) fn account_of<D: ClosedDisk>(
         changes,
         gone,
         findings,
-        repaired,
         back,
         listed,
         paths,
@@ -91,17 +86,6 @@ fn changes_in(since: Part, listed: Part, whole: Part) -> Result<Changes, AllocEr
     changes.join(&mut missing)?;
     changes.join(&mut again)?;
     Ok(changes)
-}
-
-/// The lines of what is repaired since two reports.
-fn repaired_in(
-    alloc: Global,
-    since: &ChangedLines,
-    whole: &ChangedLines,
-) -> Result<Vec<Line>, AllocError> {
-    let mut repaired = since.repaired(alloc)?;
-    repaired.append(&mut whole.repaired(alloc)?)?;
-    Ok(repaired)
 }
 
 /// What the report has of findings that are new; nothing if lines of it were lost. The report is read

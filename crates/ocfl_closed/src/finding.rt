@@ -3,14 +3,15 @@ ghost use Rattle.std.specs.Prelude.{◌≡◌, ◌++◌, [], true, IsTrue, IfOk,
 ghost use Rattle.ocfl_tree.specs.Place.{Text};
 ghost use Rattle.ocfl_compare.specs.{Compared.{IsCompared}, Expected.{IsSearched}};
 ghost use Rattle.ocfl_accounts.specs.Causes.{HasCause, IsCause};
-ghost use Rattle.ocfl_accounts.specs.Changes.{Finds, IsMissing, IsSince, IsSinceWhole};
-ghost use Rattle.ocfl_words.specs.Counted.{AreCounted, Counted, counted, joined};
+ghost use Rattle.ocfl_accounts.specs.Changes.{Finds};
+ghost use Rattle.ocfl_words.specs.{Counted.{AreCounted, Counted, counted, joined}, Kept.{kept_by, none_kept}};
 ghost use Rattle.ocfl_closed.specs.{Cut.{Calm, Still}, Files.{kept_of}, Taken.{HasTaken}};
 ghost use Rattle.ocfl_closed.specs.Unchanged.{AreAllUnchanged, AreUnchanged, IsBeforeUnchanged};
 ghost use Rattle.ocfl_closed.specs.Unchanged.{IsUnchangedSince, IsWholeUnchanged};
 ghost use Rattle.ocfl_closed.specs.Unchanged.{is_unchanged};
 ghost use Rattle.ocfl_closed.specs.Words.{AreOf, AreParts, HasText, beside_of, runs_in};
 ghost use Rattle.ocfl_closed.specs.{Words.{said_beside}, Internal.{Took, AllTaken}};
+ghost use Rattle.ocfl_closed.specs.Internal.SeenOf.{IsSeenMissing, IsSeenSince, IsSeenSinceWhole};
 ghost use Rattle.ocfl_closed.specs.Internal.Stands.{stand_of};
 
 use crate::account::{Account, compared, text_of};
@@ -112,8 +113,9 @@ fn take_changes<'n, D: ClosedDisk>(
     requires since { AreCounted taking.words.since.changes (counted []) }
     requires whole { AreCounted taking.words.whole.changes (counted []) }
     requires noting { AreCounted taking.words.noting.changes (counted []) }
+    requires kept { kept_by taking.words.noting ≡ none_kept }
     ensures taken { IsTrue D.told → IfOk result (λ after. AllTaken
-        (AreParts (kept_of (D.state disk.old).files) pair.now)
+        (AreParts taking.entry.words.noting.known.now (kept_of (D.state disk.old).files) pair.now)
         (stand_of (D.List.contents taking.entry.list.out) taking.entry.words taking.entry.is_grave)
         (stand_of (D.List.contents after.list.out) after.words after.is_grave)) }
     ensures unchanged { IsTrue D.told
@@ -136,8 +138,9 @@ fn take_all<'n, D: ClosedDisk>(
     taking: Taking<'n, D::List>,
 ) -> Result<Taking<'n, D::List>, ClosingStop>
     requires noting { AreCounted taking.words.noting.changes (counted []) }
+    requires kept { kept_by taking.words.noting ≡ none_kept }
     ensures taken { IsTrue D.told → IfOk result (λ after. AllTaken
-        (AreOf (kept_of (D.state disk.old).files) pair.now)
+        (AreOf taking.entry.words.noting.known.now (kept_of (D.state disk.old).files) pair.now)
         (stand_of (D.List.contents taking.entry.list.out) taking.entry.words taking.entry.is_grave)
         (stand_of (D.List.contents after.list.out) after.words after.is_grave)) }
     ensures unchanged { IsTrue D.told
@@ -163,7 +166,7 @@ fn take_since<D: ClosedDisk, T: TakeChange>(
     taker: &mut T,
 ) -> Result<(), ClosingStop>
     ensures taken { IsTrue D.told → OnOk result (Took
-        (IsSince (kept_of (D.state disk.old).files) pair.now.closed pair.now.before)
+        (IsSeenSince (kept_of (D.state disk.old).files) pair.now.closed pair.now.before)
         (λ seen. T.takes taker.old seen taker.new)) }
     ensures unchanged { IsTrue D.told
         → OnOk result (IsBeforeUnchanged (D.state disk.old).files pair.now) }
@@ -187,7 +190,7 @@ fn compare_before<D: ClosedDisk, T: TakeChange>(
     taker: &mut T,
 ) -> Result<(), ClosingStop>
     ensures taken { IsTrue D.told → OnOk result (Took
-        (IsSince (kept_of (D.state disk.old).files) pair.now.closed (Some before.now))
+        (IsSeenSince (kept_of (D.state disk.old).files) pair.now.closed (Some before.now))
         (λ seen. T.takes taker.old seen taker.new)) }
     ensures unchanged { IsTrue D.told
         → OnOk result (IsUnchangedSince (D.state disk.old).files pair.now before.now.cycle) }
@@ -242,7 +245,7 @@ fn take_since_whole<D: ClosedDisk, T: TakeChange + Drop>(
     taker: T,
 ) -> Result<T, ClosingStop>
     ensures taken { IsTrue D.told → IfOk result (λ after. Took
-        (IsSinceWhole (kept_of (D.state disk.old).files) pair.now.closed pair.now.again.items
+        (IsSeenSinceWhole (kept_of (D.state disk.old).files) pair.now.closed pair.now.again.items
         pair.now.whole) (λ seen. T.takes taker seen after)) }
     ensures unchanged { IsTrue D.told
         → OnOk result (IsWholeUnchanged (D.state disk.old).files pair.now.whole) }
@@ -266,7 +269,7 @@ fn compare_whole<D: ClosedDisk, T: TakeChange + Drop>(
     taker: T,
 ) -> Result<T, ClosingStop>
     ensures taken { IsTrue D.told → IfOk result (λ after. Took
-        (IsSinceWhole (kept_of (D.state disk.old).files) pair.now.closed pair.now.again.items
+        (IsSeenSinceWhole (kept_of (D.state disk.old).files) pair.now.closed pair.now.again.items
         (Some whole.now)) (λ seen. T.takes taker seen after)) }
     ensures unchanged { IsTrue D.told → OnOk result
         (is_unchanged (D.state disk.old).files whole.now.cycle ≡ true) }
@@ -296,7 +299,7 @@ fn take_missing<D: ClosedDisk>(
     taking: &mut Taking<'_, D::List>,
 ) -> Result<(), ClosingStop>
     ensures taken { IsTrue D.told → OnOk result (Took
-        (IsMissing (kept_of (D.state disk.old).files) pair.now.closed
+        (IsSeenMissing (kept_of (D.state disk.old).files) pair.now.closed
         (D.state disk.old).files.listed) (λ seen. HasTaken
         (stand_of (D.List.contents taking.old.list.out) taking.old.words taking.old.is_grave)
         seen
@@ -321,7 +324,7 @@ fn take_missing_of<D: ClosedDisk>(
     taking: &mut Taking<'_, D::List>,
 ) -> Result<(), ClosingStop>
     ensures taken { IsTrue D.told → OnOk result (Took
-        (IsMissing (kept_of (D.state disk.old).files) pair.now.closed (Some listed.items))
+        (IsSeenMissing (kept_of (D.state disk.old).files) pair.now.closed (Some listed.items))
         (λ seen. HasTaken
         (stand_of (D.List.contents taking.old.list.out) taking.old.words taking.old.is_grave)
         seen

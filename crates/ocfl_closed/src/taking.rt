@@ -1,7 +1,8 @@
 //! Taking the changes of a closed cycle.
-ghost use Rattle.std.specs.Prelude.{◌≡◌, ◌||◌};
+ghost use Rattle.std.specs.Prelude.{◌≡◌, ◌||◌, Option};
+ghost use Rattle.ocfl_report.specs.Line.{Line as ModelLine};
 ghost use Rattle.ocfl_compare.specs.Changes.{change_at};
-ghost use Rattle.ocfl_words.specs.Counted.{is_news as is_news_by, noted};
+ghost use Rattle.ocfl_words.specs.{Counted.{is_news as is_news_by}, Noted.{noted}};
 ghost use Rattle.ocfl_closed.specs.Taken.{HasTaken};
 ghost use Rattle.ocfl_closed.specs.Internal.{Stands.{stand_of}, Takes.{takes_none, takes_then}};
 ghost use Rattle.ocfl_tree.specs.Place.{Place as ModelPlace};
@@ -48,7 +49,8 @@ impl<L: Write + Drop> TakeChange for Taking<'_, L> {
 
 /// Whether something is gone by a change, or a finding is new that is not known.
 fn is_news(change: Change, is_known: bool) -> bool
-    ensures { (p : ModelPlace) → result ≡ is_news_by (noted (change_at p change) is_known) }
+    ensures { (p : ModelPlace) (line : Option ModelLine)
+        → result ≡ is_news_by (noted (change_at p change) line is_known) }
 {
     match change {
         Change::Gone | Change::Undeclared | Change::FileGone | Change::Missing => true,

@@ -1,8 +1,10 @@
 //! Words of the changes of closed cycles.
-ghost use Rattle.std.specs.Prelude.{◌≡◌, ◌++◌, List, [], ◌∷◌, IfOk, OnOk, true, string_bytes};
+ghost use Rattle.std.specs.Prelude.{◌≡◌, ◌++◌, List, [], ◌∷◌, IfOk, OnOk};
+ghost use Rattle.ocfl_report.specs.Line.{line_of};
 ghost use Rattle.ocfl_compare.specs.Changes.{change_at};
-ghost use Rattle.ocfl_messages.specs.Known.{is_known};
-ghost use Rattle.ocfl_words.specs.Counted.{AreCounted, Noted, counted, is_known_by, noted};
+ghost use Rattle.ocfl_words.specs.Counted.{AreCounted, counted};
+ghost use Rattle.ocfl_words.specs.Kept.{kept_by, kept_seen, none_kept};
+ghost use Rattle.ocfl_words.specs.Noted.{Noted, is_known_in, noted_in};
 
 use ocfl_accounts::Pair;
 use ocfl_compare::{Change, Side, TakeStop};
@@ -43,6 +45,7 @@ impl<'n> Words<'n> {
     /// compared with none, or with the last whole one too.
     pub(crate) fn new(alloc: Global, with: &SaidWith<'n>, pair: &Pair) -> Words<'n>
         ensures known { result.noting.known.now ≡ with.entry.now.known.now }
+        ensures kept { kept_by result.noting ≡ none_kept }
         ensures noting { AreCounted result.noting.changes (counted []) }
         ensures since { AreCounted result.since.changes (counted []) }
         ensures whole { AreCounted result.whole.changes (counted []) }
@@ -62,6 +65,7 @@ impl<'n> Words<'n> {
     /// Ends the comparison with the report before.
     pub(crate) fn end_since(&mut self)
         ensures known { self.new.noting.known.now ≡ self.old.noting.known.now }
+        ensures kept { kept_by self.new.noting ≡ none_kept }
         ensures noting { AreCounted self.new.noting.changes (counted []) }
         ensures since { self.new.since.changes ≡ self.old.noting.changes }
         ensures whole { self.new.whole.changes ≡ self.old.whole.changes }
@@ -72,6 +76,7 @@ impl<'n> Words<'n> {
     /// Ends the comparison with the last whole report.
     pub(crate) fn end_whole(&mut self)
         ensures known { self.new.noting.known.now ≡ self.old.noting.known.now }
+        ensures kept { kept_by self.new.noting ≡ none_kept }
         ensures noting { AreCounted self.new.noting.changes (counted []) }
         ensures since { self.new.since.changes ≡ self.old.since.changes }
         ensures whole { self.new.whole.changes ≡ self.old.noting.changes }
@@ -82,6 +87,8 @@ impl<'n> Words<'n> {
     /// Sees the next line of a report.
     pub(crate) fn see(&mut self, side: Side, line: &Line) -> Result<(), TakeStop>
         ensures known { self.new.noting.known.now ≡ self.old.noting.known.now }
+        ensures kept { OnOk result (kept_by self.new.noting
+            ≡ kept_seen (kept_by self.old.noting) side (line_of line.now)) }
         ensures noting { self.new.noting.changes ≡ self.old.noting.changes }
         ensures since { self.new.since.changes ≡ self.old.since.changes }
         ensures whole { self.new.whole.changes ≡ self.old.whole.changes }
@@ -94,13 +101,15 @@ impl<'n> Words<'n> {
 
     /// Takes a change at a place. Gives whether it is a finding that is known.
     pub(crate) fn take(&mut self, place: &Place, change: Change) -> Result<bool, TakeStop>
-        ensures value { IfOk result (λ is. is_known_by self.old.noting.known.now
-            (change_at place.now change) ≡ true → is ≡ true) }
-        ensures counted { IfOk result (λ is. (ns : List Noted)
+        ensures value { IfOk result (λ is. is ≡ is_known_in self.old.noting.known.now
+            (kept_by self.old.noting).now (change_at place.now change)) }
+        ensures counted { OnOk result ((ns : List Noted)
             → AreCounted self.old.noting.changes (counted ns)
-            → AreCounted self.new.noting.changes
-            (counted (ns ++ noted (change_at place.now change) is ∷ []))) }
+            → AreCounted self.new.noting.changes (counted (ns ++ noted_in
+            self.old.noting.known.now (kept_by self.old.noting).before
+            (kept_by self.old.noting).now (change_at place.now change) ∷ []))) }
         ensures known { self.new.noting.known.now ≡ self.old.noting.known.now }
+        ensures kept { kept_by self.new.noting ≡ kept_by self.old.noting }
         ensures since { self.new.since.changes ≡ self.old.since.changes }
         ensures whole { self.new.whole.changes ≡ self.old.whole.changes }
     {

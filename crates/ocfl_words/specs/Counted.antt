@@ -1,50 +1,20 @@
 -- What is counted and shown of the changes of a closed cycle.
-use Rattle.std.specs.Prelude.{◌≡◌, ℕ, ◌+◌, List, [], ◌∷◌, ◌++◌, Bool, true, false, not, map, take, flat_map, filter, length, Option, Some, None, if◌then◌else◌}
-use Rattle.std.specs.List.{list_any}
+use Rattle.std.specs.Prelude.{◌≡◌, ℕ, ◌+◌, List, [], ◌∷◌, ◌++◌, Bool, true, false, not, take, flat_map, filter, length, map, Option, Some, None, if◌then◌else◌}
+use Rattle.std.specs.Option.{option_to_list}
 use Rattle.ocfl_tree.specs.Place.{Place}
-use Rattle.ocfl_report.specs.{Line.{Line}, declared.code.Code.{Code}}
-use Rattle.ocfl_compare.specs.declared.change.{Change.{Change}, ChangeAt.{ChangeAt}}
+use Rattle.ocfl_report.specs.Line.{Line, line_of}
+use Rattle.ocfl_compare.specs.declared.change.Change.{Change}
 use Rattle.ocfl_compare.specs.declared.change.Change.TheVariants.{Gone, Undeclared, FileGone, Unlooked, Found, Repaired, Missing}
-use Rattle.ocfl_messages.specs.{Known.{is_known}, Tally.{IsCount}}
-use Rattle.ocfl_messages.specs.declared.known.KnownEntry.{KnownEntry}
+use Rattle.ocfl_messages.specs.Tally.{IsCount}
 use Rattle.ocfl_messages.specs.declared.closing.{Gone.{Gone as GoneRow}, GoneKind.{GoneKind}}
 use Rattle.ocfl_messages.specs.declared.closing.GoneKind.TheVariants as kind
+use Rattle.ocfl_words.specs.{Noted.{Noted}, Shown.{in_order}}
 use Rattle.ocfl_words.specs.declared.missing.Missing.{Missing as MadeMissing}
 use Rattle.ocfl_words.specs.declared.changes.Changes.{Changes}
 
--- a change, and whether it is a finding that is known
-pub record Noted : Type 0 where
-  pub at : ChangeAt
-  pub is_known : Bool
-
-abbrev pub noted : ChangeAt → Bool → Noted
-noted at is_known = record { at = at; is_known = is_known }
-
-abbrev pub changes_of : List Noted → List ChangeAt
-changes_of ns = map (λ n. n.at) ns
-
--- ---- known findings
-
--- the code of a finding that is new at the place of a change, as a line without a detail
-abbrev pub found_line : ChangeAt → List Line
-found_line c = by c.change
-  where
-    by : Change → List Line
-    by (Found code) = record { code = code; place = c.place; detail = 45 ∷ [] } ∷ []
-    by Gone = []
-    by Undeclared = []
-    by FileGone = []
-    by Unlooked = []
-    by (Repaired code) = []
-    by Missing = []
-
--- it is a finding that is known whatever its detail is
-abbrev pub is_known_by : List KnownEntry → ChangeAt → Bool
-is_known_by known c = list_any (is_known known) (found_line c)
-
 -- ---- what is gone
 
--- the rows of the list of what is gone that are shown first
+-- so many of what is gone, and of what is repaired, are shown first
 abbrev pub most_shown : ℕ
 most_shown = 20
 
@@ -111,6 +81,13 @@ is_repaired Unlooked = false
 is_repaired (Found code) = false
 is_repaired Missing = false
 
+-- the line of the report before of a finding that is repaired
+abbrev pub repaired_line : Noted → List Line
+repaired_line n = if is_repaired n.at.change then option_to_list n.line else []
+
+abbrev pub repaired_lines : List Noted → List Line
+repaired_lines ns = flat_map repaired_line ns
+
 abbrev pub is_found : Change → Bool
 is_found (Found code) = true
 is_found Gone = false
@@ -161,6 +138,7 @@ pub record Counted : Type 0 where
   pub expected : Many
   pub unlooked : ℕ
   pub repaired : ℕ
+  pub repaired_shown : List Line
   pub appeared : ℕ
   pub known : ℕ
 
@@ -172,6 +150,7 @@ counted ns = record {
   expected = many_of (rows_of expected_kind ns);
   unlooked = count_of (λ n. is_unlooked n.at.change) ns;
   repaired = count_of (λ n. is_repaired n.at.change) ns;
+  repaired_shown = in_order (take most_shown (repaired_lines ns));
   appeared = count_of is_new_finding ns;
   known = count_of is_known_finding ns;
 }
@@ -183,6 +162,7 @@ joined v w = record {
   expected = many_more v.expected w.expected;
   unlooked = v.unlooked + w.unlooked;
   repaired = v.repaired + w.repaired;
+  repaired_shown = v.repaired_shown ++ w.repaired_shown;
   appeared = v.appeared + w.appeared;
   known = v.known + w.known;
 }
@@ -206,5 +186,6 @@ pub record AreCounted (c : Changes) (w : Counted) : Type 0 where
   pub expected : IsMany c.expected w.expected
   pub unlooked : IsCount c.unlooked w.unlooked
   pub repaired : IsCount c.repaired_count w.repaired
+  pub repaired_shown : map line_of c.repaired.items ≡ w.repaired_shown
   pub appeared : IsCount c.appeared_count w.appeared
   pub known : IsCount c.known_count w.known

@@ -1,1 +1,4 @@
+pub mod Noted
+pub mod Shown
 pub mod Counted
+pub mod Kept

@@ -1,17 +1,22 @@
 //! How much changed, and the first of it.
-ghost use Rattle.std.specs.Prelude.{◌≡◌, ◌+◌, ◌++◌, ℕ, List, [], ◌∷◌, if◌then◌else◌, IfOk, OnOk};
+ghost use Rattle.std.specs.Prelude.{◌≡◌, ◌+◌, ◌++◌, ℕ, List, [], ◌∷◌, if◌then◌else◌};
+ghost use Rattle.std.specs.{Option.{option_map}, Prelude.{IfOk, OnOk, Option}};
 ghost use Rattle.ocfl_tree.specs.Place.{Place as ModelPlace};
+ghost use Rattle.ocfl_report.specs.Line.{Line as ModelLine, line_of};
 ghost use Rattle.ocfl_compare.specs.Changes.{change_at};
 ghost use Rattle.ocfl_messages.specs.Tally.{IsCount};
-ghost use Rattle.ocfl_words.specs.Counted.{Counted, Noted, counted, expected_kind};
+ghost use Rattle.ocfl_words.specs.Counted.{Counted, counted, expected_kind};
 ghost use Rattle.ocfl_words.specs.Counted.{file_kind, gone_in, is_known_finding, is_new_finding};
 ghost use Rattle.ocfl_words.specs.Counted.{is_repaired as is_repaired_change};
-ghost use Rattle.ocfl_words.specs.Counted.{is_unlooked as is_unlooked_change, joined, noted};
+ghost use Rattle.ocfl_words.specs.Counted.{is_unlooked as is_unlooked_change, joined};
 ghost use Rattle.ocfl_words.specs.Counted.{object_kind, shown_of};
+ghost use Rattle.ocfl_words.specs.Noted.{Noted, noted};
 
 use crate::missing::{Missing, add_count};
+use crate::repaired::keep_repaired;
 use ocfl_compare::Change;
 use ocfl_messages::{Gone, GoneKind};
+use ocfl_report::Line;
 use ocfl_tree::Place;
 use std::alloc::{AllocError, Global};
 
@@ -22,6 +27,9 @@ pub struct Changes {
     /// How many findings are new and known.
     pub known_count: u64,
     pub repaired_count: u64,
+    /// The first of what is repaired, as the report before has it: in the order of places, and the
+    /// most serious of a place first.
+    pub repaired: Vec<Line>,
     /// Objects that have no line of an object any more.
     pub objects: Missing,
     /// Files that have no line any more, of objects that are looked at.
@@ -39,6 +47,7 @@ impl Drop for Changes {
             appeared_count: _appeared_count,
             known_count: _known_count,
             repaired_count: _repaired_count,
+            repaired: _repaired,
             objects: _objects,
             files: _files,
             expected: _expected,
@@ -58,6 +67,7 @@ impl Changes {
             appeared_count: 0,
             known_count: 0,
             repaired_count: 0,
+            repaired: Vec::new(alloc),
             objects: Missing::new(alloc),
             files: Missing::new(alloc),
             expected: Missing::new(alloc),
@@ -94,21 +104,24 @@ impl Changes {
         self.known_count = add_count(self.known_count, other.known_count);
         self.repaired_count = add_count(self.repaired_count, other.repaired_count);
         self.unlooked = add_count(self.unlooked, other.unlooked);
+        self.repaired.append(&mut other.repaired)?;
         self.objects.join(&mut other.objects)?;
         self.files.join(&mut other.files)?;
         self.expected.join(&mut other.expected)
     }
 
-    /// Takes one more: a change at a place, and whether it is a finding that is known.
+    /// Takes one more: a change at a place, the line that it is of, and whether it is a finding that
+    /// is known.
     pub(crate) fn add(
         &mut self,
         place: &Place,
         change: Change,
+        line: Option<&Line>,
         is_known: bool,
     ) -> Result<(), AllocError>
         ensures { OnOk result ((ns : List Noted) → AreCounted self.old (counted ns)
-            → AreCounted self.new
-            (counted (ns ++ noted (change_at place.now change) is_known ∷ []))) }
+            → AreCounted self.new (counted (ns ++ noted (change_at place.now change)
+            (option_map (λ l. line_of l.now) line.entry) is_known ∷ []))) }
     {
         self.objects.add_if(object_kind_of(change), place)?;
         self.files.add_if(file_kind_of(change), place)?;
@@ -121,6 +134,7 @@ impl Changes {
         self.appeared_count = add_count(self.appeared_count, appeared);
         let known = one_if(is_new_and_known(change, is_known));
         self.known_count = add_count(self.known_count, known);
+        keep_repaired(&mut self.repaired, is_repaired(change), line)?;
         Ok(())
     }
 }
@@ -217,7 +231,8 @@ fn is_repaired(change: Change) -> bool
 
 /// Whether a change is a finding that is new and not known.
 fn is_new(change: Change, is_known: bool) -> bool
-    ensures { (p : ModelPlace) → result ≡ is_new_finding (noted (change_at p change) is_known) }
+    ensures { (p : ModelPlace) (line : Option ModelLine)
+        → result ≡ is_new_finding (noted (change_at p change) line is_known) }
 {
     match change {
         Change::Found(_) => !is_known,
@@ -232,7 +247,8 @@ fn is_new(change: Change, is_known: bool) -> bool
 
 /// Whether a change is a finding that is new and known.
 fn is_new_and_known(change: Change, is_known: bool) -> bool
-    ensures { (p : ModelPlace) → result ≡ is_known_finding (noted (change_at p change) is_known) }
+    ensures { (p : ModelPlace) (line : Option ModelLine)
+        → result ≡ is_known_finding (noted (change_at p change) line is_known) }
 {
     match change {
         Change::Found(_) => is_known,

@@ -71,18 +71,17 @@ impl<'a> ComparedLines<'a> {
         Ok(())
     }
 
-    /// Names the first line of a place with a code, which is new. Gives whether it is known.
-    pub(crate) fn name(&mut self, code: Code, place: &Place) -> bool {
+    /// Names the first line of a place with a code, which is new.
+    pub(crate) fn name(&mut self, code: Code, place: &Place) {
         if !self.waits_at(place) {
-            return false;
+            return;
         }
         for waiting in self.waiting.iter_mut() {
             if waiting.line.code == code {
                 waiting.is_told = self.counting.count_named(&waiting.line);
-                return self.counting.knows(&waiting.line);
+                return;
             }
         }
-        false
     }
 
     /// What was found in all lines of the report.

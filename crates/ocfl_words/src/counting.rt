@@ -1,7 +1,6 @@
 //! What a report has of its findings, as its lines come.
 ghost use Rattle.std.specs.Prelude.{◌≡◌, ◌++◌, ◌∷◌, [], List, OnOk};
 ghost use Rattle.ocfl_report.specs.Line.{Line as ModelLine, line_of};
-ghost use Rattle.ocfl_messages.specs.Known.{is_known};
 ghost use Rattle.ocfl_messages.specs.Tally.{IsTally};
 
 use ocfl_messages::{Gathering, Gravest, Heads, Known, Tally};
@@ -102,13 +101,6 @@ impl<'a> Counting<'a> {
             found.count = found.count.saturating_add(1);
         }
         Ok(())
-    }
-
-    /// Whether a finding is known.
-    pub(crate) fn knows(&self, line: &Line) -> bool
-        ensures { result ≡ is_known self.now.known.now (line_of line.now) }
-    {
-        self.known.names(line)
     }
 
     /// Counts a finding that is named. Whether it is to be told.

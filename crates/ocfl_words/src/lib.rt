@@ -5,11 +5,13 @@ mod changes;
 mod compared;
 mod counting;
 mod finding;
+mod keeping;
 mod lines;
 mod missing;
 mod noting;
 mod places;
 mod reading;
+mod repaired;
 
 pub use changes::Changes;
 pub use counting::Findings;

@@ -2,7 +2,6 @@
 ghost use Rattle.std.specs.Prelude.{◌≡◌, IfOk};
 ghost use Rattle.ocfl_report.specs.Line.{line_of as line_from};
 
-use ocfl_messages::Finding;
 use ocfl_report::{Line, TextStop, read_line};
 use std::alloc::{AllocError, Global};
 use std::io::{self, ErrorKind};
@@ -37,12 +36,4 @@ pub(crate) fn copy_of(line: &Line) -> Result<Line, AllocError>
         place,
         detail: line.detail.clone()?,
     })
-}
-
-/// Appends the lines of findings.
-pub(crate) fn put_lines(findings: &[Finding], lines: &mut Vec<Line>) -> Result<(), AllocError> {
-    for finding in findings {
-        lines.push(copy_of(&finding.line)?)?;
-    }
-    Ok(())
 }

@@ -1,16 +1,17 @@
 -- What is taken of changes, first and then.
 use Rattle.std.proofs.Common.{◌≡◌, List, [], ◌∷◌, ◌++◌, Bool, true, false, refl, sym, ap, subst, ◌∙◌, append_assoc, append-nil}
-use Rattle.std.specs.{Prelude.{◌||◌, All, cond, filter, map}, List.{list_any}}
-use Rattle.std.proofs.{KnownBytes.{Appends-nil}, lemmas.Grind.{flat_map-append}, lemmas.List.{map-append, Elements.{All-append, All-cons, All-nil, filter-append}, Folds.{list_any-append}}}
+use Rattle.std.specs.{Prelude.{◌||◌, cond, filter}, List.{list_any}}
+use Rattle.std.proofs.{KnownBytes.{Appends-nil}, lemmas.List.{Elements.{filter-append}, Folds.{list_any-append}}}
 use Rattle.ocfl_tree.specs.Place.{Place}
 use Rattle.ocfl_compare.specs.{Changes.{is_left}, declared.change.ChangeAt.{ChangeAt}}
-use Rattle.ocfl_compare.specs.{Internal.Seeing.{rows_joined}, Seen.{Seen, change, change_in, changes_in, line}}
+use Rattle.ocfl_compare.specs.{Internal.Seeing.{rows_joined}, Seen.{Seen, change, changes_in, line}}
 use Rattle.ocfl_compare.specs.declared.side.Side.{Side}
+use Rattle.ocfl_messages.specs.declared.known.KnownEntry.{KnownEntry}
 use Rattle.ocfl_report.specs.Line.{Line}
 use Rattle.std.specs.Io.KnownBytes.{Appends}
 use Rattle.ocfl_compare.specs.Gone.{gone_text}
-use Rattle.ocfl_words.specs.Counted.{AreCounted, Noted, counted, is_known_by, is_news, noted}
-use Rattle.ocfl_closed.specs.Taken.{Stand, HasTaken, IsMarked}
+use Rattle.ocfl_words.specs.{Counted.{AreCounted, counted, is_news}, Kept.{Kept, kept_after, kept_seen, noted_from}, Noted.{Noted, noted_in}}
+use Rattle.ocfl_closed.specs.Taken.{Stand, HasTaken}
 
 or_false : (b : Bool) → b ≡ (b || false)
 or_false true = refl
@@ -20,11 +21,23 @@ or_or : (a b c : Bool) → ((a || b) || c) ≡ (a || (b || c))
 or_or true b c = refl
 or_or false b c = refl
 
+-- ---- what is kept and noted
+
+pub kept_then : (k : Kept) (first then : List Seen) → kept_after k (first ++ then) ≡ kept_after (kept_after k first) then
+kept_then k [] then = refl
+kept_then k (line side l ∷ first) then = kept_then (kept_seen k side l) first then
+kept_then k (change c ∷ first) then = kept_then k first then
+
+pub noted_then : (known : List KnownEntry) (k : Kept) (first then : List Seen) → noted_from known k (first ++ then) ≡ noted_from known k first ++ noted_from known (kept_after k first) then
+noted_then known k [] then = refl
+noted_then known k (line side l ∷ first) then = noted_then known (kept_seen k side l) first then
+noted_then known k (change c ∷ first) then = ap (λ ns. noted_in known k.before k.now c ∷ ns) (noted_then known k first then)
+
+-- ---- what is taken
+
 pub takes_none : (a : Stand) → HasTaken a [] a
 takes_none a = record {
-  noted = [];
-  are = refl;
-  marked = All-nil (IsMarked a.known);
+  kept = refl;
   list = Appends-nil a.list;
   counted_on = λ ns h. subst (λ ms. AreCounted a.noting (counted ms)) (sym (append-nil ns)) h;
   grave = or_false a.is_grave;
@@ -34,25 +47,28 @@ takes_none a = record {
 }
 
 pub takes_then : (a b c : Stand) (first then : List Seen) → HasTaken a first b → HasTaken b then c → HasTaken a (first ++ then) c
-takes_then a b c first then p q = record {
-  noted = p.noted ++ q.noted;
-  are = map-append (λ (n : Noted). n.at) p.noted q.noted ∙ ap (λ cs. cs ++ map (λ (n : Noted). n.at) q.noted) p.are ∙ ap (λ cs. changes_in first ++ cs) q.are ∙ sym (flat_map-append change_in first then);
-  marked = All-append (IsMarked a.known) p.noted q.noted p.marked (subst (λ known. All (IsMarked known) q.noted) p.known q.marked);
-  list = rows_joined a.list b.list c.list first then p.list q.list;
-  counted_on = λ ns h. subst (λ ms. AreCounted c.noting (counted ms)) (append_assoc ns p.noted q.noted) (q.counted_on (ns ++ p.noted) (p.counted_on ns h));
-  grave = q.grave ∙ ap (λ x. x || list_any is_news q.noted) p.grave ∙ or_or a.is_grave (list_any is_news p.noted) (list_any is_news q.noted)
-      ∙ ap (λ x. a.is_grave || x) (sym (list_any-append is_news p.noted q.noted));
-  known = q.known ∙ p.known;
-  since = q.since ∙ p.since;
-  whole = q.whole ∙ p.whole;
-}
+takes_then a b c first then p q =
+    let ns = noted_from a.known a.kept first in
+    let ms = noted_from b.known b.kept then in
+    let both : noted_from a.known a.kept (first ++ then) ≡ ns ++ ms =
+    noted_then a.known a.kept first then ∙ sym (λ i. ns ++ noted_from (p.known i) (p.kept i) then) in
+    record {
+      kept = q.kept ∙ ap (λ k. kept_after k then) p.kept ∙ sym (kept_then a.kept first then);
+      list = rows_joined a.list b.list c.list first then p.list q.list;
+      counted_on = λ os h. subst (λ l. AreCounted c.noting (counted (os ++ l))) (sym both)
+          (subst (λ l. AreCounted c.noting (counted l)) (append_assoc os ns ms) (q.counted_on (os ++ ns) (p.counted_on os h)));
+      grave = q.grave ∙ ap (λ x. x || list_any is_news ms) p.grave ∙ or_or a.is_grave (list_any is_news ns) (list_any is_news ms)
+          ∙ ap (λ x. a.is_grave || x) (sym (list_any-append is_news ns ms) ∙ ap (list_any is_news) (sym both));
+      known = q.known ∙ p.known;
+      since = q.since ∙ p.since;
+      whole = q.whole ∙ p.whole;
+    }
 
--- a line that is seen changes nothing that counts
-pub took_none : (a b : Stand) (side : Side) (l : Line) → b.list ≡ a.list → b.known ≡ a.known → b.noting ≡ a.noting → b.since ≡ a.since → b.whole ≡ a.whole → b.is_grave ≡ a.is_grave → HasTaken a (line side l ∷ []) b
-took_none a b side l list known noting since whole grave = record {
-  noted = [];
-  are = refl;
-  marked = All-nil (IsMarked a.known);
+-- a line that is seen is kept or not, and changes nothing that counts
+pub took_line : (a b : Stand) (side : Side) (l : Line) → b.kept ≡ kept_seen a.kept side l → b.list ≡ a.list → b.known ≡ a.known → b.noting ≡ a.noting → b.since ≡ a.since → b.whole ≡ a.whole → b.is_grave ≡ a.is_grave
+    → HasTaken a (line side l ∷ []) b
+took_line a b side l kept list known noting since whole grave = record {
+  kept = kept;
   list = subst (λ l. Appends a.list l (gone_text [])) (sym list) (Appends-nil a.list);
   counted_on = λ ns h. subst (λ c. AreCounted c (counted (ns ++ []))) (sym noting) (subst (λ ms. AreCounted a.noting (counted ms)) (sym (append-nil ns)) h);
   grave = grave ∙ or_false a.is_grave;
@@ -61,17 +77,15 @@ took_none a b side l list known noting since whole grave = record {
   whole = whole;
 }
 
--- one change, which was noted so
-pub took_one : (a b : Stand) (c : ChangeAt) (is : Bool) → (is_known_by a.known c ≡ true → is ≡ true) → Appends a.list b.list (gone_text (c ∷ []))
-    → ((ns : List Noted) → AreCounted a.noting (counted ns) → AreCounted b.noting (counted (ns ++ noted c is ∷ [])))
-    → b.is_grave ≡ (a.is_grave || is_news (noted c is)) → b.known ≡ a.known → b.since ≡ a.since → b.whole ≡ a.whole → HasTaken a (change c ∷ []) b
-took_one a b c is marked list counted_on grave known since whole = record {
-  noted = noted c is ∷ [];
-  are = refl;
-  marked = All-cons (IsMarked a.known) (noted c is) [] marked (All-nil (IsMarked a.known));
+-- one change, which was noted by the lines that are kept
+pub took_one : (a b : Stand) (c : ChangeAt) → b.kept ≡ a.kept → Appends a.list b.list (gone_text (c ∷ []))
+    → ((ns : List Noted) → AreCounted a.noting (counted ns) → AreCounted b.noting (counted (ns ++ noted_in a.known a.kept.before a.kept.now c ∷ [])))
+    → b.is_grave ≡ (a.is_grave || is_news (noted_in a.known a.kept.before a.kept.now c)) → b.known ≡ a.known → b.since ≡ a.since → b.whole ≡ a.whole → HasTaken a (change c ∷ []) b
+took_one a b c kept list counted_on grave known since whole = record {
+  kept = kept;
   list = list;
   counted_on = counted_on;
-  grave = grave ∙ ap (λ x. a.is_grave || x) (or_false (is_news (noted c is)));
+  grave = grave ∙ ap (λ x. a.is_grave || x) (or_false (is_news (noted_in a.known a.kept.before a.kept.now c)));
   known = known;
   since = since;
   whole = whole;

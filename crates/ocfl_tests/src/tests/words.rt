@@ -2,22 +2,24 @@
 use crate::tests::common::store::place_of;
 use ocfl_compare::{Change, Side};
 use ocfl_messages::{GoneKind, Known, KnownEntry, Reach};
-use ocfl_report::{Code, DisplayPlace, Line, read_line};
+use ocfl_report::{Code, DisplayPlace, Line, read_line, read_place};
 use ocfl_words::{Changes, Noting, Part, count_places, find_lines, named_in};
 use std::alloc::Global;
 use std::test::Fail;
 
-/// A list on which findings of E101 at a place are known.
-fn known_at(alloc: Global, place: &str) -> Result<Known, Fail> {
+/// A finding of E101 at a place.
+fn conflict_at(alloc: Global, place: &str, detail: &str) -> Result<Line, Fail> {
+    Ok(Line {
+        code: Code::E101,
+        place: place_of(alloc, place)?,
+        detail: String::from_str(alloc, detail)?,
+    })
+}
+
+/// A list that names this line, or all findings of E101 at its place.
+fn known_by(alloc: Global, reach: Reach, line: Line) -> Result<Known, Fail> {
     let mut entries = Vec::new(alloc);
-    entries.push(KnownEntry {
-        reach: Reach::Place,
-        line: Line {
-            code: Code::E101,
-            place: place_of(alloc, place)?,
-            detail: String::from_str(alloc, "-")?,
-        },
-    })?;
+    entries.push(KnownEntry { reach, line })?;
     Ok(Known::of(entries)?)
 }
 
@@ -52,10 +54,11 @@ const CHANGES: [(&str, Change, bool); 8] = [
 #[test]
 fn each_change_is_counted_once(rt: HostRuntime) -> Result<(), Fail> {
     let alloc = rt.alloc();
-    let known = known_at(alloc, "q")?;
+    let known = known_by(alloc, Reach::Place, conflict_at(alloc, "q", "-")?)?;
     let mut noting = Noting::new(alloc, &known, &[]);
     for (path, change, is_known) in CHANGES {
         let place = place_of(alloc, path)?;
+        noting.see(Side::Now, &conflict_at(alloc, path, "b")?)?;
         assert_eq!(rt; noting.note(&place, change)?, is_known, "{path}");
     }
     let Part { changes, .. } = noting.take_part();
@@ -97,6 +100,58 @@ fn the_first_twenty_of_each_comparison_are_shown(rt: HostRuntime) -> Result<(), 
     Ok(())
 }
 
+/// Findings of a place in this report, and whether the first is known by its whole line.
+const KNOWN_LINES: [(&str, &str, &str, bool); 4] = [
+    ("a", "b", "c", true),
+    ("b", "c", "b", false),
+    ("b/c", "b", "b", false),
+    ("c", "b", "b", true),
+];
+
+#[test]
+fn a_finding_is_known_by_the_first_line_of_its_code(rt: HostRuntime) -> Result<(), Fail> {
+    let alloc = rt.alloc();
+    for (path, first, second, is_known) in KNOWN_LINES {
+        let named = if path == "b/c" { "b" } else { path };
+        let known = known_by(alloc, Reach::One, conflict_at(alloc, named, "b")?)?;
+        let mut noting = Noting::new(alloc, &known, &[]);
+        let place = place_of(alloc, path)?;
+        noting.see(Side::Before, &conflict_at(alloc, path, "b")?)?;
+        noting.see(Side::Now, &read_line(alloc, b"E101\t.\tb\n")?)?;
+        noting.see(Side::Now, &conflict_at(alloc, path, first)?)?;
+        noting.see(Side::Now, &conflict_at(alloc, path, second)?)?;
+        let found = Change::Found(Code::E101);
+        assert_eq!(rt; noting.note(&place, found)?, is_known, "{path}");
+    }
+    Ok(())
+}
+
+#[test]
+fn the_first_twenty_that_are_repaired_are_shown(rt: HostRuntime) -> Result<(), Fail> {
+    let alloc = rt.alloc();
+    let known = Known::new(alloc);
+    let mut noting = Noting::new(alloc, &known, &[]);
+    for object in ["a", "b"] {
+        for number in 10..21u64 {
+            let path = format!(in alloc; "{object}/{number}")?;
+            for code in ["E001", "E092"] {
+                let text = format!(in alloc; "{code}\t{path}\twas\n")?;
+                noting.see(Side::Before, &read_line(alloc, text.as_bytes())?)?;
+            }
+            let place = read_place(alloc, path.as_bytes())?;
+            noting.note(&place, Change::Repaired(Code::E001))?;
+            noting.note(&place, Change::Repaired(Code::E092))?;
+        }
+    }
+    let Part { changes, .. } = noting.take_part();
+    assert_eq!(rt; (changes.repaired.len(), changes.repaired_count), (20, 44));
+    for (line, code) in changes.repaired.iter().zip([Code::E092, Code::E001]) {
+        assert_eq!(rt; line.code, code);
+        assert_eq!(rt; line.place.path(), "a/10");
+    }
+    Ok(())
+}
+
 /// A report with a finding that is new, and one that is repaired before it.
 const REPORT: &str = "ok\t.\t-\nok\to\t-\nE101\tp\tone\nE101\tp\ttwo\n";
 
@@ -110,7 +165,7 @@ fn lines_of_what_changed_are_found(rt: HostRuntime) -> Result<(), Fail> {
     noting.see(Side::Now, &read_line(alloc, b"E101\tp\tone\n")?)?;
     noting.note(&place_of(alloc, "p")?, Change::Found(Code::E101))?;
     let part = noting.take_part();
-    let repaired = part.lines.repaired(alloc)?;
+    let repaired = &part.changes.repaired;
     assert_eq!(rt; repaired.len(), 1);
     assert_eq!(rt; repaired[0].detail.as_str(), "was");
     let none = Part::new(alloc);

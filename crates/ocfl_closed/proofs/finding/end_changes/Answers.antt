@@ -1,4 +1,4 @@
-use Rattle.std.proofs.Common.{subst, sym, ◌∙◌, ap}
+use Rattle.std.proofs.Common.{subst, ◌∙◌, ap}
 use Rattle.ocfl_words.specs.Counted.{joined}
 use Rattle.ocfl_closed.specs.Words.{HasText, beside_of, runs_by}
 use Rattle.ocfl_closed.proofs.finding.end_changes.Goals as goal

@@ -16,7 +16,7 @@ returns-clause-finds g c = λ told.
     let new = stand_of (contents taking.list.out) taking.words taking.is_grave in
     let same = (c.make_list.ensures.calm told).files in
     let moved = (c.take_changes.ensures.still told).calm.files ∙ same in
-    let taken = subst (λ f. AllTaken (AreParts (kept_of f) pair) old new) same (c.in_ok-taking.ensures.taken told) in
+    let taken = subst (λ f. AllTaken (AreParts old.known (kept_of f) pair) old new) same (c.in_ok-taking.ensures.taken told) in
     finds_of (kept_of files) pair (beside_of with (runs_in files pair)) c.in_ok-told.told.found.text.items c.in_ok-told.told.found.is_grave (D.state c.end_changes.new.disk).beside old new
     (ap contents c.new.ensures ∙ c.in_ok-list.ensures.empty told) refl c.new-2.ensures.known taken (c.in_ok-told.ensures.list told)
     (λ p since whole noting. subst (λ f. HasText (beside_of with (runs_in f pair)) pair (counted_in p) c.in_ok-told.told.found.text.items) moved (c.in_ok-told.ensures.text told _ _ _ since noting whole))

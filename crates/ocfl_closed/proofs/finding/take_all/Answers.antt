@@ -14,6 +14,7 @@ returns-clause-taken g c = λ told.
     (λ i. record {
       list = contents second.list.out;
       known = c.end_since.ensures.known i;
+      kept = c.end_since.ensures.kept i;
       noting = c.end_since.new.self.noting.changes;
       since = c.end_since.ensures.since i;
       whole = c.end_since.ensures.whole i;
@@ -22,12 +23,13 @@ returns-clause-taken g c = λ told.
     (λ i. record {
       list = contents third.list.out;
       known = c.end_whole.ensures.known i;
+      kept = c.end_whole.ensures.kept i;
       noting = c.end_whole.new.self.noting.changes;
       since = c.end_whole.ensures.since i;
       whole = c.end_whole.ensures.whole i;
       is_grave = third.is_grave;
     })
-    c.requires.noting c.end_since.ensures.noting c.end_whole.ensures.noting
+    c.requires.kept c.requires.noting c.end_since.ensures.noting c.end_whole.ensures.noting
     (c.in_ok-take_since.ensures.taken told) (c.in_ok-taking.ensures.taken told) (c.in_ok-take_missing.ensures.taken told)
 
 pub returns-clause-unchanged : goal.returns-clause-unchanged

@@ -1,6 +1,6 @@
-use Rattle.std.proofs.Common.{◌≡◌, ◌≤◌, ◌<◌, [], ◌∷◌, ◌++◌, length, take, sym, subst, arith}
+use Rattle.std.proofs.Common.{◌≤◌, length, arith}
 use Rattle.ocfl_words.specs.Counted.{gone_at, most_shown}
-use Rattle.ocfl_words.proofs.Firsts.{first_full, first_more}
+use Rattle.ocfl_words.proofs.Firsts.{first_full}
 use Rattle.ocfl_words.proofs.missing.put_first.Goals as goal
 
 pub returns-then-len-ge-SHOWN : goal.returns-then-len-ge-SHOWN

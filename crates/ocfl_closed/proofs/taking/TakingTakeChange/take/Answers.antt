@@ -1,11 +1,16 @@
 use Rattle.std.proofs.Common.{◌∙◌, ap}
 use Rattle.std.specs.Prelude.{◌||◌}
 use Rattle.ocfl_compare.specs.Changes.{change_at}
+use Rattle.ocfl_words.specs.{Counted.{is_news}, Kept.{kept_by}, Noted.{line_in, noted}}
 use Rattle.ocfl_closed.specs.Internal.Takes.{took_one}
 use Rattle.ocfl_closed.proofs.taking.TakingTakeChange.take.Goals as goal
 
 pub returns : goal.returns
 returns g c =
-    let p = c.args.place.now in
-    took_one _ _ (change_at p c.args.change) c.in_ok-is_known.is_known c.in_ok-is_known.ensures.value c.in_ok-take.ensures c.in_ok-is_known.ensures.counted
-    (c.either-self.ensures ∙ ap (λ x. c.args.self.now.is_grave || x) (c.is_news.ensures p)) c.take-2.ensures.known c.take-2.ensures.since c.take-2.ensures.whole
+    let old = c.args.self.now in
+    let at = change_at c.args.place.now c.args.change in
+    let kept = kept_by old.words.noting in
+    let line = line_in kept.before kept.now at in
+    took_one _ _ at c.take-2.ensures.kept c.in_ok-take.ensures c.in_ok-is_known.ensures.counted
+    (c.either-self.ensures ∙ ap (λ x. old.is_grave || x) (c.is_news.ensures c.args.place.now line ∙ ap (λ is. is_news (noted at line is)) c.in_ok-is_known.ensures.value))
+    c.take-2.ensures.known c.take-2.ensures.since c.take-2.ensures.whole

@@ -110,8 +110,8 @@ impl Changes {
         self.expected.join(&mut other.expected)
     }
 
-    /// Takes one more: a change at a place, the line that it is of, and whether it is a finding that
-    /// is known.
+    /// Takes one more: a change at a place, the line that it is of, and whether it is a finding
+    /// that is known.
     pub(crate) fn add(
         &mut self,
         place: &Place,

@@ -53,8 +53,8 @@ fn find_line<'l>(lines: &'l [Line], code: Code, place: &Place) -> Option<&'l Lin
     lines.iter().find(|line| is_finding_at(line, code, place))
 }
 
-/// The line that a change is of: of what is new the line of this report, and of what is repaired that
-/// of the report before.
+/// The line that a change is of: of what is new the line of this report, and of what is repaired
+/// that of the report before.
 pub(crate) fn line_of_change<'l>(
     before: &'l [Line],
     now: &'l [Line],
@@ -88,8 +88,8 @@ fn is_found(change: Change) -> bool
 
 /// Whether a change is a finding that is new and known, by the line that it is of.
 pub(crate) fn knows(known: &Known, change: Change, line: Option<&Line>) -> bool
-    ensures { result
-        ≡ is_named known.now (option_map (λ l. line_of l.now) line.entry) && is_found_change change }
+    ensures { result ≡ is_named known.now (option_map (λ l. line_of l.now) line.entry)
+        && is_found_change change }
 {
     match line {
         Some(line) => known.names(line) && is_found(change),

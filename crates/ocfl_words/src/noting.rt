@@ -24,8 +24,8 @@ const MOST_NAMED: usize = 10_000;
 
 /// Lines of what is new.
 pub struct ChangedLines {
-    /// The first findings that are new and not known, by their codes and places alone, up to 10,000.
-    /// None where the lines of the report were counted in the same reading.
+    /// The first findings that are new and not known, by their codes and places alone, up to
+    /// 10,000. None where the lines of the report were counted in the same reading.
     appeared: Vec<Line>,
 }
 
@@ -249,8 +249,8 @@ impl<'k> Noting<'k> {
         }
     }
 
-    /// Notes a change. Gives whether it is a finding that is new and known: the list names the first
-    /// line of its code that was seen of this report at the place.
+    /// Notes a change. Gives whether it is a finding that is new and known: the list names the
+    /// first line of its code that was seen of this report at the place.
     pub fn note(&mut self, place: &Place, change: Change) -> Result<bool, AllocError>
         ensures value { IfOk result (λ is. is ≡ is_known_in self.old.known.now
             (kept_by self.old).now (change_at place.now change)) }

@@ -1,6 +1,6 @@
 //! The lines of findings that are repaired, as many as are shown.
-ghost use Rattle.std.specs.Prelude.{◌≡◌, ◌≤◌, ◌++◌, List, [], ◌∷◌, drop, if◌then◌else◌, length, map};
-ghost use Rattle.std.specs.Prelude.{nat_lt, take, OnOk};
+ghost use Rattle.std.specs.Prelude.{◌≡◌, ◌≤◌, ◌++◌, List, [], ◌∷◌, drop, if◌then◌else◌};
+ghost use Rattle.std.specs.Prelude.{length, map, nat_lt, take, OnOk};
 ghost use Rattle.std.specs.Option.{option_map, option_to_list};
 ghost use Rattle.ocfl_report.specs.Line.{Line as ModelLine, line_of};
 ghost use Rattle.ocfl_words.specs.Counted.{most_shown};

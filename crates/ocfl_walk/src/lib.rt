@@ -9,7 +9,7 @@
 //!   order, each once. It reads exactly the inventories of the objects between them. It opens no
 //!   content file, and nothing fails (`Walks`).
 //! - That holds of each audit, with the inventories of version directories (`Further`) and without
-//!   them. With them it opens metadata also beside those of them that lie between the two places.
+//!   them. With them it also opens sidecars beside such inventories.
 //! - A fault of the store names the place of the call that failed: the last opening, of metadata,
 //!   or the last listing, which alone of listings failed. That is never a hashed file's place. No
 //!   directory above the next item's place was listed then, and no inventory of an object there was

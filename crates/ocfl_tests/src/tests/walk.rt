@@ -14,6 +14,7 @@ use std::test::Fail;
 mod find;
 mod from;
 mod stack;
+mod versions;
 
 pub(crate) fn said(fault: Fault) -> Fail {
     match fault {

@@ -46,7 +46,13 @@ impl Runs {
             (option_map string_bytes self.now.why) names.entry (option_map string_bytes said)) }
     {
         let words = words_of(alloc, reason)?;
-        ending_text(alloc, &self.end.end, text_of(&words), text_of(&self.why), names)
+        ending_text(
+            alloc,
+            &self.end.end,
+            text_of(&words),
+            text_of(&self.why),
+            names,
+        )
     }
 
     /// How the night ended. `said` is what is said of that.

@@ -10,7 +10,6 @@ use ocfl_joining::{Facts, FailedCall, FoundReport, ReportTrouble, RunCount, mark
 use ocfl_kept::kept::{ClosedIn, is_packed, is_told, part_path, report_path};
 use ocfl_kept::room::Room;
 use ocfl_messages::{Joined, Shown, joined_text};
-use ocfl_state::Checkpoint;
 use std::alloc::{AllocError, Global};
 use std::fs::File;
 use std::io::{self, BufReader, ErrorKind, Write};

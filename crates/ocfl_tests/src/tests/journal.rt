@@ -3,9 +3,9 @@ use crate::tests::common::store::place_of;
 use ocfl_cursor::{Cursor, State};
 use ocfl_endings::{RunLog, Runs};
 use ocfl_files::failing::Failure;
+use ocfl_journal::SystemLog;
 use ocfl_journal::ending::{end_night, log_ended, log_unbegun, status_told};
 use ocfl_journal::noting::{Beside, OnDisk, Told, open_noting};
-use ocfl_journal::SystemLog;
 use ocfl_kept::names::{About, Names};
 use ocfl_messages::Known;
 use ocfl_plan::Listener;
@@ -87,7 +87,8 @@ fn untimed(alloc: Global, log: &str) -> Result<String, Fail> {
     Ok(text)
 }
 
-const LOGGED: &str = r#"{"bytes":90,"cycle":1,"lines":4,"night":10,"part":2,"program":"abc","root":"/srv/ocfl","row":"began","stands":"after o"
+const LOGGED: &str =
+    r#"{"bytes":90,"cycle":1,"lines":4,"night":10,"part":2,"program":"abc","root":"/srv/ocfl","row":"began","stands":"after o"
 {"cycle":1,"night":10,"place":"b","row":"left"
 {"cycle":1,"night":10,"place":"d e","row":"left"
 "#;
@@ -135,7 +136,9 @@ fn a_night_is_logged_with_why_it_stopped(rt: HostRuntime) -> Result<(), Fail> {
     let mut noting = open_noting(&rt, about, true).or(Err("not opened"))?;
     let log = SystemLog::at(&rt, "ended")?;
     let Beside {
-        journal, speaker, ..
+        journal,
+        speaker,
+        ..
     } = noting.beside(about, log)?;
     put(alloc, &mut noting, 2, &["b"])?;
     fs::remove_file(&rt, "ended/log")?;
@@ -143,7 +146,10 @@ fn a_night_is_logged_with_why_it_stopped(rt: HostRuntime) -> Result<(), Fail> {
     assert!(rt; runs.said(alloc, about.names, None)?.is_none());
     let said = Some(String::from_str(alloc, "stopped.\n")?);
     let ended = runs.ended(&said);
-    assert_eq!(rt; (ended.closed, ended.is_logged, ended.is_lost), (Some(0), true, false));
+    assert_eq!(rt;
+        (ended.closed, ended.is_logged, ended.is_lost),
+        (Some(0), true, false)
+    );
     let status = runs.status(1);
     assert_eq!(rt; status, 3);
     let mut folder = end_night(&rt, alloc, "ended", noting, ended)?;
@@ -154,7 +160,8 @@ fn a_night_is_logged_with_why_it_stopped(rt: HostRuntime) -> Result<(), Fail> {
     Ok(())
 }
 
-const RUN: &str = r#"{"bytes":90,"cost":7,"cycle":1,"files":3,"lines":4,"night":10,"row":"slice","run":3,"seconds":0,"spent":21,"stands":"after o","status":1,"time":18446744073709551615}
+const RUN: &str =
+    r#"{"bytes":90,"cost":7,"cycle":1,"files":3,"lines":4,"night":10,"row":"slice","run":3,"seconds":0,"spent":21,"stands":"after o","status":1,"time":18446744073709551615}
 "#;
 
 #[test]

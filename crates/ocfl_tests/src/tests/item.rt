@@ -2,6 +2,6 @@
 mod cost;
 mod head_files;
 mod head_lines;
-mod inventories;
 mod judging;
 mod met;
+mod version_inventories;

@@ -224,7 +224,8 @@ fn bytes_of(alloc: Global, kept: Kept) -> Result<Option<Vec<u8>>, Fail> {
         tail: mark_of(if is_right { REPORT } else { &REPORT[7..] }).tail,
         ..mark_of(REPORT)
     };
-    Ok(Some(closed_with(alloc, mark, whole, left)?))
+    let bytes = closed_with(alloc, mark, whole, left).ok_or("no checkpoint")?;
+    Ok(Some(bytes))
 }
 
 /// What is there: which reports, what was kept, and whether one is compressed; and what is seen:

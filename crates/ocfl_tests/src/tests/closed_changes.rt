@@ -80,14 +80,10 @@ impl ReportsOn {
         let Some(lines) = lines else {
             return Ok(Some(kept(Vec::from_slice(self.alloc, b"no checkpoint".as_slice()))?));
         };
-        match closed_with(
-            self.alloc,
-            mark_of(lines.as_bytes()),
-            true,
-            Vec::new(self.alloc),
-        ) {
-            Ok(bytes) => Ok(Some(bytes)),
-            Err(_) => Err(ClosingStop::Failed),
+        let mark = mark_of(lines.as_bytes());
+        match closed_with(self.alloc, mark, true, Vec::new(self.alloc)) {
+            Some(bytes) => Ok(Some(bytes)),
+            None => Err(ClosingStop::Failed),
         }
     }
 }

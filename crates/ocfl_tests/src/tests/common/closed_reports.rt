@@ -1,14 +1,13 @@
 //! A closed report in memory, and the checkpoint that was kept with one.
 ghost use Rattle.std.proofs.lemmas.Bool.{false≢true};
 
-use crate::tests::common::store::place_of;
 use ocfl_closed::OpenReport;
 use ocfl_cursor::{Cursor, State};
+use ocfl_report::read_place;
 use ocfl_state::{Checkpoint, Left, Phase, ReportMark, RootIdentity, TopNames, encode_checkpoint};
 use sha2::{Digest, Sha256};
 use std::alloc::Global;
 use std::io;
-use std::test::Fail;
 
 /// An open report, which gives at most 5 bytes at once.
 #[derive(Drop)]
@@ -37,31 +36,32 @@ pub fn mark_of(bytes: &[u8]) -> ReportMark {
     }
 }
 
-/// The bytes of the checkpoint with which a report that has this mark was closed.
+/// The bytes of the checkpoint with which a report that has this mark was closed. `None` if there is
+/// no memory for them.
 pub fn closed_with(
     alloc: Global,
     report: ReportMark,
     whole: bool,
     left: Vec<Left>,
-) -> Result<Vec<u8>, Fail> {
-    Ok(encode_checkpoint(
-        alloc,
-        &Checkpoint {
-            root: RootIdentity {
-                path: place_of(alloc, "srv/ocfl")?,
-                declared: [0x11; 32],
-            },
-            names: TopNames {
-                count: 3,
-                digest: [0xAB; 32],
-            },
-            phase: Phase::Closing,
-            whole,
-            report,
-            told: 0,
-            left,
-            part: None,
-            cursor: Cursor::from_parts(1, 1, 4, 1, State::Ended).ok_or("a cursor")?,
-        },
-    )?)
+) -> Option<Vec<u8>> {
+    let root = RootIdentity {
+        path: read_place(alloc, b"srv/ocfl").ok()?,
+        declared: [0x11; 32],
+    };
+    let names = TopNames {
+        count: 3,
+        digest: [0xAB; 32],
+    };
+    let checkpoint = Checkpoint {
+        root,
+        names,
+        phase: Phase::Closing,
+        whole,
+        report,
+        told: 0,
+        left,
+        part: None,
+        cursor: Cursor::from_parts(1, 1, 4, 1, State::Ended)?,
+    };
+    encode_checkpoint(alloc, &checkpoint).ok()
 }

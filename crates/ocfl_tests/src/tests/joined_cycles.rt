@@ -237,9 +237,9 @@ fn a_cycle_that_fails_is_said(rt: HostRuntime) -> Result<(), Fail> {
         failed += 1;
         assert_eq!(rt; status, 3, "{number}");
         if joined.len() == 3 {
-            // All have their names, of which one was not brought to the disk.
+            // All have their names: one was not brought to the disk, or the call looked for another.
             let mut one = 0;
-            for cycle in [1, 4, 5] {
+            for cycle in 1..=5 {
                 if says_failed(alloc, noted.as_slice(), &[cycle])? {
                     one += 1;
                 }

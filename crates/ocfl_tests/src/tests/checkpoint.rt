@@ -411,6 +411,14 @@ fn checkpoints_say_what_parts_have_closed(rt: HostRuntime) -> Result<(), Fail> {
             "{number}"
         );
     }
+    assert_eq!(rt; last_of_all(&[]), u64::MAX);
+    assert_eq!(rt; last_of_all(&[None]), 0);
+    Ok(())
+}
+
+#[test]
+fn facts_are_read_of_a_checkpoint(rt: HostRuntime) -> Result<(), Fail> {
+    let alloc = rt.alloc();
     let text = encode_checkpoint(alloc, &closed_checkpoint(alloc)?)?;
     match read_facts(alloc, text.as_slice()) {
         Ok(facts) => assert!(rt; facts.last == 7 && facts.has_lines),
@@ -420,8 +428,6 @@ fn checkpoints_say_what_parts_have_closed(rt: HostRuntime) -> Result<(), Fail> {
         read_facts(alloc, &text[1..]).err(),
         Some(Refused::NotA(TextKind::Checkpoint))
     );
-    assert_eq!(rt; last_of_all(&[]), u64::MAX);
-    assert_eq!(rt; last_of_all(&[None]), 0);
     Ok(())
 }
 

@@ -450,7 +450,8 @@ fn a_part_is_known_by_what_was_kept(rt: HostRuntime) -> Result<(), Fail> {
     assert_eq!(rt; add_runs(Some(5), kept), Some(7));
     assert_eq!(rt; add_runs(Some(u64::MAX), kept), Some(u64::MAX));
     assert_eq!(rt; add_runs(None, kept), None);
-    // 2 runs of each of two parts, of one cycle; of one of which nothing was kept they are not known.
+    // 2 runs of each of two parts, of one cycle; of one of which nothing was kept they are not
+    // known.
     let one = RunCount::new().with(3, kept);
     assert_eq!(rt; (RunCount::new().known(), one.known()), (0, 2));
     assert_eq!(rt;

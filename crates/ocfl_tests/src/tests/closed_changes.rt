@@ -244,8 +244,8 @@ fn cycle_of(alloc: Global, cycle: u64, left: &[&str]) -> Result<Option<ClosedCyc
     Ok(Some(ClosedCycle::new(cycle, left.is_empty(), false, places)))
 }
 
-/// Cycle 3, which left places out, and the cycles before with what the first of them left out; 0 for
-/// none.
+/// Cycle 3, which left places out, and the cycles before with what the first of them left out; 0
+/// for none.
 #[derive(Clone, Copy)]
 struct Compared {
     left: &'static [&'static str],
@@ -291,9 +291,9 @@ const ONE: &str = "ok\t.\t-\nok\tp\t-\n";
 /// That with a finding at `q`.
 const FOUND: &str = "ok\t.\t-\nok\to\t-\nok\tp\t-\nok\tp/v1/content/a\t0\nE101\tq\tx\n";
 
-/// A closed cycle: which reports there are, which objects must be there, the list of what is gone at
-/// the end of cycle 1, the place at which findings of E101 are known, and what is compared; and the
-/// calls, the list, how the text begins and whether something is grave.
+/// A closed cycle: which reports there are, which objects must be there, the list of what is gone
+/// at the end of cycle 1, the place at which findings of E101 are known, and what is compared; and
+/// the calls, the list, how the text begins and whether something is grave.
 #[derive(Drop)]
 struct Row {
     reports: Reports,

@@ -63,8 +63,8 @@ fn closed(cycle: u64, part: usize) -> MemClosed {
 }
 
 /// A disk on which both parts have closed the cycles up to 5, but the second none of cycle 2, and
-/// where the joined report of cycle 3 is compressed. The second part has not said what it found in one
-/// cycle, and its report of another one is not whole.
+/// where the joined report of cycle 3 is compressed. The second part has not said what it found in
+/// one cycle, and its report of another one is not whole.
 fn disk_with(alloc: Global, disk: MemDisk, untold: u64, partial: u64) -> Result<MemJoinDisk, Fail> {
     let mut all = Vec::new(alloc);
     for cycle in 1..=5 {
@@ -216,9 +216,9 @@ fn says_failed(alloc: Global, said: &[u8], cycles: &[u64]) -> Result<bool, Fail>
     Ok(said == wanted.as_bytes())
 }
 
-/// Of a disk that keeps what it began to write, one call fails: of the cycles 1, 4 and 5 each is said
-/// that is not joined then. The last one that is joined may have its name and be said too, as one that
-/// a power cut may take.
+/// Of a disk that keeps what it began to write, one call fails: of the cycles 1, 4 and 5 each is
+/// said that is not joined then. The last one that is joined may have its name and be said too, as
+/// one that a power cut may take.
 #[test]
 fn a_cycle_that_fails_is_said(rt: HostRuntime) -> Result<(), Fail> {
     let alloc = rt.alloc();
@@ -237,7 +237,8 @@ fn a_cycle_that_fails_is_said(rt: HostRuntime) -> Result<(), Fail> {
         failed += 1;
         assert_eq!(rt; status, 3, "{number}");
         if joined.len() == 3 {
-            // All have their names: one was not brought to the disk, or the call looked for another.
+            // All have their names: one was not brought to the disk, or the call looked for
+            // another.
             let mut one = 0;
             for cycle in 1..=5 {
                 if says_failed(alloc, noted.as_slice(), &[cycle])? {

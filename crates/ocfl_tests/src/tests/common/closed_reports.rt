@@ -36,8 +36,8 @@ pub fn mark_of(bytes: &[u8]) -> ReportMark {
     }
 }
 
-/// The bytes of the checkpoint with which a report that has this mark was closed. `None` if there is
-/// no memory for them.
+/// The bytes of the checkpoint with which a report that has this mark was closed. `None` if there
+/// is no memory for them.
 pub fn closed_with(
     alloc: Global,
     report: ReportMark,

@@ -216,6 +216,17 @@ fn says_failed(alloc: Global, said: &[u8], cycles: &[u64]) -> Result<bool, Fail>
     Ok(said == wanted.as_bytes())
 }
 
+/// The cycles that are due and not among these.
+fn lacking_in(alloc: Global, joined: &[u64]) -> Result<Vec<u64>, Fail> {
+    let mut lacking = Vec::new(alloc);
+    for cycle in [1, 4, 5] {
+        if !joined.contains(&cycle) {
+            lacking.push(cycle)?;
+        }
+    }
+    Ok(lacking)
+}
+
 /// Of a disk that keeps what it began to write, one call fails: of the cycles 1, 4 and 5 each is
 /// said that is not joined then. The last one that is joined may have its name and be said too, as
 /// one that a power cut may take.
@@ -248,12 +259,7 @@ fn a_cycle_that_fails_is_said(rt: HostRuntime) -> Result<(), Fail> {
             assert_eq!(rt; one, 1, "{number}");
             continue;
         }
-        let mut lacking = Vec::new(alloc);
-        for cycle in [1, 4, 5] {
-            if !joined.as_slice().contains(&cycle) {
-                lacking.push(cycle)?;
-            }
-        }
+        let lacking = lacking_in(alloc, joined.as_slice())?;
         assert!(rt;
             says_failed(alloc, noted.as_slice(), lacking.as_slice())?,
             "{number}"

@@ -1,3 +1,4 @@
+mod Inventories
 pub mod Weights
 mod Rows
 mod Tables

@@ -2,7 +2,7 @@
 use Rattle.std.proofs.Common.{◌≡◌, ℕ, ◌+◌, Bool, true, false, refl}
 use Rattle.std.specs.Prelude.{is_some}
 use Rattle.ocfl_report.specs.{Line.{is_finding_code}, declared.code.Code.{Code}}
-use Rattle.ocfl_report.specs.declared.code.Code.TheVariants.{Clean, E001, E003, E007, E015, E017, E018, E023, E024, E025, E033, E036, E041, E058, E060, E061, E063, E069, E072, E073, E076, E080, E092, E093, E096, E097, E099, E100, E101, S01, S02, S03, S04, S05, S06, S07, S08}
+use Rattle.ocfl_report.specs.declared.code.Code.TheVariants.{Clean, E001, E003, E007, E015, E017, E018, E023, E024, E025, E033, E036, E041, E058, E060, E061, E063, E064, E069, E072, E073, E076, E080, E092, E093, E096, E097, E099, E100, E101, S01, S02, S03, S04, S05, S06, S07, S08, S09}
 use Rattle.ocfl_codes.specs.Weight.{weight_of, is_weight}
 use Rattle.ocfl_codes.specs.declared.weight.Weight.TheVariants.{Bytes, Object, Record, Position}
 
@@ -30,6 +30,7 @@ weights E058 = (refl, refl)
 weights E060 = (refl, refl)
 weights E061 = (refl, refl)
 weights E063 = (refl, refl)
+weights E064 = (refl, refl)
 weights E069 = (refl, refl)
 weights E072 = (refl, refl)
 weights E073 = (refl, refl)
@@ -50,6 +51,7 @@ weights S05 = (refl, refl)
 weights S06 = (refl, refl)
 weights S07 = (refl, refl)
 weights S08 = (refl, refl)
+weights S09 = (refl, refl)
 
 pub weighed : (c : Code) → is_some (weight_of c) ≡ is_finding_code c
 weighed c = (weights c).0

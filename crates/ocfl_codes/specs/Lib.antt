@@ -1,4 +1,5 @@
 pub mod Weight
+pub mod Inventories
 pub mod Kinds
 pub mod Meaning
 pub mod Table

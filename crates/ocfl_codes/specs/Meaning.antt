@@ -1,8 +1,9 @@
 -- What the codes of report lines mean, in a few words, and what to do first about a finding.
-use Rattle.std.specs.Prelude.{codes}
-use Rattle.ocfl_tree.specs.Place.{Text}
+use Rattle.std.specs.Prelude.{codes, if◌then◌else◌}
+use Rattle.ocfl_tree.specs.Place.{Text, Place}
+use Rattle.ocfl_codes.specs.Inventories.{is_version_inventory}
 use Rattle.ocfl_report.specs.declared.code.Code.{Code}
-use Rattle.ocfl_report.specs.declared.code.Code.TheVariants.{Clean, E001, E003, E007, E015, E017, E018, E023, E024, E025, E033, E036, E041, E058, E060, E061, E063, E069, E072, E073, E076, E080, E092, E093, E096, E097, E099, E100, E101, S01, S02, S03, S04, S05, S06, S07, S08}
+use Rattle.ocfl_report.specs.declared.code.Code.TheVariants.{Clean, E001, E003, E007, E015, E017, E018, E023, E024, E025, E033, E036, E041, E058, E060, E061, E063, E064, E069, E072, E073, E076, E080, E092, E093, E096, E097, E099, E100, E101, S01, S02, S03, S04, S05, S06, S07, S08, S09}
 
 -- what is so of the place of a line with this code
 abbrev pub meaning_of : Code → Text
@@ -23,6 +24,7 @@ meaning_of E058 = codes "its inventory's sidecar is missing"
 meaning_of E060 = codes "its inventory and the sidecar differ"
 meaning_of E061 = codes "its inventory's sidecar cannot be used"
 meaning_of E063 = codes "its inventory is missing, so nothing in it was looked at"
+meaning_of E064 = codes "differs from the root inventory, which is of the same version"
 meaning_of E069 = codes "no declaration, so nothing was looked at"
 meaning_of E072 = codes "a file outside of any object"
 meaning_of E073 = codes "an empty folder where an object should be"
@@ -43,6 +45,17 @@ meaning_of S05 = codes "a folder too deep to be looked into"
 meaning_of S06 = codes "its inventory has a path that no content file can have"
 meaning_of S07 = codes "has an algorithm in its fixity block that is not computed"
 meaning_of S08 = codes "could not be read"
+meaning_of S09 = codes "what its root inventory is"
+
+-- the same of a line at the inventory in a version directory
+abbrev pub version_meaning_of : Code → Text
+version_meaning_of E058 = codes "its sidecar is missing"
+version_meaning_of E060 = codes "differs from its sidecar"
+version_meaning_of E061 = codes "its sidecar cannot be used"
+version_meaning_of c = meaning_of c
+
+abbrev pub meaning_at : Code → Place → Text
+meaning_at c p = if is_version_inventory p then version_meaning_of c else meaning_of c
 
 -- what to do first there
 abbrev pub first_step_of : Code → Text
@@ -63,6 +76,7 @@ first_step_of E058 = codes "compare it with the one in its newest version folder
 first_step_of E060 = codes "look for the expected digest among the inventories of its version folders"
 first_step_of E061 = codes "compare it with the one in its newest version folder, and copy that one if it is right"
 first_step_of E063 = codes "compare it with the one in its newest version folder, and copy that one if it is right"
+first_step_of E064 = codes "find out by a copy which of the two is right, and whether the object went back"
 first_step_of E069 = codes "see whether this is the storage root and its disk is mounted"
 first_step_of E072 = codes "see whether the files are those of an object, and restore its declaration"
 first_step_of E073 = codes "restore the object; if it was moved on purpose, remove the folder"
@@ -83,3 +97,14 @@ first_step_of S05 = codes "audit the object with another program"
 first_step_of S06 = codes "validate the object, and tell whoever wrote its inventory"
 first_step_of S07 = codes "audit that digest with another program"
 first_step_of S08 = codes "look at its permissions and at the kernel's log, then check it again"
+first_step_of S09 = codes "nothing"
+
+-- the same at the inventory in a version directory
+abbrev pub version_step_of : Code → Text
+version_step_of E058 = codes "compare it with a copy, and write its sidecar again if it is right"
+version_step_of E060 = codes "compare it and its sidecar with a copy, and restore the one that has changed"
+version_step_of E061 = codes "compare it with a copy, and write its sidecar again if it is right"
+version_step_of c = first_step_of c
+
+abbrev pub first_step_at : Code → Place → Text
+first_step_at c p = if is_version_inventory p then version_step_of c else first_step_of c

@@ -2,7 +2,7 @@
 use Rattle.std.specs.Prelude.{List, [], ◌∷◌, ◌++◌, Bool, Option, Some, None, codes, flat_map}
 use Rattle.ocfl_tree.specs.Place.{Text, text_eq}
 use Rattle.ocfl_report.specs.{Text.{code_text}, declared.code.Code.{Code}}
-use Rattle.ocfl_report.specs.declared.code.Code.TheVariants.{Clean, E001, E003, E007, E015, E017, E018, E023, E024, E025, E033, E036, E041, E058, E060, E061, E063, E069, E072, E073, E076, E080, E092, E093, E096, E097, E099, E100, E101, S01, S02, S03, S04, S05, S06, S07, S08}
+use Rattle.ocfl_report.specs.declared.code.Code.TheVariants.{Clean, E001, E003, E007, E015, E017, E018, E023, E024, E025, E033, E036, E041, E058, E060, E061, E063, E064, E069, E072, E073, E076, E080, E092, E093, E096, E097, E099, E100, E101, S01, S02, S03, S04, S05, S06, S07, S08, S09}
 use Rattle.ocfl_codes.specs.{Weight.{weight_of}, Kinds.{kind_of}, Meaning.{first_step_of, meaning_of}}
 use Rattle.ocfl_codes.specs.{declared.weight.Weight.{Weight}, declared.kind.Kind.{Kind}}
 use Rattle.ocfl_codes.specs.declared.weight.Weight.TheVariants as weight
@@ -10,8 +10,8 @@ use Rattle.ocfl_codes.specs.declared.kind.Kind.TheVariants as kind
 
 abbrev pub every_code : List Code
 every_code = Clean ∷ E001 ∷ E003 ∷ E007 ∷ E015 ∷ E017 ∷ E018 ∷ E023 ∷ E024 ∷ E025 ∷ E033 ∷ E036 ∷
-    E041 ∷ E058 ∷ E060 ∷ E061 ∷ E063 ∷ E069 ∷ E072 ∷ E073 ∷ E076 ∷ E080 ∷ E092 ∷ E093 ∷ E096 ∷
-    E097 ∷ E099 ∷ E100 ∷ E101 ∷ S01 ∷ S02 ∷ S03 ∷ S04 ∷ S05 ∷ S06 ∷ S07 ∷ S08 ∷ []
+    E041 ∷ E058 ∷ E060 ∷ E061 ∷ E063 ∷ E064 ∷ E069 ∷ E072 ∷ E073 ∷ E076 ∷ E080 ∷ E092 ∷ E093 ∷ E096 ∷
+    E097 ∷ E099 ∷ E100 ∷ E101 ∷ S01 ∷ S02 ∷ S03 ∷ S04 ∷ S05 ∷ S06 ∷ S07 ∷ S08 ∷ S09 ∷ []
 
 -- the codes are one
 abbrev pub has_text_of : Code → Code → Bool

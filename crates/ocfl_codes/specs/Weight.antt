@@ -1,7 +1,7 @@
 -- How serious a finding is.
 use Rattle.std.specs.Prelude.{Bool, true, false, Option, Some, None}
 use Rattle.ocfl_report.specs.{Line.{Line}, declared.code.Code.{Code}}
-use Rattle.ocfl_report.specs.declared.code.Code.TheVariants.{Clean, E001, E003, E007, E015, E017, E018, E023, E024, E025, E033, E036, E041, E058, E060, E061, E063, E069, E072, E073, E076, E080, E092, E093, E096, E097, E099, E100, E101, S01, S02, S03, S04, S05, S06, S07, S08}
+use Rattle.ocfl_report.specs.declared.code.Code.TheVariants.{Clean, E001, E003, E007, E015, E017, E018, E023, E024, E025, E033, E036, E041, E058, E060, E061, E063, E064, E069, E072, E073, E076, E080, E092, E093, E096, E097, E099, E100, E101, S01, S02, S03, S04, S05, S06, S07, S08, S09}
 use Rattle.ocfl_codes.specs.declared.weight.Weight.{Weight}
 use Rattle.ocfl_codes.specs.declared.weight.Weight.TheVariants.{Bytes, Object, Record, Position}
 
@@ -24,6 +24,7 @@ weight_of E058 = Some Record
 weight_of E060 = Some Object
 weight_of E061 = Some Record
 weight_of E063 = Some Object
+weight_of E064 = Some Object
 weight_of E069 = Some Object
 weight_of E072 = Some Position
 weight_of E073 = Some Position
@@ -44,6 +45,7 @@ weight_of S05 = Some Object
 weight_of S06 = Some Record
 weight_of S07 = None
 weight_of S08 = Some Bytes
+weight_of S09 = None
 
 abbrev pub is_weight : Weight → Option Weight → Bool
 is_weight Bytes (Some Bytes) = true

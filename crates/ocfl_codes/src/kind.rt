@@ -2,17 +2,19 @@
 ghost use Rattle.std.specs.Prelude.{◌≡◌};
 ghost use Rattle.ocfl_report.specs.Line.{line_of};
 ghost use Rattle.ocfl_codes.specs.Kinds.{is_dash as is_dash_text, is_file, is_head};
-ghost use Rattle.ocfl_codes.specs.Kinds.{is_hiding as hiding, kind_of as kind_by_code, tells_file, tells_object};
+ghost use Rattle.ocfl_codes.specs.Kinds.{is_hiding as hiding, kind_at as kind_by_place};
+ghost use Rattle.ocfl_codes.specs.Kinds.{kind_of as kind_by_code, tells_file, tells_object};
 
+use crate::inventory::{is_by_sidecar, is_version_inventory};
 use ocfl_report::{Code, Line};
-use ocfl_tree::is_text;
+use ocfl_tree::{Place, is_text};
 
 /// What the lines of a code are about.
 #[derive(Clone, Copy, Debug, PartialEq, Eq)]
 pub enum Kind {
     /// An object: the lines of its head stand before those of its files.
     Object,
-    /// A content file, which may be missing.
+    /// A content file, which may be missing, or the inventory of a version.
     File,
     /// A place that is neither: of the storage root, of its hierarchy or of an object's folder.
     Place,
@@ -21,7 +23,8 @@ pub enum Kind {
     ObjectOrFile,
 }
 
-/// What the lines of a code are about.
+/// What the lines of a code are about. Those of an inventory by its sidecars are about an object here:
+/// [`is_of_object`] and [`is_of_file`] know the inventories in version directories.
 pub fn kind_of(code: Code) -> Kind
     ensures { result ≡ kind_by_code code }
 {
@@ -58,19 +61,31 @@ pub fn kind_of(code: Code) -> Kind
         | Code::S02
         | Code::S03
         | Code::S06
-        | Code::S07 => Kind::Object,
-        Code::E023 | Code::E092 | Code::E093 | Code::S08 => Kind::File,
+        | Code::S07
+        | Code::S09 => Kind::Object,
+        Code::E023 | Code::E064 | Code::E092 | Code::E093 | Code::S08 => Kind::File,
     }
 }
 
-/// Whether it is a line of an object's head.
+/// What a line of a code at a place is about.
+fn kind_at(code: Code, place: &Place) -> Kind
+    ensures { result ≡ kind_by_place code place.now }
+{
+    if is_by_sidecar(code) && is_version_inventory(place) {
+        return Kind::File;
+    }
+    kind_of(code)
+}
+
+/// Whether it is a line of an object's head. One of an inventory in a version directory is none; an
+/// object at a place like that of such an inventory is mistaken for one.
 pub fn is_of_object(line: &Line) -> bool
     ensures { result ≡ tells_object (line_of line.now) }
 {
     if line.place.depth() == 0 {
         return false;
     }
-    is_of_head(kind_of(line.code), &line.detail)
+    is_of_head(kind_at(line.code, &line.place), &line.detail)
 }
 
 fn is_of_head(kind: Kind, detail: &str) -> bool
@@ -83,11 +98,12 @@ fn is_of_head(kind: Kind, detail: &str) -> bool
     }
 }
 
-/// Whether it is a line of a content file, which may be missing.
+/// Whether it is a line of a content file, which may be missing, or of an inventory in a version
+/// directory.
 pub fn is_of_file(line: &Line) -> bool
     ensures { result ≡ tells_file (line_of line.now) }
 {
-    is_of_content(kind_of(line.code), &line.detail)
+    is_of_content(kind_at(line.code, &line.place), &line.detail)
 }
 
 fn is_of_content(kind: Kind, detail: &str) -> bool
@@ -132,6 +148,7 @@ pub fn is_hiding(code: Code) -> bool
         | Code::E058
         | Code::E060
         | Code::E061
+        | Code::E064
         | Code::E080
         | Code::E092
         | Code::E093
@@ -141,7 +158,8 @@ pub fn is_hiding(code: Code) -> bool
         | Code::E100
         | Code::E101
         | Code::S06
-        | Code::S07 => false,
+        | Code::S07
+        | Code::S09 => false,
     }
 }
 

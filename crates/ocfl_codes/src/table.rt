@@ -38,6 +38,7 @@ const ROWS: &[Code] = &[
     Code::E060,
     Code::E061,
     Code::E063,
+    Code::E064,
     Code::E069,
     Code::E072,
     Code::E073,
@@ -58,6 +59,7 @@ const ROWS: &[Code] = &[
     Code::S06,
     Code::S07,
     Code::S08,
+    Code::S09,
 ];
 
 fn head() -> &'static str

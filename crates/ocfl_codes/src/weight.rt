@@ -23,7 +23,7 @@ pub fn weigh(code: Code) -> Option<Weight>
     ensures { result ≡ weight_of code }
 {
     match code {
-        Code::Clean | Code::S07 => None,
+        Code::Clean | Code::S07 | Code::S09 => None,
         Code::E092 | Code::E093 | Code::S08 => Some(Weight::Bytes),
         Code::E003
         | Code::E017
@@ -34,6 +34,7 @@ pub fn weigh(code: Code) -> Option<Weight>
         | Code::E041
         | Code::E060
         | Code::E063
+        | Code::E064
         | Code::E069
         | Code::E076
         | Code::S01

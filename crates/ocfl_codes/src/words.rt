@@ -1,11 +1,15 @@
 //! What codes mean in a few words, and what to do first about a finding.
 ghost use Rattle.std.specs.Prelude.{◌≡◌};
-ghost use Rattle.ocfl_codes.specs.Meaning.{first_step_of, meaning_of};
+ghost use Rattle.ocfl_codes.specs.Meaning.{first_step_at as step_there, first_step_of};
+ghost use Rattle.ocfl_codes.specs.Meaning.{meaning_at as meaning_there, meaning_of};
+ghost use Rattle.ocfl_codes.specs.Meaning.{version_meaning_of, version_step_of};
 
+use crate::inventory::is_version_inventory;
 use ocfl_report::Code;
+use ocfl_tree::Place;
 
 /// What is so of the place of a line with this code, in a few words: of an object's line, the words
-/// go with the object.
+/// go with the object. [`meaning_at`] knows the inventories in version directories.
 pub fn meaning(code: Code) -> &'static str
     ensures { result.now ≡ meaning_of code }
 {
@@ -27,6 +31,7 @@ pub fn meaning(code: Code) -> &'static str
         Code::E060 => "its inventory and the sidecar differ",
         Code::E061 => "its inventory's sidecar cannot be used",
         Code::E063 => "its inventory is missing, so nothing in it was looked at",
+        Code::E064 => "differs from the root inventory, which is of the same version",
         Code::E069 => "no declaration, so nothing was looked at",
         Code::E072 => "a file outside of any object",
         Code::E073 => "an empty folder where an object should be",
@@ -47,10 +52,35 @@ pub fn meaning(code: Code) -> &'static str
         Code::S06 => "its inventory has a path that no content file can have",
         Code::S07 => "has an algorithm in its fixity block that is not computed",
         Code::S08 => "could not be read",
+        Code::S09 => "what its root inventory is",
     }
 }
 
+/// What is so of an inventory in a version directory with a line of this code.
+fn version_meaning(code: Code) -> &'static str
+    ensures { result.now ≡ version_meaning_of code }
+{
+    match code {
+        Code::E058 => "its sidecar is missing",
+        Code::E060 => "differs from its sidecar",
+        Code::E061 => "its sidecar cannot be used",
+        _ => meaning(code),
+    }
+}
+
+/// What is so of a place with a line of this code, in a few words: those of an inventory in a version
+/// directory are of that file, and not of its object.
+pub fn meaning_at(code: Code, place: &Place) -> &'static str
+    ensures { result.now ≡ meaning_there code place.now }
+{
+    if is_version_inventory(place) {
+        return version_meaning(code);
+    }
+    meaning(code)
+}
+
 /// What to do first about a finding of this code: a sentence without its full stop.
+/// [`first_step_at`] knows the inventories in version directories.
 pub fn first_step(code: Code) -> &'static str
     ensures { result.now ≡ first_step_of code }
 {
@@ -72,6 +102,8 @@ pub fn first_step(code: Code) -> &'static str
             "compare it with the one in its newest version folder, and copy that one if it is right"
         }
         Code::E060 => "look for the expected digest among the inventories of its version folders",
+        Code::E064 =>
+            "find out by a copy which of the two is right, and whether the object went back",
         Code::E069 => "see whether this is the storage root and its disk is mounted",
         Code::E072 => "see whether the files are those of an object, and restore its declaration",
         Code::E073 => "restore the object; if it was moved on purpose, remove the folder",
@@ -90,5 +122,30 @@ pub fn first_step(code: Code) -> &'static str
         Code::S04 => "find out what it is, and put the file itself in its place",
         Code::S07 => "audit that digest with another program",
         Code::S08 => "look at its permissions and at the kernel's log, then check it again",
+        Code::S09 => "nothing",
     }
+}
+
+/// What to do first about a finding of this code at an inventory in a version directory.
+fn version_step(code: Code) -> &'static str
+    ensures { result.now ≡ version_step_of code }
+{
+    match code {
+        Code::E058 | Code::E061 => {
+            "compare it with a copy, and write its sidecar again if it is right"
+        }
+        Code::E060 =>
+            "compare it and its sidecar with a copy, and restore the one that has changed",
+        _ => first_step(code),
+    }
+}
+
+/// What to do first about a finding of this code at a place: a sentence without its full stop.
+pub fn first_step_at(code: Code, place: &Place) -> &'static str
+    ensures { result.now ≡ step_there code place.now }
+{
+    if is_version_inventory(place) {
+        return version_step(code);
+    }
+    first_step(code)
 }

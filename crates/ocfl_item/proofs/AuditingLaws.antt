@@ -7,8 +7,10 @@ use Rattle.ocfl_tree.specs.{StorageRoot.{StorageRoot, file_at}, Store.{Store, Di
 use Rattle.ocfl_tree.specs.{declared.store.Opening.{Opening}, Calls.{opening}}
 use Rattle.ocfl_tree.proofs.Orders.{among_left, among_right, among_map}
 use Rattle.ocfl_tree.proofs.Stores.{among_either, did_both, did_nothing, listed_well, listing_failed}
+use Rattle.ocfl_report.specs.declared.further.Further.{Further}
+use Rattle.ocfl_report.specs.declared.further.Further.TheVariants.{Nothing, Inventories}
 use Rattle.ocfl_rules.specs.Zone.{zone}
-use Rattle.ocfl_rules.specs.Inventories.{Further, is_hashed}
+use Rattle.ocfl_rules.specs.Inventories.{is_hashed}
 use Rattle.ocfl_rules.specs.Due.{hashed_among}
 use Rattle.ocfl_rules.specs.Trail.{is_meta, content_openings, content_trail, unread_of, heads_of, inventory_of, places_of}
 use Rattle.ocfl_rules.proofs.Trails.{filter_append, none_unread}
@@ -115,13 +117,13 @@ lies_right : (ds es : List Place) (p : Place) → LiesIn es p → LiesIn (ds ++ 
 lies_right ds es p h = (h.0, (h.1.0, (among_right ds es h.0 h.1.1.0, h.1.1.1)))
 
 lies_near : (further : Further) (root : StorageRoot) (ds es : List Place) (p : Place) → (LiesIn ds p → LiesIn es p) → LiesNear further root ds p → LiesNear further root es p
-lies_near None root ds es p more h = more h
-lies_near (Some k) root ds es p more (inl h) = inl (more h)
-lies_near (Some k) root ds es p more (inr h) = inr h
+lies_near Nothing root ds es p more h = more h
+lies_near Inventories root ds es p more (inl h) = inl (more h)
+lies_near Inventories root ds es p more (inr h) = inr h
 
 right_in : (further : Further) (root : StorageRoot) (ds : List Place) (p : Place) → LiesIn ds p → LiesNear further root ds p
-right_in None root ds p h = h
-right_in (Some k) root ds p h = inl h
+right_in Nothing root ds p h = h
+right_in Inventories root ds p h = inl h
 
 near_both : (further : Further) (root : StorageRoot) (ds : List Place) (os os' : List Opening) → LieIn further root ds os → LieIn further root ds os' → LieIn further root ds (os ++ os')
 near_both further root ds os os' h k o i meta = by (among_either os os' o i)

@@ -6,6 +6,7 @@ use Rattle.std.specs.List.{AllByRecursion}
 use Rattle.ocfl_tree.specs.{Place.{Place, Text}, StorageRoot.{StorageRoot, file_at, names_in}}
 use Rattle.ocfl_tree.specs.{Store.{Store}, Listing.{IsListing, IsOrdinary}}
 use Rattle.ocfl_tree.specs.{declared.store.Entry.{Entry}, declared.store.Opening.{Opening}}
+use Rattle.ocfl_report.specs.declared.further.Further.{Further}
 use Rattle.ocfl_inventory.specs.Declaration.{Declared, undeclared, known, unknown, several, declaration_name, declared}
 use Rattle.ocfl_inventory.specs.Entries.{PointsAtOne, file_names, meaning}
 use Rattle.ocfl_inventory.specs.declared.declaration.Declared.{Declared as MadeDeclared}
@@ -17,7 +18,7 @@ use Rattle.ocfl_digest.specs.declared.bounded.Bounded.{Bounded}
 use Rattle.ocfl_rules.specs.Zone.{seen, skipped, hierarchy, inside, zone, root_declared, object_declared, is_in_extensions, is_listed_zone, is_known, is_declared}
 use Rattle.ocfl_rules.specs.Head.{root_notes_by}
 use Rattle.ocfl_rules.specs.Lines.{named_at, named_in}
-use Rattle.ocfl_rules.specs.Inventories.{Further, notes, version_inventory, version_inventory_in}
+use Rattle.ocfl_rules.specs.Inventories.{notes, version_inventory, version_inventory_in}
 use Rattle.ocfl_rules.specs.Trail.{content_trail, heads_of, inventory_of, is_head, is_meta, places_of}
 use Rattle.ocfl_rules.proofs.BetweenLaws.{root_unread}
 use Rattle.ocfl_rules.proofs.Trails.{content_behind}

@@ -4,6 +4,7 @@ use Rattle.std.proofs.lemmas.Bool.{lt-ltb}
 use Rattle.std.specs.{Prelude.{option_map, nat_lt}, List.{list_all}}
 use Rattle.ocfl_tree.specs.{Place.{Place, Text}, Ascending.{IsAscending, IsAmong}}
 use Rattle.ocfl_tree.specs.StorageRoot.{StorageRoot, Leaf, file, dir, other, at}
+use Rattle.ocfl_report.specs.declared.further.Further.TheVariants.{Nothing}
 use Rattle.ocfl_inventory.specs.ListedPath.{is_content_path}
 use Rattle.ocfl_inventory.specs.Table.{Table, Named, named_cmp, named, paths_of}
 use Rattle.ocfl_rules.specs.Zone.{Zone, skipped, hierarchy, inside, zone, seen, table_at, is_entered, beginnings}
@@ -19,7 +20,7 @@ use Rattle.ocfl_tree.proofs.Orders.{true_not_false}
 use Rattle.ocfl_item.proofs.{AuditingLaws.{front_of_none}, CommonLaws.{no_version}, NamedLaws.{named_ascend}}
 
 pub record IsContent (root : StorageRoot) (p : Place) (ns : List Named) : Type 0 where
-  pub lines : (u : Option ℕ) → notes None root u p ≡ content_notes root p ns u (seen root p)
+  pub lines : (u : Option ℕ) → notes Nothing root u p ≡ content_notes root p ns u (seen root p)
   pub digests : named_at root p ≡ ns
   pub ascend : IsAscending named_cmp ns
   pub head : is_head (zone root p) ≡ false
@@ -69,9 +70,9 @@ pub record IsHashedFile (root : StorageRoot) (p : Place) : Type 0 where
   pub bytes : Text
   pub is_file : at root p ≡ Some (file bytes)
   pub digests : named_at root p ≢ []
-  pub lines : (u : Option ℕ) → notes None root u p ≡ file_notes bytes (named_at root p) u
-  pub whole : cost None root None p ≡ length bytes + 1
-  pub part : (given : ℕ) → cost None root (Some given) p ≡ given + 1
+  pub lines : (u : Option ℕ) → notes Nothing root u p ≡ file_notes bytes (named_at root p) u
+  pub whole : cost Nothing root None p ≡ length bytes + 1
+  pub part : (given : ℕ) → cost Nothing root (Some given) p ≡ given + 1
 
 -- what is seen is there
 pub there : (root : StorageRoot) (p : Place) (leaf : Leaf) → seen root p ≡ Some leaf → at root p ≡ Some leaf
@@ -116,7 +117,7 @@ named_content root p some = by (zone root p) refl some
         go None e l = absurd (l refl)
         go (Some t) e l = in_table o q t z e l
 
-pub hashed_file : (root : StorageRoot) (p : Place) → is_hashed None root p ≡ true → IsHashedFile root p
+pub hashed_file : (root : StorageRoot) (p : Place) → is_hashed Nothing root p ≡ true → IsHashedFile root p
 hashed_file root p h =
     let r = read_file (named_at root p) (seen root p) h in
     let c = named_content root p r.some in

@@ -3,9 +3,10 @@ use Rattle.std.proofs.Common.{◌≡◌, ◌⊎◌, inl, inr, ℕ, ◌+◌, ◌�
 use Rattle.std.specs.Prelude.{nat_lt}
 use Rattle.ocfl_tree.specs.{Place.{Place, Text}, StorageRoot.{StorageRoot, file, at}}
 use Rattle.ocfl_tree.proofs.Orders.{true_not_false}
-use Rattle.ocfl_rules.specs.declared.further.NewCodes.{NewCodes}
+use Rattle.ocfl_report.specs.declared.further.Further.{Further}
+use Rattle.ocfl_report.specs.declared.further.Further.TheVariants.{Nothing, Inventories}
 use Rattle.ocfl_rules.specs.Zone.{zone, seen}
-use Rattle.ocfl_rules.specs.Inventories.{Further, Expected, VersionInventory, version_inventory_in, version_inventory, expected_of, inventory_cost, version_cost, further_cost, cost, is_hashed}
+use Rattle.ocfl_rules.specs.Inventories.{Expected, VersionInventory, version_inventory_in, version_inventory, expected_of, inventory_cost, version_cost, further_cost, cost, is_hashed}
 use Rattle.ocfl_rules.specs.Lines.{cost_of, common_cost, is_named}
 use Rattle.ocfl_rules.specs.Trail.{inventory_of}
 use Rattle.ocfl_rules.proofs.{PathLaws.{named_has_path}, FurtherLaws.{known_inventory}}
@@ -26,11 +27,11 @@ costs_something a b h = by (nat_lt 0 a) refl
     by false e = inr (let none : a ≡ 0 = grind (arith, ltb-false) in subst (λ n. nat_lt 0 n ≡ true) (ap (λ x. x + b) none ∙ omega arith) h)
 
 -- a content file costs nothing further
-counted_content : (k : NewCodes) (root : StorageRoot) (p : Place) → is_named root p ≡ true → IsCounted (Some k) root p
-counted_content k root p h =
+counted_content : (root : StorageRoot) (p : Place) → is_named root p ≡ true → IsCounted Inventories root p
+counted_content root p h =
     let f = hashed_file root p h in
     let lies = (named_has_path root p h).lies in
-    let free : (u : Option ℕ) → further_cost k root u p ≡ 0 = λ u. ap (λ z. version_cost k root u (version_inventory_in z (seen root p))) lies in
+    let free : (u : Option ℕ) → further_cost root u p ≡ 0 = λ u. ap (λ z. version_cost root u (version_inventory_in z (seen root p))) lies in
     record {
       bytes = f.bytes;
       is_file = f.is_file;
@@ -40,14 +41,14 @@ counted_content k root p h =
     }
 
 -- nor does an inventory cost what content costs
-module _ (k : NewCodes) (root : StorageRoot) (p : Place) (x : VersionInventory) (is : version_inventory root p ≡ Some x) where
+module _ (root : StorageRoot) (p : Place) (x : VersionInventory) (is : version_inventory root p ≡ Some x) where
   uncommon : (u : Option ℕ) → common_cost root u p ≡ 0
   uncommon u = ap (λ ns. cost_of ns u (seen root p)) (let f = known_inventory root p x is in named_short root p x.0 (x.1 ∷ f.name ∷ []) f.lies (omega arith))
 
-  costs_alone : (u : Option ℕ) → cost (Some k) root u p ≡ inventory_cost x.2 (expected_of k root x.0 x.1) u
+  costs_alone : (u : Option ℕ) → cost Inventories root u p ≡ inventory_cost x.2 (expected_of root x.0 x.1) u
   costs_alone u =
-      let alone : 0 + inventory_cost x.2 (expected_of k root x.0 x.1) u ≡ inventory_cost x.2 (expected_of k root x.0 x.1) u = omega arith in
-      (λ i. uncommon u i + version_cost k root u (is i)) ∙ alone
+      let alone : 0 + inventory_cost x.2 (expected_of root x.0 x.1) u ≡ inventory_cost x.2 (expected_of root x.0 x.1) u = omega arith in
+      (λ i. uncommon u i + version_cost root u (is i)) ∙ alone
 
   whole_cost : (es : List Expected) → nat_lt 0 (inventory_cost x.2 es None) ≡ true → inventory_cost x.2 es None ≡ length x.2 + 1
   whole_cost [] h = absurd (true_not_false (sym h))
@@ -57,27 +58,27 @@ module _ (k : NewCodes) (root : StorageRoot) (p : Place) (x : VersionInventory) 
   part_cost [] given h = absurd (true_not_false (sym h))
   part_cost (e ∷ es) given h = refl
 
-  counted_inventory : nat_lt 0 (inventory_cost x.2 (expected_of k root x.0 x.1) None) ≡ true → IsCounted (Some k) root p
+  counted_inventory : nat_lt 0 (inventory_cost x.2 (expected_of root x.0 x.1) None) ≡ true → IsCounted Inventories root p
   counted_inventory h =
       let f = known_inventory root p x is in
       record {
         bytes = x.2;
         is_file = there root p (file x.2) f.is_seen;
         heads = ap inventory_of f.lies;
-        whole = costs_alone None ∙ whole_cost (expected_of k root x.0 x.1) h;
-        part = λ given. costs_alone (Some given) ∙ part_cost (expected_of k root x.0 x.1) given h;
+        whole = costs_alone None ∙ whole_cost (expected_of root x.0 x.1) h;
+        part = λ given. costs_alone (Some given) ∙ part_cost (expected_of root x.0 x.1) given h;
       }
 
 pub counted : (further : Further) (root : StorageRoot) (p : Place) → is_hashed further root p ≡ true → IsCounted further root p
-counted None root p h = let f = hashed_file root p h in record { bytes = f.bytes; is_file = f.is_file; heads = ap inventory_of (named_has_path root p h).lies; whole = f.whole; part = f.part }
-counted (Some k) root p h = by (costs_something (common_cost root None p) (further_cost k root None p) h)
+counted Nothing root p h = let f = hashed_file root p h in record { bytes = f.bytes; is_file = f.is_file; heads = ap inventory_of (named_has_path root p h).lies; whole = f.whole; part = f.part }
+counted Inventories root p h = by (costs_something (common_cost root None p) (further_cost root None p) h)
   where
-    of_version : (x : Option VersionInventory) → version_inventory root p ≡ x → nat_lt 0 (version_cost k root None x) ≡ true → IsCounted (Some k) root p
+    of_version : (x : Option VersionInventory) → version_inventory root p ≡ x → nat_lt 0 (version_cost root None x) ≡ true → IsCounted Inventories root p
     of_version None e g = absurd (true_not_false (sym g))
-    of_version (Some x) e g = counted_inventory k root p x e g
+    of_version (Some x) e g = counted_inventory root p x e g
 
-    by : (is_named root p ≡ true) ⊎ (nat_lt 0 (further_cost k root None p) ≡ true) → IsCounted (Some k) root p
-    by (inl g) = counted_content k root p g
+    by : (is_named root p ≡ true) ⊎ (nat_lt 0 (further_cost root None p) ≡ true) → IsCounted Inventories root p
+    by (inl g) = counted_content root p g
     by (inr g) = of_version (version_inventory root p) refl g
 
 pub unhashed_cost : (further : Further) (root : StorageRoot) (p : Place) → is_hashed further root p ≡ false → cost further root None p ≡ 0

@@ -5,6 +5,7 @@ use Rattle.std.proofs.{lemmas.List.{map_more, take_all}, lemmas.List.Concat.{fla
 use Rattle.std.specs.Prelude.{zero, suc}
 use Rattle.ocfl_tree.specs.{Place.{Text, Place}, StorageRoot.{StorageRoot}, Ascending.{IsAmong}}
 use Rattle.ocfl_tree.proofs.Orders.{among_map}
+use Rattle.ocfl_report.specs.declared.further.Further.TheVariants.{Nothing}
 use Rattle.ocfl_digest.specs.{Digest.{digest_bytes_of}, Digests.{digest_in}}
 use Rattle.ocfl_digest.specs.declared.digests.Digests.{Digests}
 use Rattle.ocfl_report.specs.declared.code.Code.TheVariants.{S08}
@@ -58,7 +59,7 @@ part_lines : (bytes : Text) (ns : List Named) (given : ℕ) → ns ≢ [] → fi
 part_lines bytes [] given h = absurd (h refl)
 part_lines bytes (n ∷ ns) given h = refl
 
-pub content_judged : (root : StorageRoot) (p : Place) → is_hashed None root p ≡ true → IsJudgedBy None root p (unnamed_notes (named_at root p)) (map expected_by_name (named_at root p))
+pub content_judged : (root : StorageRoot) (p : Place) → is_hashed Nothing root p ≡ true → IsJudgedBy Nothing root p (unnamed_notes (named_at root p)) (map expected_by_name (named_at root p))
 content_judged root p h =
     let f = hashed_file root p h in
     record {

@@ -9,10 +9,11 @@ use Rattle.ocfl_tree.specs.{Store.{Store, Did}, Calls.{opening}, Listing.{kind_a
 use Rattle.ocfl_tree.specs.{declared.store.Entry.{Entry}, declared.store.Opening.{Opening}}
 use Rattle.ocfl_tree.specs.declared.store.Trouble.{Trouble}
 use Rattle.ocfl_tree.specs.declared.store.Trouble.TheVariants.{Device, Absent, Memory}
+use Rattle.ocfl_report.specs.declared.further.Further.{Further}
 use Rattle.ocfl_digest.specs.Bounded.{ReadsBounded, StopsReading}
 use Rattle.ocfl_digest.specs.declared.bounded.Bounded.{Bounded}
 use Rattle.ocfl_rules.specs.Zone.{inside, zone}
-use Rattle.ocfl_rules.specs.Inventories.{Further, is_hashed}
+use Rattle.ocfl_rules.specs.Inventories.{is_hashed}
 use Rattle.ocfl_rules.specs.Trail.{is_root_meta, is_meta_zone, is_meta, is_object_meta, places_of, content_trail}
 use Rattle.ocfl_rules.proofs.AuditExists.{some_not_none}
 use Rattle.ocfl_rules.proofs.{InventoryLaws.{hashed_no_meta}, MetaLaws.{common_is_meta}}

@@ -7,6 +7,8 @@ use Rattle.std.specs.declared.alloc.Global.{Global}
 use Rattle.ocfl_tree.proofs.Places.{text_eq-Decides}
 use Rattle.ocfl_tree.specs.{Place.{Text, Place, text_eq}, StorageRoot.{StorageRoot, file_at}}
 use Rattle.ocfl_tree.specs.{Listing.{IsListing, kind_at, kind_in}, Store.{Store}, declared.store.Entry.{Entry}}
+use Rattle.ocfl_report.specs.declared.further.Further.{Further}
+use Rattle.ocfl_report.specs.declared.further.Further.TheVariants.{Nothing, Inventories}
 use Rattle.ocfl_inventory.specs.Note.{Note, plain}
 use Rattle.ocfl_inventory.specs.Declaration.{Declared, undeclared, known, unknown, several, declaration_name}
 use Rattle.ocfl_inventory.specs.{Entries.{meaning}, Reading.{algorithm_of}, Table.{Table, table_of}}
@@ -20,8 +22,7 @@ use Rattle.ocfl_digest.specs.declared.bounded.Bounded.TheVariants as bounded
 use Rattle.ocfl_inventory.specs.declared.declaration.Level.TheVariants as level
 use Rattle.ocfl_rules.specs.Zone.{skipped, hierarchy, inside, zone, root_declared, object_declared, inventory_name, inventory_limit, table_at, is_known}
 use Rattle.ocfl_rules.specs.Head.{on, or_clean, is_exact_declaration, sidecar_name, sidecars_notes, inventory_part, inventory_file_notes, head_notes_by}
-use Rattle.ocfl_rules.specs.declared.further.NewCodes.{NewCodes}
-use Rattle.ocfl_rules.specs.Inventories.{Further, notes, RootInventory, head_notes, root_inventory, root_inventory_of, root_inventory_notes, version_notes}
+use Rattle.ocfl_rules.specs.Inventories.{notes, RootInventory, head_notes, root_inventory, root_inventory_of, root_inventory_notes, version_notes}
 use Rattle.ocfl_rules.specs.Lines.{notes_in}
 use Rattle.ocfl_rules.specs.Trail.{is_meta, is_object_meta}
 use Rattle.ocfl_rules.proofs.PathLaws.{notes_at}
@@ -181,16 +182,16 @@ inside_not_root root o q z = by (not (is_known (root_declared root))) z
     by true e = cc
     by false e = cc
 
-pub head_notes_are : (root : StorageRoot) (o : Place) → zone root o ≡ inside o [] → notes None root None o ≡ head_notes_by root o (object_declared root o)
+pub head_notes_are : (root : StorageRoot) (o : Place) → zone root o ≡ inside o [] → notes Nothing root None o ≡ head_notes_by root o (object_declared root o)
 head_notes_are root o z = notes_at root None o (λ e. inside_not_root root o [] (ap (zone root) (sym e) ∙ z)) ∙ ap (notes_in root o None) z
 
 -- and with the note on the root inventory
 all_head_notes : (further : Further) (root : StorageRoot) (o : Place) → zone root o ≡ inside o []
     → notes further root None o ≡ head_notes_by root o (object_declared root o) ++ root_notes_if further (root_at further root o)
-all_head_notes None root o z = head_notes_are root o z ∙ sym (append-nil _)
-all_head_notes (Some k) root o z =
-    (λ i. head_notes_are root o z i ++ (head_notes k root (z i) ++ version_notes k root None (no_version root o _ z refl i)))
-    ∙ ap (λ ns. head_notes_by root o (object_declared root o) ++ ns) (append-nil (root_inventory_notes k (root_inventory root o)))
+all_head_notes Nothing root o z = head_notes_are root o z ∙ sym (append-nil _)
+all_head_notes Inventories root o z =
+    (λ i. head_notes_are root o z i ++ (head_notes root (z i) ++ version_notes root None (no_version root o _ z refl i)))
+    ∙ ap (λ ns. head_notes_by root o (object_declared root o) ++ ns) (append-nil (root_inventory_notes (root_inventory root o)))
 
 names_distinct : (v : Version) → IsDistinct text_eq (head_names v)
 unfolding IsDistinct
@@ -288,15 +289,15 @@ known_table root o v table same given = given ∙ sym (ap (λ d. table_in (cond 
 abbrev root_of_file : Option Text → Option RootInventory
 root_of_file file = option_and_then (λ bytes. option_map (root_inventory_of bytes) (table_in file)) file
 
-root_by_file : (k : NewCodes) (file : Option Text) → root_of_file file ≡ root_in (Some k) file
-root_by_file k None = refl
-root_by_file k (Some bytes) = by (nat_le (length bytes) inventory_limit)
+root_by_file : (file : Option Text) → root_of_file file ≡ root_in Inventories file
+root_by_file None = refl
+root_by_file (Some bytes) = by (nat_le (length bytes) inventory_limit)
   where
     by : (b : Bool) → option_map (root_inventory_of bytes) (cond b (table_of bytes) None) ≡ cond b (option_map (root_inventory_of bytes) (table_of bytes)) None
     by true = refl
     by false = refl
 
-none_asked : (file : Option Text) → root_in None file ≡ None
+none_asked : (file : Option Text) → root_in Nothing file ≡ None
 none_asked None = refl
 none_asked (Some bytes) = by (nat_le (length bytes) inventory_limit)
   where
@@ -306,9 +307,9 @@ none_asked (Some bytes) = by (nat_le (length bytes) inventory_limit)
 
 root_of_known : (further : Further) (root : StorageRoot) (o : Place) (r : Option RootInventory) → is_known (object_declared root o) ≡ true
     → r ≡ root_in further (file_at root (o ++ inventory_name ∷ [])) → r ≡ root_at further root o
-root_of_known None root o r same given = given ∙ none_asked (file_at root (o ++ inventory_name ∷ []))
-root_of_known (Some k) root o r same given =
-    given ∙ sym (ap (λ b. root_of_file (cond b (file_at root (o ++ inventory_name ∷ [])) None)) same ∙ root_by_file k (file_at root (o ++ inventory_name ∷ [])))
+root_of_known Nothing root o r same given = given ∙ none_asked (file_at root (o ++ inventory_name ∷ []))
+root_of_known Inventories root o r same given =
+    given ∙ sym (ap (λ b. root_of_file (cond b (file_at root (o ++ inventory_name ∷ [])) None)) same ∙ root_by_file (file_at root (o ++ inventory_name ∷ [])))
 
 pub known_root : (further : Further) (root : StorageRoot) (o : Place) (v : Version) (r : Option RootInventory) → object_declared root o ≡ known v
     → r ≡ root_in further (file_at root (o ++ inventory_name ∷ [])) → r ≡ root_at further root o
@@ -319,8 +320,8 @@ pub object_root : (further : Further) (root : StorageRoot) (o : Place) (es : Lis
 object_root further root o es h r given = root_of_known further root o r h.known given
 
 stopped_root : (further : Further) (root : StorageRoot) (o : Place) → is_known (object_declared root o) ≡ false → None ≡ root_at further root o
-stopped_root None root o stops = refl
-stopped_root (Some k) root o stops = sym (ap (λ b. root_of_file (cond b (file_at root (o ++ inventory_name ∷ [])) None)) stops)
+stopped_root Nothing root o stops = refl
+stopped_root Inventories root o stops = sym (ap (λ b. root_of_file (cond b (file_at root (o ++ inventory_name ∷ [])) None)) stops)
 
 pub stopped_head : (further : Further) (root : StorageRoot) (o : Place) (es : List Entry) (m : MadeDeclared) (lines : PlaceLines) → IsDeclared root o es m
     → is_known (meaning level.Object es m) ≡ false → HasLines lines (head_notes_by root o (meaning level.Object es m))
@@ -334,5 +335,5 @@ stopped_head further root o es m lines h stops k =
     )
   where
     noteless : (further : Further) (ns : List Note) → ns ++ root_notes_if further None ≡ ns
-    noteless None ns = append-nil ns
-    noteless (Some c) ns = append-nil ns
+    noteless Nothing ns = append-nil ns
+    noteless Inventories ns = append-nil ns

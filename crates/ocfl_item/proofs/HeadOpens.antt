@@ -5,6 +5,7 @@ use Rattle.std.specs.Prelude.{cond, Ok, Vec}
 use Rattle.std.specs.declared.alloc.Global.{Global}
 use Rattle.ocfl_tree.specs.{Place.{Text, Place}, StorageRoot.{StorageRoot, file_at}, Store.{Store}}
 use Rattle.ocfl_tree.specs.declared.store.Entry.{Entry}
+use Rattle.ocfl_report.specs.declared.further.Further.{Further}
 use Rattle.ocfl_digest.specs.declared.algorithm.Algorithm.TheVariants.{Sha256, Sha512}
 use Rattle.ocfl_digest.specs.declared.bounded.Bounded.{Bounded}
 use Rattle.ocfl_digest.specs.declared.bounded.Bounded.TheVariants as bounded
@@ -14,7 +15,6 @@ use Rattle.ocfl_inventory.specs.declared.declaration.Declared.{Declared as MadeD
 use Rattle.ocfl_inventory.specs.declared.declaration.Version.{Version}
 use Rattle.ocfl_inventory.specs.declared.declaration.Declared.TheVariants as made
 use Rattle.ocfl_inventory.specs.declared.declaration.Level.TheVariants as level
-use Rattle.ocfl_rules.specs.Inventories.{Further}
 use Rattle.ocfl_rules.specs.Head.{sidecar_name}
 use Rattle.ocfl_rules.specs.Zone.{inventory_name, inventory_limit, object_declared, is_known}
 use Rattle.ocfl_item.specs.HeadFiles.{FilesStop, ReadsFiles, files_there}

@@ -1,16 +1,16 @@
 -- What reading an object's head did, as a visit says it.
-use Rattle.std.proofs.Common.{◌≡◌, ℕ, List, [], ◌∷◌, sym, ◌∙◌, ap, subst, Option, None}
+use Rattle.std.proofs.Common.{◌≡◌, ℕ, List, [], ◌∷◌, sym, ◌∙◌, ap, subst, Option}
 use Rattle.std.proofs.lemmas.List.{append_cancel_left, append-nil}
 use Rattle.std.specs.Prelude.{IfOk, Result, Ok, Err}
 use Rattle.ocfl_tree.specs.{Place.{Place}, StorageRoot.{StorageRoot}, Store.{Store, Did}}
 use Rattle.ocfl_tree.specs.declared.store.Opening.{Opening}
+use Rattle.ocfl_report.specs.declared.further.Further.{Further}
 use Rattle.ocfl_inventory.specs.Table.{Table}
 use Rattle.ocfl_item.specs.{Looking.{IsFront, failures_by}, Auditing.{FailedAt, LieIn}}
 use Rattle.ocfl_item.specs.{HeadFiles.{OpensJust, files_there}, Internal.HeadFiles.{head_files}}
 use Rattle.ocfl_item.specs.{Internal.Ways.{IsHeadOf}, Internal.Visiting.{HeadRead}}
 use Rattle.ocfl_item.specs.{declared.fault.Fault.{Fault}, declared.lines.PlaceLines.{PlaceLines}}
 use Rattle.ocfl_item.specs.declared.root.RootInventory.{RootInventory as MadeRoot}
-use Rattle.ocfl_rules.specs.Inventories.{Further}
 use Rattle.ocfl_rules.specs.{Head.{on}, Trail.{heads_of, places_of, reads_inventory}}
 use Rattle.ocfl_rules.specs.Zone.{inside, object_declared, zone}
 use Rattle.ocfl_item.proofs.AuditingLaws.{files_near, front_of_none}

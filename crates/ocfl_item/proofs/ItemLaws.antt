@@ -1,10 +1,11 @@
 -- The item at a place, from what was looked at.
 use Rattle.std.proofs.Common.{arith, ◌≡◌, ◌≢◌, List, [], ◌∷◌, refl, sym, ◌∙◌, ap, true, None}
 use Rattle.ocfl_tree.specs.{Place.{Place}, StorageRoot.{StorageRoot}}
+use Rattle.ocfl_report.specs.declared.further.Further.{Further}
 use Rattle.ocfl_inventory.specs.Note.{Note}
 use Rattle.ocfl_inventory.specs.Declaration.{Declared, undeclared, known, unknown, several}
 use Rattle.ocfl_rules.specs.Zone.{Zone, skipped, hierarchy, inside, zone, object_declared, is_declared}
-use Rattle.ocfl_rules.specs.Inventories.{Further, notes}
+use Rattle.ocfl_rules.specs.Inventories.{notes}
 use Rattle.ocfl_rules.specs.Trail.{is_head}
 use Rattle.ocfl_rules.specs.Head.{or_clean, head_notes_by}
 use Rattle.ocfl_rules.proofs.AuditExists.{zone_is, append_nothing}

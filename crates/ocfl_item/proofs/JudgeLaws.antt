@@ -5,6 +5,7 @@ use Rattle.ocfl_tree.specs.Place.{Place, Text}
 use Rattle.ocfl_tree.specs.{StorageRoot.{StorageRoot, file_at, bytes_of}, Store.{Store, Did}}
 use Rattle.ocfl_tree.specs.{Calls.{opening}, declared.store.Opening.{Opening}}
 use Rattle.ocfl_report.specs.{Line.{Line}, declared.code.Code.TheVariants.{S08}}
+use Rattle.ocfl_report.specs.declared.further.Further.{Further}
 use Rattle.ocfl_inventory.specs.{Note.{Note, plain, lines_at}, Remark.{remark_view}}
 use Rattle.ocfl_digest.specs.{Digest.{digest_bytes_of}, declared.algorithm.Algorithm.{Algorithm}}
 use Rattle.ocfl_digest.specs.Hashing.{HashesFile, StopsHashing, StopFits, stop_trail, stop_failures}
@@ -14,7 +15,7 @@ use Rattle.ocfl_digest.specs.declared.stop.Cause.TheVariants.{Device, Absent, Me
 use Rattle.ocfl_digest.specs.declared.wanted.Wanted.{Wanted}
 use Rattle.ocfl_rules.specs.Audit.{given_by}
 use Rattle.ocfl_rules.specs.Due.{items_at, hashed_among}
-use Rattle.ocfl_rules.specs.Inventories.{Further, Expected, unexpected_notes, notes, is_hashed, cost}
+use Rattle.ocfl_rules.specs.Inventories.{Expected, unexpected_notes, notes, is_hashed, cost}
 use Rattle.ocfl_rules.specs.Lines.{or_bytes}
 use Rattle.ocfl_rules.specs.Trail.{is_meta, content_openings, content_trail, heads_of, unread_of}
 use Rattle.ocfl_rules.proofs.AuditExists.{some_not_none}

@@ -2,9 +2,10 @@
 use Rattle.std.proofs.Common.{◌≡◌, ◌≢◌, List, [], ◌++◌, Bool, false, Result, Ok, Err, OnOk, None, map, refl, sym, ◌∙◌, ap, subst, append_assoc}
 use Rattle.std.proofs.lemmas.List.{append-nil}
 use Rattle.ocfl_tree.specs.{Place.{Place}, StorageRoot.{StorageRoot}}
+use Rattle.ocfl_report.specs.declared.further.Further.{Further}
 use Rattle.ocfl_inventory.specs.{Note.{Note}, Remark.{remark_view}}
 use Rattle.ocfl_rules.specs.Head.{on}
-use Rattle.ocfl_rules.specs.Inventories.{Further, notes, is_hashed}
+use Rattle.ocfl_rules.specs.Inventories.{notes, is_hashed}
 use Rattle.ocfl_item.specs.Internal.Lines.{Adds, HasLines, IsUnhashed}
 use Rattle.ocfl_item.specs.declared.lines.PlaceLines.{PlaceLines}
 

@@ -7,6 +7,7 @@ use Rattle.ocfl_tree.specs.{declared.store.Entry.{Entry}, declared.store.Kind.{K
 use Rattle.ocfl_tree.specs.declared.store.Trouble.{Trouble}
 use Rattle.ocfl_tree.specs.declared.store.Trouble.TheVariants.{Device, Absent, Memory}
 use Rattle.ocfl_tree.specs.declared.store.Kind.TheVariants as kind
+use Rattle.ocfl_report.specs.declared.further.Further.{Further}
 use Rattle.ocfl_inventory.specs.Declaration.{Declared, undeclared, known, unknown, several, declared}
 use Rattle.ocfl_inventory.specs.Entries.{file_names, meaning, unknown_by, PointsAtOne}
 use Rattle.ocfl_inventory.specs.declared.declaration.Declared.{Declared as MadeDeclared}
@@ -20,7 +21,7 @@ use Rattle.ocfl_item.specs.Internal.Ways.{fault_by, is_file_kind, IsDeclared, he
 use Rattle.ocfl_item.specs.declared.folder.Head.TheVariants as head
 use Rattle.ocfl_rules.specs.Zone.{Zone, skipped, hierarchy, inside, zone, is_entered, object_declared, seen, beginnings, is_known, is_declared}
 use Rattle.ocfl_rules.specs.Lines.{cost_of, named_at}
-use Rattle.ocfl_rules.specs.Inventories.{Further, version_inventory_in, is_hashed}
+use Rattle.ocfl_rules.specs.Inventories.{version_inventory_in, is_hashed}
 use Rattle.ocfl_rules.proofs.StepLaws.{all_beginnings_step}
 use Rattle.ocfl_item.specs.declared.fault.Fault.TheVariants as fault
 use Rattle.ocfl_tree.proofs.Orders.{true_not_false}

@@ -1,10 +1,12 @@
 -- Where metadata lies that was opened.
-use Rattle.std.proofs.Common.{◌≡◌, ◌⊎◌, inl, inr, List, [], ◌∷◌, ◌++◌, refl, sym, ◌∙◌, ap, subst, true, false, Option, Some, None, codes, is_some}
+use Rattle.std.proofs.Common.{◌≡◌, ◌⊎◌, inl, inr, List, [], ◌∷◌, ◌++◌, refl, sym, ◌∙◌, ap, subst, true, Option, Some, None, codes, is_some}
 use Rattle.std.proofs.lemmas.List.{same_from_push}
 use Rattle.ocfl_tree.specs.{Place.{Place, Text}, Ascending.{IsAmong}, StorageRoot.{StorageRoot}, Store.{Store}}
 use Rattle.ocfl_tree.specs.declared.store.Opening.{Opening}
 use Rattle.ocfl_tree.proofs.Orders.{true_not_false}
-use Rattle.ocfl_rules.specs.Inventories.{Further, VersionInventory, version_inventory}
+use Rattle.ocfl_report.specs.declared.further.Further.{Further}
+use Rattle.ocfl_report.specs.declared.further.Further.TheVariants.{Nothing, Inventories}
+use Rattle.ocfl_rules.specs.Inventories.{VersionInventory, version_inventory}
 use Rattle.ocfl_rules.specs.{Objects.{IsVersionInventory}, Trail.{is_meta}}
 use Rattle.ocfl_rules.proofs.{AuditExists.{append_one}, InventoryLaws.{version_inventory_is}}
 use Rattle.ocfl_item.specs.Auditing.{Audits, LiesBeside, LiesIn, LiesNear}
@@ -41,9 +43,9 @@ beside_in_version root e p h = by (version_inventory root e) refl h.0
         )
 
 pub lies_near : (further : Further) (root : StorageRoot) (dirs : List Place) (p : Place) → LiesNear further root dirs p → LiesIn dirs p ⊎ InVersion root p
-lies_near None root dirs p h = inl h
-lies_near (Some k) root dirs p (inl h) = inl h
-lies_near (Some k) root dirs p (inr h) = inr (beside_in_version root h.0 p h.1)
+lies_near Nothing root dirs p h = inl h
+lies_near Inventories root dirs p (inl h) = inl h
+lies_near Inventories root dirs p (inr h) = inr (beside_in_version root h.0 p h.1)
 
 pub opened_near : (further : Further) (root : StorageRoot) (s t : Store) (places listed heads : List Place) (trail : List Opening) → Audits further root s t places listed heads trail
     → (o : Opening) → IsAmong trail o → is_meta further root o.place ≡ true → LiesIn listed o.place ⊎ InVersion root o.place

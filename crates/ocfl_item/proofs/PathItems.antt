@@ -4,12 +4,14 @@ use Rattle.std.proofs.Math.Seq.{drop-append_seam}
 use Rattle.std.specs.Prelude.{Result, Ok, Err, IfOk, IfSome}
 use Rattle.ocfl_tree.specs.Place.{Place, Text}
 use Rattle.ocfl_tree.specs.StorageRoot.{StorageRoot, dir}
+use Rattle.ocfl_report.specs.declared.further.Further.{Further}
+use Rattle.ocfl_report.specs.declared.further.Further.TheVariants.{Nothing}
 use Rattle.ocfl_inventory.specs.Table.{Table, Named, named}
 use Rattle.ocfl_inventory.specs.TripleView.{named_view}
 use Rattle.ocfl_inventory.specs.declared.triple.Named.{Named as MadeNamed}
 use Rattle.ocfl_rules.specs.Zone.{Zone, skipped, hierarchy, inside, zone, seen, table_at}
 use Rattle.ocfl_rules.specs.Lines.{content_notes, hierarchy_notes, named_at, named_in, notes_in, object_entry_notes, object_notes, version_entry_notes, within_notes}
-use Rattle.ocfl_rules.specs.{Inventories.{Further, notes}, Trail.{is_head}}
+use Rattle.ocfl_rules.specs.{Inventories.{notes}, Trail.{is_head}}
 use Rattle.ocfl_rules.proofs.AuditExists.{append_nothing, path_among, some_not_none, zone_is}
 use Rattle.ocfl_rules.proofs.PathLaws.{named_path, notes_at}
 use Rattle.ocfl_rules.proofs.WayLaws.{head_seen, is_closed}
@@ -64,7 +66,7 @@ module _ (root : StorageRoot) (p : Place) where
         ∙ ap (λ q. Some (a.table, q)) (sym (inner ∙ shape))
 
   -- if nothing is seen only named digests have lines
-  pub unseen_notes : seen root p ≡ None → named_at root p ≡ [] → notes None root None p ≡ []
+  pub unseen_notes : seen root p ≡ None → named_at root p ≡ [] → notes Nothing root None p ≡ []
   unseen_notes h none = notes_at root None p not_base ∙ by (zone root p) refl
     where
       not_base : p ≢ []

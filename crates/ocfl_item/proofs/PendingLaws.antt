@@ -2,11 +2,12 @@
 use Rattle.std.proofs.Common.{◌≡◌, ◌≢◌, List, [], ◌∷◌, ◌++◌, map, refl, sym, ◌∙◌, ap, subst, true, false, Some, None}
 use Rattle.ocfl_tree.specs.{Place.{Place}, StorageRoot.{StorageRoot}, Ascending.{IsAscending}}
 use Rattle.ocfl_tree.proofs.Orders.{true_not_false}
+use Rattle.ocfl_report.specs.declared.further.Further.{Further}
 use Rattle.ocfl_inventory.specs.{Remark.{remark_view}, declared.remark.Remark.{Remark}}
 use Rattle.ocfl_inventory.specs.{Table.{Table, named, named_cmp}, TripleView.{named_view}}
 use Rattle.ocfl_inventory.specs.declared.triple.Named.{Named as MadeNamed}
 use Rattle.ocfl_rules.specs.Lines.{missing_notes, named_at, unnamed_notes}
-use Rattle.ocfl_rules.specs.Inventories.{Further, notes, is_hashed}
+use Rattle.ocfl_rules.specs.Inventories.{notes, is_hashed}
 use Rattle.ocfl_rules.proofs.InventoryLaws.{hashed_lines}
 use Rattle.ocfl_item.specs.Internal.Content.{IsSight, content_at, is_read, sight_notes}
 use Rattle.ocfl_item.specs.{Pending.{IsJudgedBy, IsPending, expected_view}, Internal.Lines.{HasLines, IsUnhashed}}

@@ -4,9 +4,9 @@ use Rattle.std.proofs.{lemmas.List.{length-append}, Math.Seq.{drop-append_seam}}
 use Rattle.std.specs.{Prelude.{option_map}, List.{list_all}}
 use Rattle.ocfl_tree.specs.{Place.{Place, Text}, StorageRoot.{StorageRoot}}
 use Rattle.ocfl_tree.specs.declared.store.Entry.{Entry}
+use Rattle.ocfl_report.specs.declared.further.Further.{Further}
 use Rattle.ocfl_inventory.specs.ListedPath.{is_version_name}
 use Rattle.ocfl_rules.specs.Zone.{inside, zone, is_entered, is_listed_in_object, is_listed_zone, beginnings}
-use Rattle.ocfl_rules.specs.Inventories.{Further}
 use Rattle.ocfl_item.specs.{Internal.Content.{content_at, content_in}, Around.{IsMet}}
 use Rattle.ocfl_item.specs.declared.meeting.Around.{Around}
 use Rattle.ocfl_rules.proofs.AuditExists.{zone_is}

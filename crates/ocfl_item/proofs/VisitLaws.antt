@@ -1,7 +1,7 @@
 -- What is met at an entry.
-use Rattle.std.proofs.Common.{◌≡◌, ◌≢◌, ◌⊎◌, inl, inr, ◌<◌, ◌≤◌, List, [], ◌∷◌, refl, sym, ◌∙◌, ap, subst, true, false, Bool, Option, Some, None, arith, length, map}
+use Rattle.std.proofs.Common.{◌≡◌, ◌≢◌, ◌<◌, ◌≤◌, List, [], ◌∷◌, refl, sym, ◌∙◌, ap, subst, true, false, Bool, Option, Some, None, arith, length, map}
 use Rattle.std.proofs.lemmas.Bool.{le-leb, lt-ltb, le-ltb}
-use Rattle.std.specs.Prelude.{cond, nat_lt, nat_le, option_map, IfSome, IsErrAnd, Result, Ok, Err, ◌&&◌, ◌||◌, not, codes}
+use Rattle.std.specs.Prelude.{cond, nat_le, option_map, IfSome, IsErrAnd, Result, Ok, Err, ◌&&◌, ◌||◌, not, codes}
 use Rattle.std.specs.List.{list_all}
 use Rattle.ocfl_tree.specs.Place.{Place, Text, text_eq}
 use Rattle.ocfl_tree.specs.StorageRoot.{StorageRoot, Leaf, file, dir, other, at, is_dir, is_dir_leaf, names_in}
@@ -9,14 +9,16 @@ use Rattle.ocfl_tree.specs.{Store.{Store, Did}, Listing.{kind_of, IsListing}}
 use Rattle.ocfl_tree.specs.{declared.store.Entry.{Entry}, declared.store.Kind.{Kind}}
 use Rattle.ocfl_tree.specs.declared.store.Kind.TheVariants as kind
 use Rattle.ocfl_tree.proofs.{Orders.{true_not_false}, Bools.{and_both}, Stores.{did_nothing}}
+use Rattle.ocfl_report.specs.declared.further.Further.{Further}
+use Rattle.ocfl_report.specs.declared.further.Further.TheVariants.{Nothing, Inventories}
 use Rattle.ocfl_inventory.specs.{Note.{Note, plain}, Remark.{remark_view}}
 use Rattle.ocfl_inventory.specs.Table.{Table, named}
 use Rattle.ocfl_inventory.specs.{Declaration.{is_declaration}, ListedPath.{is_version_name}}
 use Rattle.ocfl_report.specs.declared.code.Code.{Code}
 use Rattle.ocfl_report.specs.declared.code.Code.TheVariants.{E001, E015, E024, S04, S05}
-use Rattle.ocfl_rules.specs.Zone.{Zone, skipped, hierarchy, inside, zone, seen, inventory_name, table_at, is_entered, is_listed_zone, is_listed_in_object, max_listed_depth, beginnings}
-use Rattle.ocfl_rules.specs.Inventories.{Further, inventory_bytes, version_inventory_in, notes, is_hashed}
-use Rattle.ocfl_rules.specs.Lines.{cost_of, notes_in, object_notes, object_entry_notes, version_entry_notes, is_inventory_or_sidecar, is_empty, listed_dir_notes}
+use Rattle.ocfl_rules.specs.Zone.{Zone, skipped, hierarchy, inside, zone, seen, table_at, is_entered, is_listed_zone, is_listed_in_object, max_listed_depth, beginnings}
+use Rattle.ocfl_rules.specs.Inventories.{inventory_bytes, version_inventory_in, notes, is_hashed}
+use Rattle.ocfl_rules.specs.Lines.{notes_in, object_notes, object_entry_notes, version_entry_notes, is_inventory_or_sidecar, is_empty, listed_dir_notes}
 use Rattle.ocfl_rules.specs.Head.{on}
 use Rattle.ocfl_rules.specs.Walk.{is_reached, seen_names}
 use Rattle.ocfl_rules.specs.Trail.{heads_of, is_head, reads_inventory}
@@ -80,8 +82,8 @@ no_notes root e h = short_notes root e [] h ∙ same_either (is_empty (names_in 
 -- ---- what was done
 
 pub opens_none : (further : Further) (root : StorageRoot) (e : Place) → OpensBeside further root e []
-opens_none None root e = refl
-opens_none (Some k) root e = λ o i. absurd i
+opens_none Nothing root e = refl
+opens_none Inventories root e = λ o i. absurd i
 
 -- no file was opened
 abbrev pub meets_unopened : (further : Further) (root : StorageRoot) (s t : Store) (e : Place) (listings : List Place) → s.tree ≡ root → Did s t [] listings 0
@@ -291,22 +293,12 @@ version_plain further root e o v n t z h free = record {
   head = ap is_head z;
 }
 
--- what is no file, or has another name, is not checked
-pub no_file_unchecked : (further : Further) (n : Text) (k : Kind) → (k ≡ kind.Dir) ⊎ (k ≡ kind.Other) → is_checked further n k ≡ false
-no_file_unchecked None n k is = refl
-no_file_unchecked (Some c) n k (inl is) = ap (is_checked (Some c) n) is
-no_file_unchecked (Some c) n k (inr is) = ap (is_checked (Some c) n) is
-
-pub other_name_unchecked : (further : Further) (n : Text) (k : Kind) → k ≡ kind.File → text_eq n inventory_name ≡ false → is_checked further n k ≡ false
-other_name_unchecked None n k is differs = refl
-other_name_unchecked (Some c) n k is differs = ap (is_checked (Some c) n) is ∙ differs
-
 -- an entry of a version directory that is no inventory that is checked
 pub unchecked : (further : Further) (root : StorageRoot) (e o : Place) (v n : Text) (k : Kind) → IsEntryAt root e k → zone root e ≡ inside o (v ∷ n ∷ []) → is_checked further n k ≡ false → IsFree further root e
-unchecked None root e o v n k h z out = tt
-unchecked (Some c) root e o v n k h z out = ap (λ x. version_inventory_in x (seen root e)) z ∙ ap (option_map (λ bytes. (o, v, bytes))) (by k refl out)
+unchecked Nothing root e o v n k h z out = tt
+unchecked Inventories root e o v n k h z out = ap (λ x. version_inventory_in x (seen root e)) z ∙ ap (option_map (λ bytes. (o, v, bytes))) (by k refl out)
   where
-    by : (j : Kind) → k ≡ j → is_checked (Some c) n j ≡ false → inventory_bytes n (seen root e) ≡ None
+    by : (j : Kind) → k ≡ j → is_checked Inventories n j ≡ false → inventory_bytes n (seen root e) ≡ None
     by kind.File is g = let f = entry_file root e k h is in ap (inventory_bytes n) f.1 ∙ ap (λ b. cond b (Some f.0) None) g
     by kind.Dir is g = ap (inventory_bytes n) (entry_dir root e k h is)
     by kind.Other is g = ap (inventory_bytes n) (entry_other root e k h is)

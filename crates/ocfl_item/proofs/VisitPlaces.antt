@@ -12,6 +12,7 @@ use Rattle.ocfl_tree.specs.{declared.store.Entry.{Entry}, declared.store.Kind.{K
 use Rattle.ocfl_tree.specs.declared.store.Kind.TheVariants as kind
 use Rattle.ocfl_tree.proofs.{Orders.{true_not_false}, Stores.{did_then, listed_well}}
 use Rattle.ocfl_tree.proofs.Bools.{and_both, and_first}
+use Rattle.ocfl_report.specs.declared.further.Further.{Further}
 use Rattle.ocfl_inventory.specs.{Note.{Note, plain}, Table.{Table}}
 use Rattle.ocfl_inventory.specs.Declaration.{undeclared, declared}
 use Rattle.ocfl_inventory.specs.Entries.{file_names, meaning, PointsAtOne}
@@ -21,7 +22,7 @@ use Rattle.ocfl_inventory.specs.declared.declaration.Declared.TheVariants as mad
 use Rattle.ocfl_inventory.specs.declared.declaration.Level.TheVariants as level
 use Rattle.ocfl_rules.specs.Head.{on}
 use Rattle.ocfl_rules.specs.Zone.{skipped, hierarchy, inside, zone, seen, table_at, is_entered, is_listed_zone, is_listed_in_object, max_listed_depth, object_declared, beginnings, files_in, is_declared}
-use Rattle.ocfl_rules.specs.Inventories.{Further, notes}
+use Rattle.ocfl_rules.specs.Inventories.{notes}
 use Rattle.ocfl_rules.specs.Lines.{notes_in, named_in, is_empty, listed_dir_notes, hierarchy_notes}
 use Rattle.ocfl_rules.specs.Walk.{is_extensions, is_reached, seen_names, step_zone}
 use Rattle.ocfl_rules.specs.Trail.{is_head}

@@ -2,10 +2,12 @@
 use Rattle.std.specs.Prelude.{◌≡◌, ⊤, List, [], ◌∷◌, ◌++◌, true, Option, Some, None, drop, length, option_map}
 use Rattle.ocfl_tree.specs.{Place.{Place}, Ascending.{IsAmong}, StorageRoot.{StorageRoot}}
 use Rattle.ocfl_tree.specs.{Listing.{kind_at, kind_in}, declared.store.Entry.{Entry}}
+use Rattle.ocfl_report.specs.declared.further.Further.{Further}
+use Rattle.ocfl_report.specs.declared.further.Further.TheVariants.{Nothing, Inventories}
 use Rattle.ocfl_inventory.specs.Table.{paths_of}
 use Rattle.ocfl_digest.specs.declared.algorithm.Algorithm.TheVariants.{Sha256, Sha512}
 use Rattle.ocfl_rules.specs.{Zone.{hierarchy, inside, zone, table_at, inventory_name}, Walk.{is_reached}}
-use Rattle.ocfl_rules.specs.{Inventories.{Further}, Head.{sidecar_name}}
+use Rattle.ocfl_rules.specs.Head.{sidecar_name}
 use Rattle.ocfl_item.specs.{declared.meeting.Around.{Around}, Root.{root_at, root_view}}
 
 -- the table of the object that holds a place, if there is one, and what that object's root inventory
@@ -35,8 +37,8 @@ TellOfSidecars root d es = (kind_in es (sidecar_name Sha256) ≡ kind_at root d 
 -- what is asked of the entries behind one in its directory: if the inventories of versions are
 -- checked, those behind an inventory tell of its sidecars
 abbrev pub AreBehind : Further → StorageRoot → Place → Entry → List Entry → Type 0
-AreBehind None root d entry behind = ⊤
-AreBehind (Some k) root d entry behind = entry.name ≡ inventory_name → TellOfSidecars root d behind
+AreBehind Nothing root d entry behind = ⊤
+AreBehind Inventories root d entry behind = entry.name ≡ inventory_name → TellOfSidecars root d behind
 
 -- the table of the object that holds a place names it
 abbrev pub IsNamedIn : Place → Option Around → Type 0

@@ -1,9 +1,11 @@
 -- What calls above the store did to a store that tells its tree: one record if they succeed, and
 -- one for a fault.
-use Rattle.std.specs.Prelude.{◌≡◌, ◌⊎◌, ◌&&◌, ℕ, ◌+◌, List, [], ◌∷◌, ◌++◌, true, false, filter, length, Option, Some, None, is_some}
+use Rattle.std.specs.Prelude.{◌≡◌, ◌⊎◌, ◌&&◌, ℕ, ◌+◌, List, [], ◌∷◌, ◌++◌, true, false, filter, length, Option, Some, is_some}
 use Rattle.ocfl_tree.specs.{Place.{Text, Place}, Ascending.{IsAmong}, StorageRoot.{StorageRoot}}
 use Rattle.ocfl_tree.specs.{Store.{Store, Did}, Calls.{opening}, declared.store.Opening.{Opening}}
-use Rattle.ocfl_rules.specs.Inventories.{Further, version_inventory, is_hashed}
+use Rattle.ocfl_report.specs.declared.further.Further.{Further}
+use Rattle.ocfl_report.specs.declared.further.Further.TheVariants.{Nothing, Inventories}
+use Rattle.ocfl_rules.specs.Inventories.{version_inventory, is_hashed}
 use Rattle.ocfl_rules.specs.Trail.{is_meta, content_trail, unread_of, heads_of}
 use Rattle.ocfl_rules.specs.Due.{hashed_among}
 use Rattle.ocfl_item.specs.Looking.{failures_at}
@@ -24,8 +26,8 @@ LiesBeside root inventory p =
 -- a place is right in one of these directories, or beside such an inventory if these are checked: all
 -- above what is seen was listed before
 abbrev pub LiesNear : Further → StorageRoot → List Place → Place → Type 0
-LiesNear None root dirs p = LiesIn dirs p
-LiesNear (Some k) root dirs p = LiesIn dirs p ⊎ ((inventory : Place) × LiesBeside root inventory p)
+LiesNear Nothing root dirs p = LiesIn dirs p
+LiesNear Inventories root dirs p = LiesIn dirs p ⊎ ((inventory : Place) × LiesBeside root inventory p)
 
 -- so is each declaration, inventory and sidecar that was opened
 abbrev pub LieIn : Further → StorageRoot → List Place → List Opening → Type 0

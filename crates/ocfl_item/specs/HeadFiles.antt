@@ -1,8 +1,8 @@
 -- The files that an object's head is made of: its declaration, its inventory and the sidecars.
-use Rattle.std.specs.Prelude.{◌≡◌, List, [], ◌∷◌, ◌++◌, Result, MatchResult, is_some, map, filter, None}
+use Rattle.std.specs.Prelude.{◌≡◌, List, [], ◌∷◌, ◌++◌, Result, MatchResult, is_some, map, filter}
 use Rattle.ocfl_tree.specs.{Place.{Text, Place}, StorageRoot.{StorageRoot, file_at}}
 use Rattle.ocfl_tree.specs.{Store.{Store, Did}, declared.store.Opening.{Opening}}
-use Rattle.ocfl_rules.specs.Inventories.{Further}
+use Rattle.ocfl_report.specs.declared.further.Further.{Further}
 use Rattle.ocfl_rules.specs.Trail.{places_of}
 use Rattle.ocfl_item.specs.{Looking.{IsFront}, Auditing.{IsMetadataRead}, Ways.{Stops}}
 use Rattle.ocfl_item.specs.declared.fault.Fault.{Fault}

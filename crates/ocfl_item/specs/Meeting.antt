@@ -2,9 +2,11 @@
 use Rattle.std.specs.Prelude.{AllPairs, ◌≡◌, ◌≢◌, ◌≤◌, List, [], true, false, Option, Some, None, MatchOption, MatchResult, IfSome, Result, length, option_map}
 use Rattle.ocfl_tree.specs.{Place.{Place}, StorageRoot.{StorageRoot}, Store.{Store, Did}}
 use Rattle.ocfl_tree.specs.{Listing.{IsListing, IsOrdinary}, declared.store.Opening.{Opening}}
+use Rattle.ocfl_report.specs.declared.further.Further.{Further}
+use Rattle.ocfl_report.specs.declared.further.Further.TheVariants.{Nothing, Inventories}
 use Rattle.ocfl_inventory.specs.Table.{IsFit, Table}
 use Rattle.ocfl_rules.specs.Zone.{inside, zone, table_at, max_listed_depth}
-use Rattle.ocfl_rules.specs.Inventories.{Further, notes, is_hashed}
+use Rattle.ocfl_rules.specs.Inventories.{notes, is_hashed}
 use Rattle.ocfl_rules.specs.Head.{on}
 use Rattle.ocfl_rules.specs.Trail.{content_trail, heads_of, is_head, reads_inventory}
 use Rattle.ocfl_rules.specs.Between.{is_looked_into}
@@ -19,8 +21,8 @@ use Rattle.ocfl_item.specs.declared.fault.Fault.TheVariants as fault
 -- what is opened at a place that is neither an object nor the storage root: nothing, but files right
 -- beside it if it is the inventory of a version and these are checked
 abbrev pub OpensBeside : Further → StorageRoot → Place → List Opening → Type 0
-OpensBeside None root e trail = trail ≡ []
-OpensBeside (Some k) root e trail = (o : Opening) → IsAmong trail o → LiesBeside root e o.place
+OpensBeside Nothing root e trail = trail ≡ []
+OpensBeside Inventories root e trail = (o : Opening) → IsAmong trail o → LiesBeside root e o.place
 
 -- from s to t just what is looked into and read at one place was listed and read: this directory,
 -- and the inventory of this object; no file was opened twice, and none but near this directory

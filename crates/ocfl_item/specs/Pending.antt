@@ -2,10 +2,11 @@
 use Rattle.std.specs.Prelude.{◌≡◌, ◌≢◌, ℕ, List, [], ◌∷◌, ◌++◌, true, false, Some, None, map, string_bytes}
 use Rattle.ocfl_tree.specs.{Place.{Text, Place}, StorageRoot.{StorageRoot, file, at}}
 use Rattle.ocfl_report.specs.declared.code.Code.TheVariants.{S08}
+use Rattle.ocfl_report.specs.declared.further.Further.{Further}
 use Rattle.ocfl_inventory.specs.{Note.{Note, plain}, Remark.{remark_view}}
 use Rattle.ocfl_item.specs.declared.expected.Expected.{Expected as MadeExpected}
 use Rattle.ocfl_item.specs.declared.pending.Pending.{Pending}
-use Rattle.ocfl_rules.specs.Inventories.{Further, Expected, unexpected_notes, notes, is_hashed}
+use Rattle.ocfl_rules.specs.Inventories.{Expected, unexpected_notes, notes, is_hashed}
 use Rattle.ocfl_rules.specs.Lines.{or_bytes}
 
 abbrev pub expected_view : MadeExpected → Expected

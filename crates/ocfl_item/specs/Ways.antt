@@ -5,9 +5,10 @@ use Rattle.ocfl_tree.specs.{Place.{Text, Place, text_eq}, StorageRoot.{StorageRo
 use Rattle.ocfl_tree.specs.{Store.{Store, Did}, Listing.{IsListing}, declared.store.Entry.{Entry}}
 use Rattle.ocfl_tree.specs.{declared.store.Kind.{Kind}, declared.store.Opening.{Opening}}
 use Rattle.ocfl_tree.specs.declared.store.Kind.TheVariants as kind
+use Rattle.ocfl_report.specs.declared.further.Further.{Further}
 use Rattle.ocfl_inventory.specs.Declaration.{Declared}
 use Rattle.ocfl_rules.specs.Zone.{max_listed_depth, hierarchy, inside, zone, is_entered, object_declared, beginnings, is_known, is_declared}
-use Rattle.ocfl_rules.specs.Inventories.{Further, is_hashed}
+use Rattle.ocfl_rules.specs.Inventories.{is_hashed}
 use Rattle.ocfl_rules.specs.Trail.{heads_of}
 use Rattle.ocfl_rules.specs.Walk.{is_reached}
 use Rattle.ocfl_item.specs.{Looking.{IsFront, failures_by}, Auditing.{FailedAt, IsMetadataRead}}

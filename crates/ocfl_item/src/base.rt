@@ -1,10 +1,10 @@
 //! The storage root: its lines, and its listing if it is entered.
 ghost use Rattle.std.specs.Prelude.{◌≡◌, ◌∷◌, [], false, IfOk};
 ghost use Rattle.ocfl_tree.specs.{StorageRoot.{StorageRoot}, Store.{IfTold}};
+ghost use Rattle.ocfl_report.specs.declared.further.Further.{Further};
 ghost use Rattle.ocfl_inventory.specs.Note.{plain};
 ghost use Rattle.ocfl_inventory.specs.Declaration.{declaration_name as declaration_name_of, known};
 ghost use Rattle.ocfl_inventory.specs.{Entries.{meaning}, Sidecar.{side_limit}};
-ghost use Rattle.ocfl_rules.specs.Inventories.{Further};
 ghost use Rattle.ocfl_rules.specs.{Zone.{is_known}, Head.{root_notes_by}};
 ghost use Rattle.ocfl_inventory.specs.declared.declaration.Level.TheVariants as level;
 ghost use Rattle.ocfl_item.specs.{HeadFiles.{OpensJust}, Internal.HeadFiles.{IsFileAt}};

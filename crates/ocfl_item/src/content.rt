@@ -2,9 +2,10 @@
 ghost use Rattle.std.specs.Prelude.{◌≡◌, ◌++◌, IfOk, IfSome, OnOk, Some, map, true};
 ghost use Rattle.ocfl_tree.specs.{Ascending.{IsAscending}, Place.{Place as ModelPlace}};
 ghost use Rattle.ocfl_tree.specs.StorageRoot.{StorageRoot};
+ghost use Rattle.ocfl_report.specs.declared.further.Further.{Further};
 ghost use Rattle.ocfl_inventory.specs.Table.{Table, named as digests_of, named_cmp};
 ghost use Rattle.ocfl_inventory.specs.{Remark.{remark_view}, TripleView.{named_view}};
-ghost use Rattle.ocfl_rules.specs.{Inventories.{Further}, Lines.{missing_notes, unnamed_notes}};
+ghost use Rattle.ocfl_rules.specs.Lines.{missing_notes, unnamed_notes};
 ghost use Rattle.ocfl_item.specs.Internal.Content.{IsSight, content_at, is_read, sight_notes};
 ghost use Rattle.ocfl_item.specs.{Meeting.{IsItemAt}, Internal.Lines.{Adds, HasLines}};
 ghost use Rattle.ocfl_item.specs.{Internal.FileLines.{expected_by_name}, Pending.{expected_view}};

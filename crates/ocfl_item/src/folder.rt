@@ -2,9 +2,10 @@
 ghost use Rattle.std.specs.Prelude.{◌≡◌, ◌&&◌, ◌∷◌, [], nat_le, suc, length, true, IfOk};
 ghost use Rattle.std.specs.Prelude.{MatchResult, codes, nat_eq};
 ghost use Rattle.ocfl_tree.specs.{Place.{text_eq}, Listing.{IsOrdinary, kind_in}, Store.{IfTold}};
+ghost use Rattle.ocfl_report.specs.declared.further.Further.{Further};
 ghost use Rattle.ocfl_inventory.specs.Declaration.{declared as declared_by_files};
 ghost use Rattle.ocfl_inventory.specs.Entries.{file_names};
-ghost use Rattle.ocfl_rules.specs.{Zone.{max_listed_depth}, Inventories.{Further}};
+ghost use Rattle.ocfl_rules.specs.Zone.{max_listed_depth};
 ghost use Rattle.ocfl_item.specs.Ways.{Stops, Enters, IsHead, is_extensions_name};
 ghost use Rattle.ocfl_item.specs.Ways.{is_dir_kind, is_listable};
 ghost use Rattle.ocfl_item.specs.Internal.Ways.{fault_by, head_by as head_by_declared};

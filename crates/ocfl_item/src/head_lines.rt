@@ -28,8 +28,7 @@ use crate::lines::PlaceLines;
 use crate::root::{RootInventory, root_of};
 use ocfl_digest::{Algorithm, Bounded, Digests, Wanted, hash_bytes};
 use ocfl_inventory::{Level, Remark, Sum, Table, Version, read_inventory, sidecar};
-use ocfl_report::Code;
-use ocfl_rules::further::NewCodes;
+use ocfl_report::{Code, Further};
 use ocfl_tree::is_bytes;
 use std::alloc::AllocError;
 
@@ -237,7 +236,7 @@ fn add_remarks(lines: &mut PlaceLines, remarks: Vec<Remark>) -> Result<(), Alloc
 /// gives its table, and what it is if that is asked for.
 fn add_read(
     lines: &mut PlaceLines,
-    further: Option<NewCodes>,
+    further: Further,
     inventory: &[u8],
     sidecars: &Sidecars,
 ) -> Result<(Option<Table>, Option<RootInventory>), AllocError>
@@ -263,7 +262,7 @@ fn add_read(
 /// that the inventory has.
 pub(crate) fn add_inventory(
     lines: &mut PlaceLines,
-    further: Option<NewCodes>,
+    further: Further,
     bytes: &[u8],
     sidecars: &Sidecars,
 ) -> Result<(Option<Table>, Option<RootInventory>), AllocError>

@@ -1,19 +1,20 @@
-//! The inventory in a version directory: it is read for itself, and compared with the digests of its
-//! sidecars and of the root inventory (OCFL 1.1, 3.3 Version Directories and 3.6 Inventory Digest).
+//! The inventory in a version directory: it is read for itself, and compared with the digests of
+//! its sidecars and of the root inventory (OCFL 1.1, 3.3 Version Directories and 3.6 Inventory
+//! Digest).
 ghost use Rattle.std.specs.Prelude.{◌≡◌, ◌∷◌, ◌++◌, [], IfOk, OnOk, Some, map, option_map};
 ghost use Rattle.ocfl_tree.specs.{Place.{Place as ModelPlace, Text}, StorageRoot.{StorageRoot}};
 ghost use Rattle.ocfl_tree.specs.Store.{IfTold};
 ghost use Rattle.ocfl_inventory.specs.Sidecar.{side_limit, sum_view};
-ghost use Rattle.ocfl_rules.specs.declared.further.NewCodes.{NewCodes as ModelCodes};
+ghost use Rattle.ocfl_report.specs.declared.further.Further.TheVariants.{Inventories};
 ghost use Rattle.ocfl_rules.specs.Head.{sidecar_at, sidecar_name};
 ghost use Rattle.ocfl_rules.specs.Inventories.{beside_notes, expected_beside, expected_by_root};
 ghost use Rattle.ocfl_rules.specs.Inventories.{expected_digest, expected_of, form_notes};
 ghost use Rattle.ocfl_rules.specs.Inventories.{is_text as is_same_text, root_inventory};
-ghost use Rattle.ocfl_item.specs.{Around.{TellOfSidecars}, Root.{root_view}};
-ghost use Rattle.ocfl_item.specs.{Meeting.{IsFairVisit, Visits}, Pending.{IsPending, expected_view}};
+ghost use Rattle.ocfl_item.specs.{Around.{TellOfSidecars}, Meeting.{IsFairVisit, Visits}};
+ghost use Rattle.ocfl_item.specs.{Pending.{IsPending, expected_view}, Root.{root_view}};
 ghost use Rattle.ocfl_item.specs.{Internal.FileLines.{Expects}, Internal.HeadFiles.{IsFileAt}};
-ghost use Rattle.ocfl_item.specs.Internal.HeadLines.{AreSidecars};
-ghost use Rattle.ocfl_item.specs.{Internal.Lines.{Adds, HasLines}, Internal.Visiting.{IsInventoryAt}};
+ghost use Rattle.ocfl_item.specs.Internal.{HeadLines.{AreSidecars}, Lines.{Adds, HasLines}};
+ghost use Rattle.ocfl_item.specs.Internal.Visiting.{IsInventoryAt};
 
 use crate::digits::hex_of;
 use crate::expected::Expected;
@@ -27,7 +28,6 @@ use crate::visit::Visit;
 use ocfl_digest::{Algorithm, Bounded};
 use ocfl_inventory::Sum;
 use ocfl_report::Code;
-use ocfl_rules::further::NewCodes;
 use ocfl_tree::{Entry, Place, Tree, is_text};
 use std::alloc::{AllocError, Global};
 
@@ -96,16 +96,16 @@ fn is_newest(root: &RootInventory, directory: &Place) -> bool
     }
 }
 
-/// Appends the digest of the root inventory, if that names the version of a directory as the newest.
+/// Appends the digest of the root inventory, if that names the version of a directory as the
+/// newest.
 fn add_by_root(
     expected: &mut Vec<Expected>,
-    codes: NewCodes,
     root: &Option<RootInventory>,
     directory: &Place,
 ) -> Result<(), AllocError>
     ensures { (o : ModelPlace) (v : Text) → directory.now ≡ o ++ v ∷ []
         → OnOk result (Expects expected.old expected.new
-        (expected_by_root codes v (option_map root_view root.now))) }
+        (expected_by_root v (option_map root_view root.now))) }
 {
     let Some(root) = root else {
         return Ok(());
@@ -114,7 +114,7 @@ fn add_by_root(
         return Ok(());
     }
     expected.push(Expected {
-        code: codes.differs,
+        code: Code::E064,
         algorithm: root.algorithm,
         digest: root.digest.clone()?,
     })?;
@@ -125,10 +125,10 @@ fn add_by_root(
 /// expected of it.
 fn item_of(lines: PlaceLines, expected: Vec<Expected>) -> Pending
     ensures place { result.place ≡ lines.place }
-    ensures told { (codes : ModelCodes) (root : StorageRoot) (o : ModelPlace) (v : Text)
+    ensures told { (root : StorageRoot) (o : ModelPlace) (v : Text)
         → IsInventoryAt root lines.place o v → HasLines lines (beside_notes root (o ++ v ∷ []))
-        → map expected_view expected.items ≡ expected_of codes root o v
-        → IsPending (Some codes) root result }
+        → map expected_view expected.items ≡ expected_of root o v
+        → IsPending Inventories root result }
 {
     if expected.is_empty() {
         return Pending::of_lines(lines);
@@ -140,7 +140,6 @@ fn item_of(lines: PlaceLines, expected: Vec<Expected>) -> Pending
 /// inventory is.
 fn inventory_item(
     alloc: Global,
-    codes: NewCodes,
     root: &Option<RootInventory>,
     place: Place,
     directory: &Place,
@@ -150,7 +149,7 @@ fn inventory_item(
     ensures told { (tree : StorageRoot) (o : ModelPlace) (v : Text) → IsInventoryAt tree place o v
         → directory.now ≡ o ++ v ∷ [] → option_map root_view root.now ≡ root_inventory tree o
         → AreSidecars tree directory.now sidecars.now
-        → IfOk result (λ item. IsPending (Some codes) tree item) }
+        → IfOk result (λ item. IsPending Inventories tree item) }
 {
     let mut lines = PlaceLines::new(alloc, place);
     let mut expected = Vec::new(alloc);
@@ -162,7 +161,7 @@ fn inventory_item(
         &sidecars.short,
     )?;
     add_sidecar(&mut lines, &mut expected, Algorithm::Sha512, &sidecars.long)?;
-    add_by_root(&mut expected, codes, root, directory)?;
+    add_by_root(&mut expected, root, directory)?;
     Ok(item_of(lines, expected))
 }
 
@@ -171,7 +170,6 @@ fn inventory_item(
 pub(crate) fn visit_inventory<T: Tree>(
     alloc: Global,
     store: &mut T,
-    codes: NewCodes,
     root: &Option<RootInventory>,
     place: Place,
     behind: &[Entry],
@@ -181,10 +179,10 @@ pub(crate) fn visit_inventory<T: Tree>(
         (o : ModelPlace) (v : Text) → IsInventoryAt tree place o v
         → option_map root_view root.now ≡ root_inventory tree o
         → TellOfSidecars tree (o ++ v ∷ []) behind.now
-        → Visits (Some codes) tree (T.state store.old) (T.state store.new) place result) }
+        → Visits Inventories tree (T.state store.old) (T.state store.new) place result) }
 {
     let directory = place.first(place.depth().saturating_sub(1))?;
     let sidecars = sidecars_among(alloc, store, &directory, behind)?;
-    let item = inventory_item(alloc, codes, root, place, &directory, &sidecars)?;
+    let item = inventory_item(alloc, root, place, &directory, &sidecars)?;
     Ok(Visit::of_item(Some(item)))
 }

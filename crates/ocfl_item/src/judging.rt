@@ -2,8 +2,9 @@
 ghost use Rattle.std.specs.Prelude.{◌≡◌, ◌≢◌, ◌≤◌, ◌<◌, ◌+◌, ◌^◌, ◌++◌, ◌∷◌, [], IfErr, IfOk};
 ghost use Rattle.std.specs.Prelude.{IsTrue, MatchResult, None, false, length, map, max, true};
 ghost use Rattle.ocfl_tree.specs.{Place.{Text}, Store.{IfTold}};
+ghost use Rattle.ocfl_report.specs.declared.further.Further.{Further};
 ghost use Rattle.ocfl_inventory.specs.{Note.{plain}, Remark.{remark_view}};
-ghost use Rattle.ocfl_rules.specs.{Inventories.{Further, unexpected_notes}, Lines.{or_bytes}};
+ghost use Rattle.ocfl_rules.specs.{Inventories.{unexpected_notes}, Lines.{or_bytes}};
 ghost use Rattle.ocfl_item.specs.Internal.FileLines.{HasDigests, given_in};
 ghost use Rattle.ocfl_item.specs.Internal.Lines.{HasLines};
 ghost use Rattle.ocfl_item.specs.Judging.{CostFits, HasShortFiles, JudgeFails, Judges};

@@ -6,8 +6,8 @@
 //! - Meeting a place gives its item, its listing if it is entered, and its table if it is an object
 //!   whose head does not stop. For it only this directory is listed, only this object's inventory
 //!   read, and no file opened but right in this directory (`visit_base`, `visit_entry`; `Meets`).
-//! - If the inventories of version directories are checked, meeting one gives its item, and opens its
-//!   sidecars alone (`OpensBeside` of `Meets`). They are looked up among the entries behind it.
+//! - If the inventories of version directories are checked, meeting one gives its item, and opens
+//!   its sidecars alone (`OpensBeside` of `Meets`). They are looked up among the entries behind it.
 //! - If nothing is seen at a place, it has an item only if the table has its path (`visit_path`).
 //!   `table_of_object` opens the inventory alone.
 //! - `judge` gives the lines and the cost of that item. Its file is opened once, if some digest is

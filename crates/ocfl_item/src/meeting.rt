@@ -3,9 +3,10 @@ ghost use Rattle.std.specs.Prelude.{◌≡◌, ◌∷◌, ◌++◌, [], None, So
 ghost use Rattle.std.specs.Prelude.{length, map};
 ghost use Rattle.ocfl_tree.specs.{Place.{Place as ModelPlace, Text}, StorageRoot.{StorageRoot}};
 ghost use Rattle.ocfl_tree.specs.Store.{IfTold};
+ghost use Rattle.ocfl_report.specs.declared.further.Further.{Further as ModelFurther};
 ghost use Rattle.ocfl_inventory.specs.{Table.{named as digests_of}, TripleView.{named_view}};
 ghost use Rattle.ocfl_inventory.specs.ListedPath.{is_version_name as is_version_text};
-ghost use Rattle.ocfl_rules.specs.{Inventories.{Further}, Zone.{inside, seen, zone}};
+ghost use Rattle.ocfl_rules.specs.Zone.{inside, seen, zone};
 ghost use Rattle.ocfl_item.specs.Around.{AreBehind, IsMet, IsNamedIn, IsTableAround};
 ghost use Rattle.ocfl_item.specs.Meeting.{IsFairVisit, IsItemAt, Visits};
 
@@ -13,12 +14,12 @@ use crate::content::content_item_at;
 use crate::fault::Fault;
 use crate::inventory::visit_inventory;
 use crate::pending::Pending;
-use crate::role::{checked_by, role_in_hierarchy, role_in_object, role_in_version};
+use crate::role::{is_checked, role_in_hierarchy, role_in_object, role_in_version};
 use crate::root::RootInventory;
 use crate::sight::Sight;
 use crate::visit::{Visit, visit_by_role, visit_in_content};
 use ocfl_inventory::{Named, Table};
-use ocfl_rules::further::NewCodes;
+use ocfl_report::Further;
 use ocfl_tree::{Entry, Place, Tree};
 use std::alloc::{AllocError, Global};
 
@@ -46,7 +47,7 @@ impl Around {
 fn visit_in_version<T: Tree>(
     alloc: Global,
     store: &mut T,
-    further: Option<NewCodes>,
+    further: Further,
     around: &Around,
     place: Place,
     entry: &Entry,
@@ -60,13 +61,11 @@ fn visit_in_version<T: Tree>(
         → is_version_text v ≡ true → AreBehind further root d entry.now behind.now
         → Visits further root (T.state store.old) (T.state store.new) place result) }
 {
-    match checked_by(further, entry) {
-        Some(codes) => visit_inventory(alloc, store, codes, &around.root, place, behind),
-        None => {
-            let role = role_in_version(entry, &around.table);
-            visit_by_role(alloc, store, further, place, role)
-        }
+    if is_checked(further, entry) {
+        return visit_inventory(alloc, store, &around.root, place, behind);
     }
+    let role = role_in_version(entry, &around.table);
+    visit_by_role(alloc, store, further, place, role)
 }
 
 /// What is met at an entry, by the part of the storage root that it is in, and by the entries that
@@ -74,7 +73,7 @@ fn visit_in_version<T: Tree>(
 pub fn visit_entry<T: Tree>(
     alloc: Global,
     store: &mut T,
-    further: Option<NewCodes>,
+    further: Further,
     around: &Option<Around>,
     place: Place,
     entry: &Entry,
@@ -108,7 +107,7 @@ pub fn visit_path(
 ) -> Result<Option<Pending>, AllocError>
     ensures fair { IfOk result (λ o. IfSome o (λ p. p.place ≡ place.now)) }
     ensures named { IfOk result (λ o. IfSome o (λ _. IsNamedIn place.now around.now)) }
-    ensures told { (further : Further) (root : StorageRoot)
+    ensures told { (further : ModelFurther) (root : StorageRoot)
         → IsTableAround further root place.now around.now
         → seen root place.now ≡ None
         → IfOk result (λ o. IsItemAt further root place.now o) }

@@ -1,10 +1,11 @@
 //! An object's own files: its declaration, its inventory and the sidecars. They are read for its
 //! head with its table, or for the table alone; a file of the storage root, and the sidecars in a
 //! version directory, are read in the same way.
-ghost use Rattle.std.specs.Prelude.{◌≡◌, ◌∷◌, ◌++◌, [], true, false, IfOk, IfSome, None, option_map};
-ghost use Rattle.std.specs.Prelude.{MatchOption, MatchResult, OnOk, not};
+ghost use Rattle.std.specs.Prelude.{◌≡◌, ◌∷◌, ◌++◌, [], true, false, IfOk, IfSome, None};
+ghost use Rattle.std.specs.Prelude.{MatchOption, MatchResult, OnOk, not, option_map};
 ghost use Rattle.ocfl_tree.specs.{StorageRoot.{file_at}, Listing.{IsListing, kind_at, kind_in}};
 ghost use Rattle.ocfl_tree.specs.Store.{IfTold};
+ghost use Rattle.ocfl_report.specs.declared.further.Further.{Further as ModelFurther};
 ghost use Rattle.ocfl_inventory.specs.Note.{plain};
 ghost use Rattle.ocfl_inventory.specs.Declaration.{declaration_name as declaration_name_of};
 ghost use Rattle.ocfl_inventory.specs.Sidecar.{side_limit};
@@ -13,14 +14,13 @@ ghost use Rattle.ocfl_digest.specs.declared.algorithm.Algorithm.TheVariants.{Sha
 ghost use Rattle.ocfl_inventory.specs.declared.declaration.Level.TheVariants as level;
 ghost use Rattle.ocfl_rules.specs.Head.{inventory_file_notes, is_exact_declaration, on};
 ghost use Rattle.ocfl_rules.specs.Head.{sidecar_name as sidecar_name_of};
-ghost use Rattle.ocfl_rules.specs.{Inventories.{Further}, Trail.{is_meta}};
-ghost use Rattle.ocfl_rules.specs.Zone.{inside, inventory_name, object_declared, table_at, zone};
+ghost use Rattle.ocfl_rules.specs.Trail.{is_meta};
+ghost use Rattle.ocfl_rules.specs.Zone.{inventory_name, object_declared, table_at};
 ghost use Rattle.ocfl_item.specs.HeadFiles.{FilesStop, OpensJust, ReadsFiles};
 ghost use Rattle.ocfl_item.specs.Internal.HeadFiles.{HaveSidecars, IsFileAt, ReadsFile};
-ghost use Rattle.ocfl_item.specs.Internal.HeadFiles.{head_files};
-ghost use Rattle.ocfl_item.specs.Internal.HeadFiles.{inventory_files, table_in};
-ghost use Rattle.ocfl_item.specs.{Internal.Lines.{Adds}, Root.{root_at, root_by, root_in, root_view}};
-ghost use Rattle.ocfl_item.specs.Ways.{IsObject};
+ghost use Rattle.ocfl_item.specs.Internal.HeadFiles.{head_files, inventory_files, table_in};
+ghost use Rattle.ocfl_item.specs.Root.{root_at, root_by, root_in, root_view};
+ghost use Rattle.ocfl_item.specs.{Internal.Lines.{Adds}, Ways.{IsObject}};
 ghost use Rattle.ocfl_item.specs.Internal.Ways.{IsDeclared, IsHeadOf, IsListedObject, is_file_kind};
 
 use crate::declarations::stopped_lines;
@@ -34,8 +34,7 @@ use ocfl_digest::{Algorithm, Bounded, read_bounded};
 use ocfl_inventory::{
     Declared, Level, SIDE_LIMIT, Table, Version, declaration_name, read_inventory,
 };
-use ocfl_report::Code;
-use ocfl_rules::further::NewCodes;
+use ocfl_report::{Code, Further};
 use ocfl_tree::{Entry, Kind, Name, Place, Tree, is_text};
 use std::alloc::{AllocError, Global};
 
@@ -84,10 +83,11 @@ fn read_among<T: Tree>(
     limit: usize,
 ) -> Result<Option<Bounded>, Fault>
     ensures told { IfTold T.told (T.state store.old) (λ root.
-        (further : Further) → kind_in entries.now name.now ≡ kind_at root directory.now name.now
+        (further : ModelFurther)
+        → kind_in entries.now name.now ≡ kind_at root directory.now name.now
         → is_meta further root (directory.now ++ name.now ∷ []) ≡ true
-        → ReadsFile further root (T.state store.old) (T.state store.new) directory.now name.now limit
-        result) }
+        → ReadsFile further root (T.state store.old) (T.state store.new) directory.now name.now
+        limit result) }
 {
     let Some(place) = place_of_file(directory, entries, name)? else {
         return Ok(None);
@@ -106,10 +106,10 @@ pub(crate) fn read_file<T: Tree>(
     limit: usize,
 ) -> Result<Option<Bounded>, Fault>
     ensures told { IfTold T.told (T.state store.old) (λ root.
-        (further : Further) → IsListing root folder.now.place folder.now.entries.items
+        (further : ModelFurther) → IsListing root folder.now.place folder.now.entries.items
         → is_meta further root (folder.now.place ++ name.now ∷ []) ≡ true
-        → ReadsFile further root (T.state store.old) (T.state store.new) folder.now.place name.now limit
-        result) }
+        → ReadsFile further root (T.state store.old) (T.state store.new) folder.now.place name.now
+        limit result) }
 {
     read_among(
         folder.alloc(),
@@ -129,7 +129,7 @@ pub(crate) fn sidecars_among<T: Tree>(
     entries: &[Entry],
 ) -> Result<Sidecars, Fault>
     ensures told { IfTold T.told (T.state store.old) (λ root.
-        (further : Further) → HaveSidecars further root directory.now entries.now
+        (further : ModelFurther) → HaveSidecars further root directory.now entries.now
         → MatchResult result
         (λ sidecars. ReadsFiles further root (T.state store.old) (T.state store.new) directory.now
         (sidecar_name_of Sha256 ∷ sidecar_name_of Sha512 ∷ [])
@@ -160,10 +160,10 @@ pub(crate) fn sidecars_among<T: Tree>(
 /// What the sidecars of an object hold that are there.
 fn read_sidecars<T: Tree>(store: &mut T, folder: &Folder) -> Result<Sidecars, Fault>
     ensures told { IfTold T.told (T.state store.old) (λ root.
-        (further : Further) → IsListedObject root folder.now.place folder.now.entries.items
+        (further : ModelFurther) → IsListedObject root folder.now.place folder.now.entries.items
         → MatchResult result
-        (λ sidecars. ReadsFiles further root (T.state store.old) (T.state store.new) folder.now.place
-        (sidecar_name_of Sha256 ∷ sidecar_name_of Sha512 ∷ [])
+        (λ sidecars. ReadsFiles further root (T.state store.old) (T.state store.new)
+        folder.now.place (sidecar_name_of Sha256 ∷ sidecar_name_of Sha512 ∷ [])
         × IsFileAt root (folder.now.place ++ sidecar_name_of Sha256 ∷ []) side_limit sidecars.short
         × IsFileAt root (folder.now.place ++ sidecar_name_of Sha512 ∷ []) side_limit sidecars.long)
         (λ why. FilesStop further root (T.state store.old) (T.state store.new) folder.now.place
@@ -176,7 +176,7 @@ fn read_sidecars<T: Tree>(store: &mut T, folder: &Folder) -> Result<Sidecars, Fa
 /// if that is asked for.
 fn add_inventory_file<T: Tree>(
     store: &mut T,
-    further: Option<NewCodes>,
+    further: Further,
     folder: &Folder,
     lines: &mut PlaceLines,
 ) -> Result<(Option<Table>, Option<RootInventory>), Fault>
@@ -221,7 +221,7 @@ fn add_declaration_file<T: Tree>(
 ) -> Result<(), Fault>
     ensures place { OnOk result (lines.new.place ≡ lines.old.place) }
     ensures told { IfTold T.told (T.state store.old) (λ root.
-        (further : Further) → IsListedObject root folder.now.place folder.now.entries.items
+        (further : ModelFurther) → IsListedObject root folder.now.place folder.now.entries.items
         → MatchResult result
         (λ _. ReadsFiles further root (T.state store.old) (T.state store.new) folder.now.place
         (declaration_name_of level.Object version ∷ [])
@@ -246,7 +246,7 @@ pub(crate) type HeadReading = (PlaceLines, Option<Table>, Option<RootInventory>)
 /// opened only if it is there within its limit.
 pub(crate) fn head_lines<T: Tree>(
     store: &mut T,
-    further: Option<NewCodes>,
+    further: Further,
     folder: &Folder,
     declared: Declared,
 ) -> Result<HeadReading, Fault>
@@ -275,7 +275,7 @@ pub(crate) fn head_lines<T: Tree>(
 /// The table of an inventory, if nothing stops, and what it is if that is asked for.
 fn read_table(
     alloc: Global,
-    further: Option<NewCodes>,
+    further: Further,
     bytes: &[u8],
 ) -> Result<(Option<Table>, Option<RootInventory>), AllocError>
     ensures table { IfOk result (λ read. read.0 ≡ table_of bytes.now) }
@@ -294,7 +294,7 @@ fn read_table(
 pub fn table_of_object<T: Tree>(
     alloc: Global,
     store: &mut T,
-    further: Option<NewCodes>,
+    further: Further,
     folder: &Folder,
 ) -> Result<(Option<Table>, Option<RootInventory>), Fault>
     ensures told { IfTold T.told (T.state store.old) (λ root.

@@ -1,23 +1,21 @@
 //! What an entry is to the walk, by its kind and its name, in each part of the storage root.
 ghost use Rattle.std.specs.Prelude.{◌≡◌, ◌∷◌, ◌||◌, codes, [], None, Some, false, true};
-ghost use Rattle.std.specs.Prelude.{MatchOption};
 ghost use Rattle.ocfl_tree.specs.Place.{Place as ModelPlace, Text, text_eq};
 ghost use Rattle.ocfl_tree.specs.StorageRoot.{StorageRoot};
+ghost use Rattle.ocfl_report.specs.declared.further.Further.{Further as ModelFurther};
 ghost use Rattle.ocfl_inventory.specs.Declaration.{is_declaration};
 ghost use Rattle.ocfl_inventory.specs.ListedPath.{is_version_name as is_version_text};
 ghost use Rattle.ocfl_inventory.specs.Table.{Table as TableOf};
 ghost use Rattle.ocfl_inventory.specs.declared.declaration.Level.TheVariants as level;
-ghost use Rattle.ocfl_rules.specs.{Inventories.{Further}, Zone.{inside, table_at, zone}};
-ghost use Rattle.ocfl_rules.specs.Zone.{inventory_name};
+ghost use Rattle.ocfl_rules.specs.Zone.{inside, table_at, zone};
 ghost use Rattle.ocfl_rules.specs.Lines.{is_inventory_or_sidecar as is_beside_inventory};
 ghost use Rattle.ocfl_item.specs.{Around.{IsMet}, Internal.Visiting.{HasRole, IsEntryAt}};
-ghost use Rattle.ocfl_item.specs.Internal.Visiting.{is_checked};
+ghost use Rattle.ocfl_item.specs.Internal.Visiting.{is_checked as is_checked_entry};
 
 use crate::folder::names_extensions;
 use crate::names::{INVENTORY_NAME, is_sidecar_name};
 use ocfl_inventory::{Level, Table, is_declaration_name, is_version_name};
-use ocfl_report::Code;
-use ocfl_rules::further::NewCodes;
+use ocfl_report::{Code, Further};
 use ocfl_tree::{Entry, Kind, Place, is_text};
 
 /// What an entry is to the walk.
@@ -36,7 +34,7 @@ pub(crate) enum Role {
 /// The role of an entry of a directory of the storage hierarchy (OCFL 1.1, 4.3 Storage
 /// Hierarchies).
 pub(crate) fn role_in_hierarchy(place: &Place, entry: &Entry) -> Role
-    ensures { (further : Further) (root : StorageRoot) (d : ModelPlace)
+    ensures { (further : ModelFurther) (root : StorageRoot) (d : ModelPlace)
         → IsMet further root d None entry.now place.now → HasRole further root place.now result }
 {
     let above = place.depth().saturating_sub(1);
@@ -71,7 +69,7 @@ fn is_left_alone(name: &str) -> bool
 
 /// The role of an entry of an object's root (OCFL 1.1, 3.1 Object Structure).
 pub(crate) fn role_in_object(entry: &Entry) -> Role
-    ensures { (further : Further) (root : StorageRoot) (e : ModelPlace)
+    ensures { (further : ModelFurther) (root : StorageRoot) (e : ModelPlace)
         → IsEntryAt root e entry.now.kind
         → (o : ModelPlace) (t : TableOf) → zone root e ≡ inside o (entry.now.name ∷ [])
         → table_at root o ≡ Some t → HasRole further root e result }
@@ -87,27 +85,22 @@ pub(crate) fn role_in_object(entry: &Entry) -> Role
     }
 }
 
-/// The codes by which an entry of a version directory is checked, if it is an inventory and that is
-/// asked for.
-pub(crate) fn checked_by(further: Option<NewCodes>, entry: &Entry) -> Option<NewCodes>
-    ensures { MatchOption result (is_checked further entry.now.name entry.now.kind ≡ false)
-        (λ codes. (further ≡ Some codes) × (entry.now.kind ≡ Kind.File)
-        × (entry.now.name ≡ inventory_name)) }
+/// Whether an entry of a version directory is an inventory that is checked.
+pub(crate) fn is_checked(further: Further, entry: &Entry) -> bool
+    ensures { result ≡ is_checked_entry further entry.now.name entry.now.kind }
 {
-    let codes = further?;
-    match entry.kind {
-        Kind::File if is_text(entry.name.as_str(), INVENTORY_NAME) => Some(codes),
-        Kind::File => None,
-        Kind::Dir | Kind::Other => None,
+    match (further, entry.kind) {
+        (Further::Inventories, Kind::File) => is_text(entry.name.as_str(), INVENTORY_NAME),
+        (Further::Inventories, Kind::Dir | Kind::Other) | (Further::Nothing, _) => false,
     }
 }
 
 /// The role of an entry of a version directory, if it is no inventory that is checked (OCFL 1.1,
 /// 3.3 Version Directories).
 pub(crate) fn role_in_version(entry: &Entry, table: &Table) -> Role
-    ensures { (further : Further) (root : StorageRoot) (e : ModelPlace)
+    ensures { (further : ModelFurther) (root : StorageRoot) (e : ModelPlace)
         → IsEntryAt root e entry.now.kind
-        → is_checked further entry.now.name entry.now.kind ≡ false
+        → is_checked_entry further entry.now.name entry.now.kind ≡ false
         → (o : ModelPlace) (version : Text) → zone root e ≡ inside o (version ∷ entry.now.name ∷ [])
         → table_at root o ≡ Some table.now → is_version_text version ≡ true
         → HasRole further root e result }

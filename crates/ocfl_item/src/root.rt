@@ -1,7 +1,7 @@
 //! What an object's root inventory is, where further inventories are checked.
 ghost use Rattle.std.specs.Prelude.{◌≡◌, ◌∷◌, [], IfOk, OnOk, option_map, string_bytes};
 ghost use Rattle.ocfl_inventory.specs.Reading.{head_of};
-ghost use Rattle.ocfl_rules.specs.{Head.{digest_of}, Inventories.{is_now_note}};
+ghost use Rattle.ocfl_rules.specs.{Head.{digest_of}, Inventories.{is_now_note, root_inventory_of}};
 ghost use Rattle.ocfl_item.specs.Root.{root_by, root_notes_if, root_view};
 ghost use Rattle.ocfl_item.specs.Internal.Lines.{Adds};
 
@@ -9,7 +9,7 @@ use crate::digits::hex_of;
 use crate::lines::PlaceLines;
 use ocfl_digest::{Algorithm, Wanted, hash_bytes};
 use ocfl_inventory::Table;
-use ocfl_rules::further::NewCodes;
+use ocfl_report::{Code, Further};
 use std::alloc::{AllocError, Global};
 
 /// What an object's root inventory is.
@@ -34,10 +34,29 @@ fn hex_digest(alloc: Global, bytes: &[u8], algorithm: Algorithm) -> Result<Strin
     }
 }
 
+/// What the root inventory is by its bytes, its table and what it names as the newest version.
+fn root_by_table(
+    alloc: Global,
+    bytes: &[u8],
+    table: &Table,
+    head: Option<String>,
+) -> Result<RootInventory, AllocError>
+    ensures { option_map string_bytes head ≡ head_of bytes.now
+        → IfOk result (λ root. root_view root ≡ root_inventory_of bytes.now table.now) }
+{
+    let algorithm = table.algorithm();
+    let digest = hex_digest(alloc, bytes, algorithm)?;
+    Ok(RootInventory {
+        algorithm,
+        digest,
+        head,
+    })
+}
+
 /// What the root inventory is by its bytes, if that is asked for and it has a table.
 pub(crate) fn root_of(
     alloc: Global,
-    further: Option<NewCodes>,
+    further: Further,
     bytes: &[u8],
     table: &Option<Table>,
     head: Option<String>,
@@ -46,48 +65,38 @@ pub(crate) fn root_of(
         → IfOk result (λ root. option_map root_view root
         ≡ root_by further bytes.now table.now) }
 {
-    if further.is_none() {
-        return Ok(None);
+    match (further, table) {
+        (Further::Inventories, Some(table)) => {
+            let root = root_by_table(alloc, bytes, table, head)?;
+            Ok(Some(root))
+        }
+        (Further::Nothing, _) | (Further::Inventories, None) => Ok(None),
     }
-    let Some(table) = table else {
-        return Ok(None);
-    };
-    let algorithm = table.algorithm();
-    let digest = hex_digest(alloc, bytes, algorithm)?;
-    Ok(Some(RootInventory {
-        algorithm,
-        digest,
-        head,
-    }))
 }
 
 /// Appends the note on what a root inventory is.
-fn add_note(lines: &mut PlaceLines, codes: NewCodes, root: &RootInventory) -> Result<(), AllocError>
-    ensures { OnOk result (Adds lines.old lines.new
-        (is_now_note codes (root_view root.now) ∷ [])) }
+fn add_note(lines: &mut PlaceLines, root: &RootInventory) -> Result<(), AllocError>
+    ensures { OnOk result (Adds lines.old lines.new (is_now_note (root_view root.now) ∷ [])) }
 {
     let alloc = lines.alloc();
     let detail = match &root.head {
         Some(head) => format!(in alloc; "{} {} {}", root.algorithm.name(), root.digest, head)?,
         None => format!(in alloc; "{} {}", root.algorithm.name(), root.digest)?,
     };
-    lines.add(codes.is_now, detail)
+    lines.add(Code::S09, detail)
 }
 
 /// Appends the note on what the root inventory is, if that is asked for and known.
 pub(crate) fn add_root_note(
     lines: &mut PlaceLines,
-    further: Option<NewCodes>,
+    further: Further,
     root: &Option<RootInventory>,
 ) -> Result<(), AllocError>
     ensures { OnOk result (Adds lines.old lines.new
         (root_notes_if further (option_map root_view root.now))) }
 {
-    let Some(codes) = further else {
-        return Ok(());
-    };
-    match root {
-        Some(root) => add_note(lines, codes, root),
-        None => Ok(()),
+    match (further, root) {
+        (Further::Inventories, Some(root)) => add_note(lines, root),
+        (Further::Nothing, _) | (Further::Inventories, None) => Ok(()),
     }
 }

@@ -2,9 +2,9 @@
 ghost use Rattle.std.specs.Prelude.{◌≡◌, ◌≤◌, ◌∷◌, [], None, Some, true, IfOk, map, length};
 ghost use Rattle.ocfl_tree.specs.{Place.{Place as ModelPlace}, StorageRoot.{StorageRoot}};
 ghost use Rattle.ocfl_tree.specs.{Listing.{IsOrdinary}, Store.{IfTold}};
+ghost use Rattle.ocfl_report.specs.declared.further.Further.{Further as ModelFurther};
 ghost use Rattle.ocfl_inventory.specs.{Note.{plain}, Table.{Table as TableOf, named as digests_of}};
 ghost use Rattle.ocfl_inventory.specs.TripleView.{named_view};
-ghost use Rattle.ocfl_rules.specs.Inventories.{Further};
 ghost use Rattle.ocfl_rules.specs.Zone.{is_listed_zone, max_listed_depth, zone};
 ghost use Rattle.ocfl_rules.specs.{Lines.{listed_dir_notes}, Walk.{seen_names}};
 ghost use Rattle.ocfl_item.specs.Internal.Ways.{IsDeclared};
@@ -24,8 +24,7 @@ use crate::root::RootInventory;
 use crate::sight::Sight;
 use ocfl_inventory::declaration::declaration;
 use ocfl_inventory::{Declared, Level, Named, Table};
-use ocfl_report::Code;
-use ocfl_rules::further::NewCodes;
+use ocfl_report::{Code, Further};
 use ocfl_tree::{Entry, Kind, Place, Tree};
 use std::alloc::{AllocError, Global};
 
@@ -77,7 +76,7 @@ impl Visit {
 /// A place that has one line, whose detail is a dash.
 fn visit_plain(alloc: Global, place: Place, code: Code) -> Result<Visit, AllocError>
     ensures fair { IfOk result (λ v. IsFairVisit place v) }
-    ensures told { (further : Further) (root : StorageRoot)
+    ensures told { (further : ModelFurther) (root : StorageRoot)
         → IsPlainAt further root place (plain code ∷ [])
         → seen_names root place ≡ [] → IfOk result (λ v. IsVisit further root place v) }
 {
@@ -89,7 +88,7 @@ fn visit_plain(alloc: Global, place: Place, code: Code) -> Result<Visit, AllocEr
 fn visit_listed<T: Tree>(alloc: Global, store: &mut T, place: Place) -> Result<Visit, Fault>
     ensures fair { IfOk result (λ v. IsFairVisit place v) }
     ensures told { IfTold T.told (T.state store.old) (λ root.
-        (further : Further) → IsListedAt root place
+        (further : ModelFurther) → IsListedAt root place
         → IsPlainAt further root place (listed_dir_notes root place [])
         → Visits further root (T.state store.old) (T.state store.new) place result) }
 {
@@ -103,7 +102,7 @@ fn visit_listed<T: Tree>(alloc: Global, store: &mut T, place: Place) -> Result<V
 /// An object: its head, and what is below if that does not stop.
 fn visit_object<T: Tree>(
     store: &mut T,
-    further: Option<NewCodes>,
+    further: Further,
     folder: Folder,
     declared: Declared,
 ) -> Result<Visit, Fault>
@@ -130,7 +129,7 @@ fn visit_object<T: Tree>(
 fn visit_undeclared(folder: Folder) -> Result<Visit, AllocError>
     ensures fair { length folder.place ≤ max_listed_depth → IsOrdinary folder.entries.items
         → IfOk result (λ v. IsFairVisit folder.place v) }
-    ensures told { (further : Further) (root : StorageRoot)
+    ensures told { (further : ModelFurther) (root : StorageRoot)
         → IsUndeclaredAt root folder.place folder.entries.items
         → IfOk result (λ v. IsVisit further root folder.place v) }
 {
@@ -144,7 +143,7 @@ fn visit_undeclared(folder: Folder) -> Result<Visit, AllocError>
 fn visit_directory<T: Tree>(
     alloc: Global,
     store: &mut T,
-    further: Option<NewCodes>,
+    further: Further,
     place: Place,
 ) -> Result<Visit, Fault>
     ensures fair { IfOk result (λ v. IsFairVisit place v) }
@@ -166,7 +165,7 @@ fn visit_directory<T: Tree>(
 pub(crate) fn visit_by_role<T: Tree>(
     alloc: Global,
     store: &mut T,
-    further: Option<NewCodes>,
+    further: Further,
     place: Place,
     role: Role,
 ) -> Result<Visit, Fault>
@@ -191,7 +190,7 @@ fn visit_unentered(
     sight: Sight,
 ) -> Result<Visit, AllocError>
     ensures fair { IfOk result (λ v. IsFairVisit place v) }
-    ensures told { (further : Further) (root : StorageRoot) (t : TableOf) (q : ModelPlace)
+    ensures told { (further : ModelFurther) (root : StorageRoot) (t : TableOf) (q : ModelPlace)
         → content_at root place ≡ Some (t, q)
         → map named_view named.items ≡ digests_of t q → IsSight root place sight
         → seen_names root place ≡ [] → IfOk result (λ v. IsVisit further root place v) }
@@ -208,7 +207,7 @@ fn visit_content_directory<T: Tree>(
 ) -> Result<Visit, Fault>
     ensures fair { IfOk result (λ v. IsFairVisit place v) }
     ensures told { IfTold T.told (T.state store.old) (λ root.
-        (further : Further) → IsListedAt root place → (t : TableOf) (q : ModelPlace)
+        (further : ModelFurther) → IsListedAt root place → (t : TableOf) (q : ModelPlace)
         → content_at root place ≡ Some (t, q) → map named_view named.items ≡ digests_of t q
         → Visits further root (T.state store.old) (T.state store.new) place result) }
 {
@@ -235,7 +234,7 @@ pub(crate) fn visit_in_content<T: Tree>(
 ) -> Result<Visit, Fault>
     ensures fair { IfOk result (λ v. IsFairVisit place v) }
     ensures told { IfTold T.told (T.state store.old) (λ root.
-        (further : Further) → IsEntryAt root place entry.now.kind
+        (further : ModelFurther) → IsEntryAt root place entry.now.kind
         → is_listed_zone root (zone root place) ≡ true
         → (t : TableOf) (q : ModelPlace) → content_at root place ≡ Some (t, q)
         → map named_view named.items ≡ digests_of t q

@@ -3,7 +3,7 @@ use Rattle.std.proofs.Common.{◌≡◌, ℕ, ◌<◌, ◌≤◌, List, [], ◌�
 use Rattle.std.specs.List.{list_all}
 use Rattle.ocfl_tree.specs.Place.{Text}
 use Rattle.ocfl_report.specs.{Text.{code_text}, declared.code.Code.{Code}}
-use Rattle.ocfl_report.specs.declared.code.Code.TheVariants.{Clean, E001, E003, E007, E015, E017, E018, E023, E024, E025, E033, E036, E041, E058, E060, E061, E063, E069, E072, E073, E076, E080, E092, E093, E096, E097, E099, E100, E101, S01, S02, S03, S04, S05, S06, S07, S08}
+use Rattle.ocfl_report.specs.declared.code.Code.TheVariants.{Clean, E001, E003, E007, E015, E017, E018, E023, E024, E025, E033, E036, E041, E058, E060, E061, E063, E064, E069, E072, E073, E076, E080, E092, E093, E096, E097, E099, E100, E101, S01, S02, S03, S04, S05, S06, S07, S08, S09}
 use Rattle.ocfl_report.specs.declared.code.TheConstants.{CODES}
 use Rattle.ocfl_report.proofs.Bytes.{All-from_test, IsPrintable, is_printable, IsPrintable-from_test}
 
@@ -15,8 +15,8 @@ code_among (c ∷ cs) t = if bytes_eq (code_text c) t then c else code_among cs 
 -- all codes but `Clean`
 abbrev codes_but_clean : List Code
 codes_but_clean =
-    E001 ∷ E003 ∷ E007 ∷ E015 ∷ E017 ∷ E018 ∷ E023 ∷ E024 ∷ E025 ∷ E033 ∷ E036 ∷ E041 ∷ E058 ∷ E060 ∷ E061 ∷ E063 ∷ E069 ∷ E072 ∷ E073 ∷ E076 ∷ E080 ∷ E092 ∷ E093 ∷ E096 ∷ E097 ∷ E099 ∷ E100 ∷ E101
-    ∷ S01 ∷ S02 ∷ S03 ∷ S04 ∷ S05 ∷ S06 ∷ S07 ∷ S08 ∷ []
+    E001 ∷ E003 ∷ E007 ∷ E015 ∷ E017 ∷ E018 ∷ E023 ∷ E024 ∷ E025 ∷ E033 ∷ E036 ∷ E041 ∷ E058 ∷ E060 ∷ E061 ∷ E063 ∷ E064 ∷ E069 ∷ E072 ∷ E073 ∷ E076 ∷ E080 ∷ E092 ∷ E093 ∷ E096 ∷ E097 ∷ E099 ∷ E100 ∷ E101
+    ∷ S01 ∷ S02 ∷ S03 ∷ S04 ∷ S05 ∷ S06 ∷ S07 ∷ S08 ∷ S09 ∷ []
 
 -- the code that has the text, and `Clean` if none does
 abbrev pub code_of : Text → Code
@@ -60,38 +60,40 @@ place_in_table E058 = 13
 place_in_table E060 = 14
 place_in_table E061 = 15
 place_in_table E063 = 16
-place_in_table E069 = 17
-place_in_table E072 = 18
-place_in_table E073 = 19
-place_in_table E076 = 20
-place_in_table E080 = 21
-place_in_table E092 = 22
-place_in_table E093 = 23
-place_in_table E096 = 24
-place_in_table E097 = 25
-place_in_table E099 = 26
-place_in_table E100 = 27
-place_in_table E101 = 28
-place_in_table S01 = 29
-place_in_table S02 = 30
-place_in_table S03 = 31
-place_in_table S04 = 32
-place_in_table S05 = 33
-place_in_table S06 = 34
-place_in_table S07 = 35
-place_in_table S08 = 36
+place_in_table E064 = 17
+place_in_table E069 = 18
+place_in_table E072 = 19
+place_in_table E073 = 20
+place_in_table E076 = 21
+place_in_table E080 = 22
+place_in_table E092 = 23
+place_in_table E093 = 24
+place_in_table E096 = 25
+place_in_table E097 = 26
+place_in_table E099 = 27
+place_in_table E100 = 28
+place_in_table E101 = 29
+place_in_table S01 = 30
+place_in_table S02 = 31
+place_in_table S03 = 32
+place_in_table S04 = 33
+place_in_table S05 = 34
+place_in_table S06 = 35
+place_in_table S07 = 36
+place_in_table S08 = 37
+place_in_table S09 = 38
 
 -- it is there
 in_table : (c : Code) → get_or CODES (place_in_table c) Clean ≡ c
 in_table Clean = refl
 in_table _ = refl
 
-within_table : (c : Code) → nat_lt (place_in_table c) 37 ≡ true
+within_table : (c : Code) → nat_lt (place_in_table c) 39 ≡ true
 within_table Clean = refl
 within_table _ = refl
 
 -- a text that no code of the table has is no code's
-pub no_code : (t : Text) (n : ℕ) → ((k : ℕ) → k < n → t ≡ code_text (get_or CODES k Clean) → ⊥) → 37 ≤ n → (c : Code) → t ≡ code_text c → ⊥
+pub no_code : (t : Text) (n : ℕ) → ((k : ℕ) → k < n → t ≡ code_text (get_or CODES k Clean) → ⊥) → 39 ≤ n → (c : Code) → t ≡ code_text c → ⊥
 no_code t n none all c e =
-    let within = ltb-true (place_in_table c) 37 (within_table c) in
+    let within = ltb-true (place_in_table c) 39 (within_table c) in
     none (place_in_table c) (omega arith) (e ∙ ap code_text (sym (in_table c)))

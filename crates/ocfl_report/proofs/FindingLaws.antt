@@ -4,14 +4,15 @@ use Rattle.std.proofs.lemmas.List.Folds.{Any-from_list_any, list_any-from_Any}
 use Rattle.ocfl_tree.proofs.Orders.{true_not_false}
 use Rattle.ocfl_report.specs.Line.{Item, is_finding_code, has_finding, found}
 use Rattle.ocfl_report.specs.declared.code.Code.{Code}
-use Rattle.ocfl_report.specs.declared.code.Code.TheVariants.{Clean, E001, E003, E007, E015, E017, E018, E023, E024, E025, E033, E036, E041, E058, E060, E061, E063, E069, E072, E073, E076, E080, E092, E093, E096, E097, E099, E100, E101, S01, S02, S03, S04, S05, S06, S07, S08}
+use Rattle.ocfl_report.specs.declared.code.Code.TheVariants.{Clean, E001, E003, E007, E015, E017, E018, E023, E024, E025, E033, E036, E041, E058, E060, E061, E063, E064, E069, E072, E073, E076, E080, E092, E093, E096, E097, E099, E100, E101, S01, S02, S03, S04, S05, S06, S07, S08, S09}
 
-pub finding_codes : (c : Code) → (is_finding_code c ≡ false) ↔ ((c ≡ Clean) ⊎ (c ≡ S07))
+pub finding_codes : (c : Code) → (is_finding_code c ≡ false) ↔ ((c ≡ Clean) ⊎ ((c ≡ S07) ⊎ (c ≡ S09)))
 finding_codes c = (to c, back)
   where
-    to : (c : Code) → is_finding_code c ≡ false → (c ≡ Clean) ⊎ (c ≡ S07)
+    to : (c : Code) → is_finding_code c ≡ false → (c ≡ Clean) ⊎ ((c ≡ S07) ⊎ (c ≡ S09))
     to Clean e = inl refl
-    to S07 e = inr refl
+    to S07 e = inr (inl refl)
+    to S09 e = inr (inr refl)
     to E001 e = absurd (true_not_false e)
     to E003 e = absurd (true_not_false e)
     to E007 e = absurd (true_not_false e)
@@ -28,6 +29,7 @@ finding_codes c = (to c, back)
     to E060 e = absurd (true_not_false e)
     to E061 e = absurd (true_not_false e)
     to E063 e = absurd (true_not_false e)
+    to E064 e = absurd (true_not_false e)
     to E069 e = absurd (true_not_false e)
     to E072 e = absurd (true_not_false e)
     to E073 e = absurd (true_not_false e)
@@ -48,9 +50,10 @@ finding_codes c = (to c, back)
     to S06 e = absurd (true_not_false e)
     to S08 e = absurd (true_not_false e)
 
-    back : (c ≡ Clean) ⊎ (c ≡ S07) → is_finding_code c ≡ false
+    back : (c ≡ Clean) ⊎ ((c ≡ S07) ⊎ (c ≡ S09)) → is_finding_code c ≡ false
     back (inl e) = ap is_finding_code e
-    back (inr e) = ap is_finding_code e
+    back (inr (inl e)) = ap is_finding_code e
+    back (inr (inr e)) = ap is_finding_code e
 
 -- an item is one if one of its lines is
 pub finding_items : (i : Item) → (has_finding i ≡ true) ↔ Any (λ l. is_finding_code l.code ≡ true) i.lines

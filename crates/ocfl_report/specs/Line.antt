@@ -2,7 +2,7 @@
 use Rattle.std.specs.{Prelude.{ℕ, List, Bool, true, false, string_bytes}, List.{list_any}}
 use Rattle.ocfl_tree.specs.Place.{Text, Place}
 use Rattle.ocfl_report.specs.declared.code.Code.{Code}
-use Rattle.ocfl_report.specs.declared.code.Code.TheVariants.{Clean, S07}
+use Rattle.ocfl_report.specs.declared.code.Code.TheVariants.{Clean, S07, S09}
 use Rattle.ocfl_report.specs.declared.line.Line.{Line as MadeLine}
 
 -- a line of the report, its detail not yet escaped
@@ -21,10 +21,12 @@ pub record Item : Type 0 where
   pub lines : List Line
   pub cost : ℕ
 
--- a finding is a line of any code but `ok` and the note on an unsupported algorithm
+-- a finding is a line of any code but `ok` and the notes: on an algorithm that is not computed, and on
+-- what a root inventory is
 abbrev pub is_finding_code : Code → Bool
 is_finding_code Clean = false
 is_finding_code S07 = false
+is_finding_code S09 = false
 is_finding_code _ = true
 
 abbrev pub has_finding : Item → Bool

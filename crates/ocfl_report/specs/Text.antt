@@ -4,7 +4,7 @@ use Rattle.std.specs.Prelude.{◌≡◌, ℕ, ◌/◌, ◌%◌, ◌<◌, ◌==�
 use Rattle.std.specs.{List.{join_with_byte}, Str.{IsUtf8}}
 use Rattle.ocfl_tree.specs.{Place.{Text, Place}, Name.{IsPlace}}
 use Rattle.ocfl_report.specs.{Line.{Line, Item}, declared.code.Code.{Code}}
-use Rattle.ocfl_report.specs.declared.code.Code.TheVariants.{Clean, E001, E003, E007, E015, E017, E018, E023, E024, E025, E033, E036, E041, E058, E060, E061, E063, E069, E072, E073, E076, E080, E092, E093, E096, E097, E099, E100, E101, S01, S02, S03, S04, S05, S06, S07, S08}
+use Rattle.ocfl_report.specs.declared.code.Code.TheVariants.{Clean, E001, E003, E007, E015, E017, E018, E023, E024, E025, E033, E036, E041, E058, E060, E061, E063, E064, E069, E072, E073, E076, E080, E092, E093, E096, E097, E099, E100, E101, S01, S02, S03, S04, S05, S06, S07, S08, S09}
 
 abbrev pub code_text : Code → Text
 code_text Clean = codes "ok"
@@ -24,6 +24,7 @@ code_text E058 = codes "E058"
 code_text E060 = codes "E060"
 code_text E061 = codes "E061"
 code_text E063 = codes "E063"
+code_text E064 = codes "E064"
 code_text E069 = codes "E069"
 code_text E072 = codes "E072"
 code_text E073 = codes "E073"
@@ -44,6 +45,7 @@ code_text S05 = codes "S05"
 code_text S06 = codes "S06"
 code_text S07 = codes "S07"
 code_text S08 = codes "S08"
+code_text S09 = codes "S09"
 
 -- controls, `%`, and all from 127 on
 abbrev pub is_escaped : ℕ → Bool

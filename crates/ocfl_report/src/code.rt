@@ -42,6 +42,9 @@ pub enum Code {
     E061,
     /// An object without an inventory.
     E063,
+    /// An inventory of the newest version that is not the root inventory: only an audit that checks
+    /// the inventories of versions has it.
+    E064,
     /// A storage root without a declaration.
     E069,
     /// A file in the storage hierarchy.
@@ -82,6 +85,9 @@ pub enum Code {
     S07,
     /// A content file that could not be read.
     S08,
+    /// What an object's root inventory is: a note, and no finding. Only an audit that checks the
+    /// inventories of versions has it.
+    S09,
 }
 
 impl Code {
@@ -107,6 +113,7 @@ impl Code {
             Code::E060 => "E060",
             Code::E061 => "E061",
             Code::E063 => "E063",
+            Code::E064 => "E064",
             Code::E069 => "E069",
             Code::E072 => "E072",
             Code::E073 => "E073",
@@ -127,12 +134,13 @@ impl Code {
             Code::S06 => "S06",
             Code::S07 => "S07",
             Code::S08 => "S08",
+            Code::S09 => "S09",
         }
     }
 }
 
 /// All codes.
-const CODES: [Code; 37] = [
+const CODES: [Code; 39] = [
     Code::Clean,
     Code::E001,
     Code::E003,
@@ -150,6 +158,7 @@ const CODES: [Code; 37] = [
     Code::E060,
     Code::E061,
     Code::E063,
+    Code::E064,
     Code::E069,
     Code::E072,
     Code::E073,
@@ -170,6 +179,7 @@ const CODES: [Code; 37] = [
     Code::S06,
     Code::S07,
     Code::S08,
+    Code::S09,
 ];
 
 /// The code that has this text, and `None` if no code has it.

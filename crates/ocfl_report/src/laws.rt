@@ -3,7 +3,7 @@ ghost use Rattle.std.specs.Prelude.{◌≡◌, ◌≢◌, ◌↔◌, ◌⊎◌, 
 ghost use Rattle.ocfl_tree.specs.{Place.{Place as ModelPlace}, Name.{IsPlace}};
 ghost use Rattle.ocfl_report.specs.Line.{Line as ModelLine, Item, line_of, is_finding_code, has_finding, found};
 ghost use Rattle.ocfl_report.specs.declared.code.Code.{Code as ModelCode};
-ghost use Rattle.ocfl_report.specs.declared.code.Code.TheVariants.{Clean, S07};
+ghost use Rattle.ocfl_report.specs.declared.code.Code.TheVariants.{Clean, S07, S09};
 ghost use Rattle.ocfl_report.specs.Text.{place_text, line_text, lines_text, text, IsLine};
 
 use crate::line::Line;
@@ -69,12 +69,12 @@ pub fn text_determines_the_lines()
         → lines_text ls ≡ lines_text ms → ls ≡ ms }
 {}
 
-/// Each line is a finding but that of what is right and the note on an unsupported algorithm. Items
-/// are a finding exactly if a line of one of them is.
+/// Each line is a finding but that of what is right and the notes, on an algorithm that is not
+/// computed and on what a root inventory is. Items are a finding exactly if a line of one of them is.
 #[tactic(auto, using(crate::proofs::FindingLaws::finding_codes))]
 pub fn findings_are_exact()
     ensures codes { (c : ModelCode)
-        → (is_finding_code c ≡ false) ↔ ((c ≡ Clean) ⊎ (c ≡ S07)) }
+        → (is_finding_code c ≡ false) ↔ ((c ≡ Clean) ⊎ ((c ≡ S07) ⊎ (c ≡ S09))) }
     ensures items { (i : Item)
         → (has_finding i ≡ true) ↔ Any (λ l. is_finding_code l.code ≡ true) i.lines }
     ensures lists { (items : List Item)

@@ -34,6 +34,7 @@
 mod code;
 mod display;
 mod escaped;
+mod further;
 mod input;
 pub mod laws;
 mod line;
@@ -45,6 +46,7 @@ mod stop;
 
 pub use code::Code;
 pub use display::DisplayPlace;
+pub use further::Further;
 pub use input::{InputStop, read_limited, read_next_line};
 pub use line::Line;
 pub use number::read_decimal;

@@ -8,7 +8,7 @@ use Rattle.ocfl_tree.specs.{Place.{Place, place_cmp, place_eq}, Ascending.{IsAsc
 use Rattle.ocfl_tree.specs.StorageRoot.{StorageRoot}
 use Rattle.ocfl_tree.proofs.Orders.{place_cmp_exact, true_not_false, among_from_filter}
 use Rattle.ocfl_report.specs.Text.{lines_text, text}
-use Rattle.ocfl_rules.specs.Inventories.{Further}
+use Rattle.ocfl_report.specs.declared.further.Further.{Further}
 use Rattle.ocfl_rules.specs.Audit.{Unread, given_by, item_of, audit, total_cost}
 use Rattle.ocfl_rules.specs.Due.{item_places}
 use Rattle.ocfl_rules.specs.Runs.{total_files, sum_of}

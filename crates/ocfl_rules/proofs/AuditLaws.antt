@@ -3,8 +3,8 @@ use Rattle.std.proofs.Common.{◌≡◌, ◌↔◌, List, [], ◌∷◌, refl, s
 use Rattle.std.specs.List.{AllByRecursion}
 use Rattle.ocfl_tree.specs.{Place.{Place, place_cmp}, Ascending.{IsAmong, IsAscending}}
 use Rattle.ocfl_tree.specs.StorageRoot.{StorageRoot}
-use Rattle.ocfl_report.specs.Line.{Item}
-use Rattle.ocfl_rules.specs.Inventories.{Further, notes, cost}
+use Rattle.ocfl_report.specs.{Line.{Item}, declared.further.Further.{Further}}
+use Rattle.ocfl_rules.specs.Inventories.{notes, cost}
 use Rattle.ocfl_rules.specs.Audit.{Unread, candidates, given_by, item_of, audit, IsAudit}
 use Rattle.ocfl_rules.proofs.AuditExists.{made_items}
 use Rattle.ocfl_rules.proofs.FurtherLaws.{notes_candidate}

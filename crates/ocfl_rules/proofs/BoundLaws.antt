@@ -9,11 +9,12 @@ use Rattle.ocfl_tree.specs.Place.{Place, Text, begins}
 use Rattle.ocfl_tree.specs.Ascending.{insert_once, ascending, IsAmong}
 use Rattle.ocfl_tree.specs.{StorageRoot.{StorageRoot, Leaf, at, is_dir}, Path.{elements}}
 use Rattle.ocfl_report.specs.declared.code.Code.TheVariants.{E099, E100, S06}
+use Rattle.ocfl_report.specs.declared.further.Further.{Further}
 use Rattle.ocfl_digest.specs.declared.algorithm.Algorithm.{Algorithm}
 use Rattle.ocfl_inventory.specs.Table.{Table, Triple, triple_cmp, triples_of, table_from, table_of, paths_of}
 use Rattle.ocfl_inventory.specs.Reading.{Inventory, Block, Reading, inventory_of}
 use Rattle.ocfl_inventory.specs.ListedPath.{is_empty_or_dots, is_too_long_or_nul, is_content_path, is_kept}
-use Rattle.ocfl_rules.specs.Inventories.{Further, notes}
+use Rattle.ocfl_rules.specs.Inventories.{notes}
 use Rattle.ocfl_rules.specs.Zone.{zone, table_at, inventory_at, inventory_limit, seen, is_entered, is_listed_zone, max_listed_depth, beginnings}
 use Rattle.ocfl_rules.specs.Walk.{is_reached, IsClosed}
 use Rattle.ocfl_rules.specs.Stack.{Frame, listed_at}

@@ -4,9 +4,9 @@ use Rattle.std.proofs.Common.{◌≡◌, ℕ, List, [], ◌∷◌, refl, sym, �
 use Rattle.std.specs.Ordering.{is_lt}
 use Rattle.ocfl_tree.specs.{Place.{Place, place_cmp}, Ascending.{ascending}}
 use Rattle.ocfl_tree.specs.{StorageRoot.{StorageRoot}, declared.store.Opening.{Opening}}
-use Rattle.ocfl_report.specs.Line.{Item}
+use Rattle.ocfl_report.specs.{Line.{Item}, declared.further.Further.{Further}}
 use Rattle.ocfl_inventory.specs.Note.{Note, lines_at}
-use Rattle.ocfl_rules.specs.Inventories.{Further, notes, cost}
+use Rattle.ocfl_rules.specs.Inventories.{notes, cost}
 use Rattle.ocfl_rules.specs.Audit.{Unread, candidates, given_by, item_of, has_lines, audit, after}
 use Rattle.ocfl_rules.specs.Lines.{is_empty}
 use Rattle.ocfl_rules.specs.Due.{item_places, due, items_at}

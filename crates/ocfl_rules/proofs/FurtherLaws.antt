@@ -7,6 +7,8 @@ use Rattle.ocfl_tree.specs.{Place.{Place, Text, text_eq}, Ascending.{IsAmong}}
 use Rattle.ocfl_tree.specs.StorageRoot.{StorageRoot, Leaf, file, dir, other}
 use Rattle.ocfl_tree.proofs.Orders.{true_not_false}
 use Rattle.ocfl_report.specs.declared.code.Code.TheVariants.{E058, E060, E061, S08}
+use Rattle.ocfl_report.specs.declared.further.Further.{Further}
+use Rattle.ocfl_report.specs.declared.further.Further.TheVariants.{Nothing, Inventories}
 use Rattle.ocfl_inventory.specs.{Note.{note, Note, plain}, Sidecar.{sidecar_of}}
 use Rattle.hex.specs.Hex.{encode_lower}
 use Rattle.ocfl_digest.specs.{Algorithm.{algorithm_name}, declared.algorithm.Algorithm.{Algorithm}}
@@ -14,8 +16,7 @@ use Rattle.ocfl_digest.specs.declared.algorithm.Algorithm.TheVariants.{Sha256, S
 use Rattle.ocfl_rules.specs.Zone.{Zone, skipped, hierarchy, inside, zone, seen, inventory_name}
 use Rattle.ocfl_rules.specs.Head.{on, sidecar_at}
 use Rattle.ocfl_rules.specs.Lines.{is_empty, common_notes}
-use Rattle.ocfl_rules.specs.declared.further.NewCodes.{NewCodes}
-use Rattle.ocfl_rules.specs.Inventories.{Further, Expected, VersionInventory, expected_digest, expected_beside, expected_by_root, expected_of, form_notes, beside_notes, inventory_notes, inventory_bytes, version_inventory_in, version_inventory, root_inventory, head_notes, version_notes, further_notes, notes}
+use Rattle.ocfl_rules.specs.Inventories.{Expected, VersionInventory, expected_digest, expected_beside, expected_by_root, expected_of, form_notes, beside_notes, inventory_notes, inventory_bytes, version_inventory_in, version_inventory, root_inventory, head_notes, version_notes, further_notes, notes}
 use Rattle.ocfl_rules.specs.{Audit.{candidates}, Walk.{names_below, IsClosed}}
 use Rattle.ocfl_rules.proofs.AuditExists.{append_nothing, seen_candidate, zone_is, common_candidate}
 use Rattle.ocfl_rules.proofs.UnreadLaws.{or_bytes_some, common_alike, no_notes}
@@ -41,15 +42,15 @@ both_alike [] (y ∷ ys) more less e f = absurd (true_not_false e)
 both_alike (x ∷ xs) [] more less e f = absurd (true_not_false (sym e))
 both_alike (x ∷ xs) (y ∷ ys) more less e f = refl
 
-version_alike : (k : NewCodes) (root : StorageRoot) (u v : Option ℕ) (x : Option VersionInventory) → is_empty (version_notes k root u x) ≡ is_empty (version_notes k root v x)
-version_alike k root u v None = refl
-version_alike k root u v (Some x) = inventory_alike (beside_notes root (x.0 ++ x.1 ∷ [])) x.2 (expected_of k root x.0 x.1) u v
+version_alike : (root : StorageRoot) (u v : Option ℕ) (x : Option VersionInventory) → is_empty (version_notes root u x) ≡ is_empty (version_notes root v x)
+version_alike root u v None = refl
+version_alike root u v (Some x) = inventory_alike (beside_notes root (x.0 ++ x.1 ∷ [])) x.2 (expected_of root x.0 x.1) u v
 
 pub notes_alike : (further : Further) (root : StorageRoot) (u v : Option ℕ) (p : Place) → is_empty (notes further root u p) ≡ is_empty (notes further root v p)
-notes_alike None root u v p = common_alike root u v p
-notes_alike (Some k) root u v p =
-    both_alike (common_notes root u p) (common_notes root v p) (further_notes k root u p) (further_notes k root v p) (common_alike root u v p)
-    (both_alike (head_notes k root (zone root p)) (head_notes k root (zone root p)) _ _ refl (version_alike k root u v (version_inventory root p)))
+notes_alike Nothing root u v p = common_alike root u v p
+notes_alike Inventories root u v p =
+    both_alike (common_notes root u p) (common_notes root v p) (further_notes root u p) (further_notes root v p) (common_alike root u v p)
+    (both_alike (head_notes root (zone root p)) (head_notes root (zone root p)) _ _ refl (version_alike root u v (version_inventory root p)))
 
 pub lines_alike : (further : Further) (root : StorageRoot) (u v : Option ℕ) (p : Place) → notes further root u p ≡ [] → notes further root v p ≡ []
 lines_alike further root u v p h = no_notes (notes further root u p) (notes further root v p) (notes_alike further root u v p) h
@@ -88,9 +89,9 @@ module _ (bytes : Text) (others : List Expected) (u : Option ℕ) where
 filled : {A : Type 0} (xs : List A) → is_empty xs ≡ false → xs ≢ []
 filled xs h e = true_not_false (sym (ap is_empty e) ∙ h)
 
-pub version_some : (k : NewCodes) (root : StorageRoot) (u : Option ℕ) (x : VersionInventory) → version_notes k root u (Some x) ≢ []
-version_some k root u x =
-    filled _ (some_beside x.2 (expected_by_root k x.1 (root_inventory root x.0)) u (sidecar_at root (x.0 ++ x.1 ∷ []) Sha256) (sidecar_at root (x.0 ++ x.1 ∷ []) Sha512))
+pub version_some : (root : StorageRoot) (u : Option ℕ) (x : VersionInventory) → version_notes root u (Some x) ≢ []
+version_some root u x =
+    filled _ (some_beside x.2 (expected_by_root x.1 (root_inventory root x.0)) u (sidecar_at root (x.0 ++ x.1 ∷ []) Sha256) (sidecar_at root (x.0 ++ x.1 ∷ []) Sha512))
 
 -- what is known of such an inventory
 pub record IsFound (root : StorageRoot) (p : Place) (x : VersionInventory) : Type 0 where
@@ -133,31 +134,31 @@ pub either_some : {A : Type 0} (xs ys : List A) → xs ++ ys ≢ [] → (xs ≢ 
 either_some [] ys h = inr h
 either_some (x ∷ xs) ys h = inl (λ e. cc)
 
-head_in_sight : (k : NewCodes) (root : StorageRoot) (p : Place) (z : Zone) → zone root p ≡ z → head_notes k root z ≢ [] → (leaf : Leaf) × (seen root p ≡ Some leaf)
-head_in_sight k root p skipped e some = absurd (some refl)
-head_in_sight k root p hierarchy e some = absurd (some refl)
-head_in_sight k root p (inside o []) e some = (dir, ap (seen root) ((zone_is root p o [] e).whole ∙ append_nothing o) ∙ head_seen root (is_closed root) p o [] e)
-head_in_sight k root p (inside o (n ∷ q)) e some = absurd (some refl)
+head_in_sight : (root : StorageRoot) (p : Place) (z : Zone) → zone root p ≡ z → head_notes root z ≢ [] → (leaf : Leaf) × (seen root p ≡ Some leaf)
+head_in_sight root p skipped e some = absurd (some refl)
+head_in_sight root p hierarchy e some = absurd (some refl)
+head_in_sight root p (inside o []) e some = (dir, ap (seen root) ((zone_is root p o [] e).whole ∙ append_nothing o) ∙ head_seen root (is_closed root) p o [] e)
+head_in_sight root p (inside o (n ∷ q)) e some = absurd (some refl)
 
-version_in_sight : (k : NewCodes) (root : StorageRoot) (u : Option ℕ) (p : Place) (x : Option VersionInventory) → version_inventory root p ≡ x → version_notes k root u x ≢ [] → (leaf : Leaf) × (seen root p ≡ Some leaf)
-version_in_sight k root u p None e some = absurd (some refl)
-version_in_sight k root u p (Some x) e some = (file x.2, (known_inventory root p x e).is_seen)
+version_in_sight : (root : StorageRoot) (u : Option ℕ) (p : Place) (x : Option VersionInventory) → version_inventory root p ≡ x → version_notes root u x ≢ [] → (leaf : Leaf) × (seen root p ≡ Some leaf)
+version_in_sight root u p None e some = absurd (some refl)
+version_in_sight root u p (Some x) e some = (file x.2, (known_inventory root p x e).is_seen)
 
-further_in_sight : (k : NewCodes) (root : StorageRoot) (u : Option ℕ) (p : Place) → further_notes k root u p ≢ [] → (leaf : Leaf) × (seen root p ≡ Some leaf)
-further_in_sight k root u p some = by (either_some (head_notes k root (zone root p)) _ some)
+further_in_sight : (root : StorageRoot) (u : Option ℕ) (p : Place) → further_notes root u p ≢ [] → (leaf : Leaf) × (seen root p ≡ Some leaf)
+further_in_sight root u p some = by (either_some (head_notes root (zone root p)) _ some)
   where
-    by : (head_notes k root (zone root p) ≢ []) ⊎ (version_notes k root u (version_inventory root p) ≢ []) → (leaf : Leaf) × (seen root p ≡ Some leaf)
-    by (inl h) = head_in_sight k root p (zone root p) refl h
-    by (inr h) = version_in_sight k root u p (version_inventory root p) refl h
+    by : (head_notes root (zone root p) ≢ []) ⊎ (version_notes root u (version_inventory root p) ≢ []) → (leaf : Leaf) × (seen root p ≡ Some leaf)
+    by (inl h) = head_in_sight root p (zone root p) refl h
+    by (inr h) = version_in_sight root u p (version_inventory root p) refl h
 
 -- a place with lines has those of each audit, or something is seen there
 in_sight_or_common : (further : Further) (root : StorageRoot) (u : Option ℕ) (p : Place) → notes further root u p ≢ [] → (common_notes root u p ≢ []) ⊎ ((leaf : Leaf) × (seen root p ≡ Some leaf))
-in_sight_or_common None root u p some = inl some
-in_sight_or_common (Some k) root u p some = by (either_some (common_notes root u p) (further_notes k root u p) some)
+in_sight_or_common Nothing root u p some = inl some
+in_sight_or_common Inventories root u p some = by (either_some (common_notes root u p) (further_notes root u p) some)
   where
-    by : (common_notes root u p ≢ []) ⊎ (further_notes k root u p ≢ []) → (common_notes root u p ≢ []) ⊎ ((leaf : Leaf) × (seen root p ≡ Some leaf))
+    by : (common_notes root u p ≢ []) ⊎ (further_notes root u p ≢ []) → (common_notes root u p ≢ []) ⊎ ((leaf : Leaf) × (seen root p ≡ Some leaf))
     by (inl h) = inl h
-    by (inr h) = inr (further_in_sight k root u p h)
+    by (inr h) = inr (further_in_sight root u p h)
 
 pub notes_candidate : (further : Further) (root : StorageRoot) (u : Option ℕ) (p : Place) → notes further root u p ≢ [] → IsAmong (candidates root) p
 notes_candidate further root u p some = by (in_sight_or_common further root u p some)
@@ -184,5 +185,5 @@ filled_front [] ys h e = h refl
 filled_front (x ∷ xs) ys h e = cc
 
 pub common_lines : (further : Further) (root : StorageRoot) (u : Option ℕ) (p : Place) → common_notes root u p ≢ [] → notes further root u p ≢ []
-common_lines None root u p h = h
-common_lines (Some k) root u p h = filled_front (common_notes root u p) (further_notes k root u p) h
+common_lines Nothing root u p h = h
+common_lines Inventories root u p h = filled_front (common_notes root u p) (further_notes root u p) h

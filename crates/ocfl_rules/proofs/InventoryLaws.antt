@@ -5,12 +5,13 @@ use Rattle.std.specs.Prelude.{◌+◌, ◌&&◌, ◌||◌}
 use Rattle.ocfl_tree.specs.{Place.{Place, Text, text_eq}, Ascending.{IsAmong}}
 use Rattle.ocfl_tree.specs.StorageRoot.{StorageRoot, file}
 use Rattle.ocfl_tree.proofs.Orders.{true_not_false}
+use Rattle.ocfl_report.specs.declared.further.Further.{Further}
+use Rattle.ocfl_report.specs.declared.further.Further.TheVariants.{Nothing, Inventories}
 use Rattle.ocfl_inventory.specs.{Note.{Note}, ListedPath.{is_version_name}, Table.{Table, paths_of}}
 use Rattle.ocfl_rules.specs.Zone.{Zone, skipped, hierarchy, inside, zone, table_at, inventory_name}
 use Rattle.ocfl_rules.specs.Lines.{common_notes, common_cost, is_named}
 use Rattle.ocfl_rules.specs.Trail.{is_head, is_root_meta, is_meta_zone, is_common_meta, is_meta}
-use Rattle.ocfl_rules.specs.declared.further.NewCodes.{NewCodes}
-use Rattle.ocfl_rules.specs.Inventories.{Further, VersionInventory, version_inventory_in, version_inventory, head_notes, version_notes, further_notes, version_cost, further_cost, is_version_sidecar, notes, is_hashed}
+use Rattle.ocfl_rules.specs.Inventories.{VersionInventory, version_inventory_in, version_inventory, head_notes, version_notes, further_notes, version_cost, further_cost, is_version_sidecar, notes, is_hashed}
 use Rattle.ocfl_rules.specs.Objects.{IsVersionInventory}
 use Rattle.ocfl_rules.proofs.AuditExists.{zone_is}
 use Rattle.ocfl_rules.proofs.FurtherLaws.{IsFound, known_inventory, version_some, common_lines}
@@ -40,28 +41,28 @@ version_inventory_is root p o v bytes = (to, back)
 -- ---- lines are only added
 
 pub lines_added : (further : Further) (root : StorageRoot) (u : Option ℕ) (p : Place) → (more : List Note) × (notes further root u p ≡ common_notes root u p ++ more)
-lines_added None root u p = ([], sym (append-nil (common_notes root u p)))
-lines_added (Some k) root u p = (further_notes k root u p, refl)
+lines_added Nothing root u p = ([], sym (append-nil (common_notes root u p)))
+lines_added Inventories root u p = (further_notes root u p, refl)
 
-no_head_notes : (k : NewCodes) (root : StorageRoot) (z : Zone) → is_head z ≡ false → head_notes k root z ≡ []
-no_head_notes k root skipped e = refl
-no_head_notes k root hierarchy e = refl
-no_head_notes k root (inside o []) e = absurd (true_not_false e)
-no_head_notes k root (inside o (n ∷ q)) e = refl
+no_head_notes : (root : StorageRoot) (z : Zone) → is_head z ≡ false → head_notes root z ≡ []
+no_head_notes root skipped e = refl
+no_head_notes root hierarchy e = refl
+no_head_notes root (inside o []) e = absurd (true_not_false e)
+no_head_notes root (inside o (n ∷ q)) e = refl
 
-pub lines_elsewhere : (k : NewCodes) (root : StorageRoot) (u : Option ℕ) (p : Place) → is_head (zone root p) ≡ false → version_inventory root p ≡ None → notes (Some k) root u p ≡ common_notes root u p
-lines_elsewhere k root u p no_head no_version =
-    let none : further_notes k root u p ≡ [] = λ i. no_head_notes k root (zone root p) no_head i ++ version_notes k root u (no_version i) in
+pub lines_elsewhere : (root : StorageRoot) (u : Option ℕ) (p : Place) → is_head (zone root p) ≡ false → version_inventory root p ≡ None → notes Inventories root u p ≡ common_notes root u p
+lines_elsewhere root u p no_head no_version =
+    let none : further_notes root u p ≡ [] = λ i. no_head_notes root (zone root p) no_head i ++ version_notes root u (no_version i) in
     ap (λ ns. common_notes root u p ++ ns) none ∙ append-nil (common_notes root u p)
 
 behind_some : {A : Type 0} (xs ys : List A) → ys ≢ [] → xs ++ ys ≢ []
 behind_some [] ys h e = h e
 behind_some (x ∷ xs) ys h e = cc
 
-pub inventories_have_lines : (k : NewCodes) (root : StorageRoot) (u : Option ℕ) (p o : Place) (v bytes : Text) → IsVersionInventory root p o v bytes → notes (Some k) root u p ≢ []
-inventories_have_lines k root u p o v bytes is =
-    behind_some (common_notes root u p) (further_notes k root u p) (behind_some (head_notes k root (zone root p)) (version_notes k root u (version_inventory root p))
-    (subst (λ x. version_notes k root u x ≢ []) (sym ((version_inventory_is root p o v bytes).1 is)) (version_some k root u (o, v, bytes))))
+pub inventories_have_lines : (root : StorageRoot) (u : Option ℕ) (p o : Place) (v bytes : Text) → IsVersionInventory root p o v bytes → notes Inventories root u p ≢ []
+inventories_have_lines root u p o v bytes is =
+    behind_some (common_notes root u p) (further_notes root u p) (behind_some (head_notes root (zone root p)) (version_notes root u (version_inventory root p))
+    (subst (λ x. version_notes root u x ≢ []) (sym ((version_inventory_is root p o v bytes).1 is)) (version_some root u (o, v, bytes))))
 
 -- ---- no hashed file is metadata
 
@@ -98,33 +99,33 @@ inventory_no_meta root p x k =
     ∙ inventory_no_sidecar x.1 k.name k.named x.0
 
 pub hashed_no_meta : (further : Further) (root : StorageRoot) (p : Place) → is_hashed further root p ≡ true → is_meta further root p ≡ false
-hashed_no_meta None root p h = named_no_meta root p h
-hashed_no_meta (Some k) root p h = by (costs_something (common_cost root None p) (further_cost k root None p) h)
+hashed_no_meta Nothing root p h = named_no_meta root p h
+hashed_no_meta Inventories root p h = by (costs_something (common_cost root None p) (further_cost root None p) h)
   where
-    of_version : (x : Option VersionInventory) → version_inventory root p ≡ x → nat_lt 0 (version_cost k root None x) ≡ true → is_meta (Some k) root p ≡ false
+    of_version : (x : Option VersionInventory) → version_inventory root p ≡ x → nat_lt 0 (version_cost root None x) ≡ true → is_meta Inventories root p ≡ false
     of_version None e g = absurd (true_not_false (sym g))
     of_version (Some x) e g = inventory_no_meta root p x (known_inventory root p x e)
 
-    by : (is_named root p ≡ true) ⊎ (nat_lt 0 (further_cost k root None p) ≡ true) → is_meta (Some k) root p ≡ false
+    by : (is_named root p ≡ true) ⊎ (nat_lt 0 (further_cost root None p) ≡ true) → is_meta Inventories root p ≡ false
     by (inl g) = ap (λ b. b || is_version_sidecar (zone root p)) (named_no_meta root p g) ∙ content_no_sidecar root p g
     by (inr g) = of_version (version_inventory root p) refl g
 
 -- ---- what is hashed has lines
 
-version_filled : (k : NewCodes) (root : StorageRoot) (u : Option ℕ) (p : Place) → nat_lt 0 (further_cost k root None p) ≡ true → further_notes k root u p ≢ []
-version_filled k root u p h = by (version_inventory root p) refl h
+version_filled : (root : StorageRoot) (u : Option ℕ) (p : Place) → nat_lt 0 (further_cost root None p) ≡ true → further_notes root u p ≢ []
+version_filled root u p h = by (version_inventory root p) refl h
   where
-    by : (x : Option VersionInventory) → version_inventory root p ≡ x → nat_lt 0 (version_cost k root None x) ≡ true → further_notes k root u p ≢ []
+    by : (x : Option VersionInventory) → version_inventory root p ≡ x → nat_lt 0 (version_cost root None x) ≡ true → further_notes root u p ≢ []
     by None e g = absurd (true_not_false (sym g))
-    by (Some x) e g = behind_some (head_notes k root (zone root p)) _ (subst (λ y. version_notes k root u y ≢ []) (sym e) (version_some k root u x))
+    by (Some x) e g = behind_some (head_notes root (zone root p)) _ (subst (λ y. version_notes root u y ≢ []) (sym e) (version_some root u x))
 
 pub hashed_lines : (further : Further) (root : StorageRoot) (u : Option ℕ) (p : Place) → is_hashed further root p ≡ true → notes further root u p ≢ []
-hashed_lines None root u p h = named_lines root u p h
-hashed_lines (Some k) root u p h = by (costs_something (common_cost root None p) (further_cost k root None p) h)
+hashed_lines Nothing root u p h = named_lines root u p h
+hashed_lines Inventories root u p h = by (costs_something (common_cost root None p) (further_cost root None p) h)
   where
-    by : (is_named root p ≡ true) ⊎ (nat_lt 0 (further_cost k root None p) ≡ true) → notes (Some k) root u p ≢ []
-    by (inl g) = common_lines (Some k) root u p (named_lines root u p g)
-    by (inr g) = behind_some (common_notes root u p) _ (version_filled k root u p g)
+    by : (is_named root p ≡ true) ⊎ (nat_lt 0 (further_cost root None p) ≡ true) → notes Inventories root u p ≢ []
+    by (inl g) = common_lines Inventories root u p (named_lines root u p g)
+    by (inr g) = behind_some (common_notes root u p) _ (version_filled root u p g)
 
 -- and so has a path of a table
 pub path_lines : (further : Further) (root : StorageRoot) (u : Option ℕ) (p o q : Place) (t : Table) → zone root p ≡ inside o q → table_at root o ≡ Some t → IsAmong (paths_of t) q

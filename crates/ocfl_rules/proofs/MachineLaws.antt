@@ -6,7 +6,6 @@ use Rattle.ocfl_tree.specs.Place.{Place, Text, text_cmp, place_cmp}
 use Rattle.ocfl_tree.specs.Ascending.{ascending, IsBeforeAll, IsAscending, IsAmong}
 use Rattle.ocfl_tree.specs.StorageRoot.{StorageRoot, Leaf}
 use Rattle.ocfl_inventory.specs.Table.{Table, paths_of}
-use Rattle.ocfl_rules.specs.Inventories.{Further}
 use Rattle.ocfl_rules.specs.Zone.{Zone, skipped, hierarchy, inside, zone, table_at, seen}
 use Rattle.ocfl_rules.specs.Audit.{Unread, candidates, audit, after}
 use Rattle.ocfl_rules.specs.Head.{on}
@@ -18,6 +17,7 @@ use Rattle.ocfl_rules.proofs.NextLaws.{walk_takes, walk_ends}
 use Rattle.ocfl_rules.proofs.WalkLaws.{under_root, items_by_name, items_after_self}
 use Rattle.ocfl_rules.proofs.StackLaws.{entry_seen, stack_starts, stack_pops, stack_stays, stack_ends, path_least, path_none, path_off, path_hierarchy}
 use Rattle.ocfl_tree.proofs.Orders.{place_cmp_total, place_cmp_exact, true_not_false, not_below_itself, before_each, among_ascending, among_filter, among_from_filter, ascends_filter, ascends_ascending}
+use Rattle.ocfl_report.specs.declared.further.Further.{Further}
 
 -- ---- the number of places above
 

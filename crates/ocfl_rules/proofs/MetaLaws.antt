@@ -1,7 +1,7 @@
 -- Which names are allowed, what is metadata, and what openings show.
-use Rattle.std.proofs.Common.{◌≡◌, ◌≢◌, ◌↔◌, ◌⊎◌, inl, inr, ℕ, List, [], ◌∷◌, ◌++◌, refl, sym, ◌∙◌, ap, true, false, Bool, map, filter, Some, None, codes, append_assoc}
+use Rattle.std.proofs.Common.{◌≡◌, ◌≢◌, ◌↔◌, ◌⊎◌, inl, inr, ℕ, List, [], ◌∷◌, ◌++◌, refl, sym, ◌∙◌, ap, true, false, Bool, map, filter, Some, codes, append_assoc}
 use Rattle.std.proofs.{lemmas.List.{map-append}, lemmas.Bool.{false_from_ne_true, or_right}}
-use Rattle.std.specs.Prelude.{cond, is_some, ◌||◌, ◌&&◌, not, nat_lt, length}
+use Rattle.std.specs.Prelude.{cond, ◌||◌, ◌&&◌, not, nat_lt, length}
 use Rattle.ocfl_tree.specs.Place.{Place, Text, text_eq, place_eq}
 use Rattle.ocfl_tree.specs.StorageRoot.{StorageRoot, file, dir, at, is_dir, is_dir_leaf, names_in}
 use Rattle.ocfl_tree.specs.declared.store.Opening.{Opening}
@@ -9,9 +9,11 @@ use Rattle.ocfl_inventory.specs.{Note.{Note, plain}, ListedPath.{is_version_name
 use Rattle.ocfl_inventory.specs.Declaration.{is_declaration}
 use Rattle.ocfl_inventory.specs.declared.declaration.Level.TheVariants.{Object}
 use Rattle.ocfl_report.specs.declared.code.Code.TheVariants.{E001, E015, S05}
+use Rattle.ocfl_report.specs.declared.further.Further.{Further}
+use Rattle.ocfl_report.specs.declared.further.Further.TheVariants.{Nothing, Inventories}
 use Rattle.ocfl_tree.proofs.{Orders.{true_not_false}, Trees.{dir_from_leaf}}
 use Rattle.ocfl_digest.specs.declared.algorithm.Algorithm.TheVariants.{Sha256, Sha512}
-use Rattle.ocfl_rules.specs.Inventories.{Further, is_version_sidecar}
+use Rattle.ocfl_rules.specs.Inventories.{is_version_sidecar}
 use Rattle.ocfl_rules.specs.Zone.{Zone, skipped, hierarchy, inside, zone, inventory_name, max_listed_depth, is_in_extensions}
 use Rattle.ocfl_rules.specs.Head.{on, sidecar_name}
 use Rattle.ocfl_rules.specs.Lines.{is_empty, is_inventory_or_sidecar, listed_dir_notes, object_entry_notes, version_entry_notes}
@@ -215,27 +217,26 @@ module _ (further : Further) (root : StorageRoot) where
       by false e g = by_zone p (zone root p) refl g
 
 metadata : (further : Further) (root : StorageRoot) (p : Place) → is_meta further root p ≡ true → IsMetadata further root p
-metadata None root p h = common_metadata None root p h
-metadata (Some k) root p h = by (is_common_meta root p) refl h
+metadata Nothing root p h = common_metadata Nothing root p h
+metadata Inventories root p h = by (is_common_meta root p) refl h
   where
-    by : (b : Bool) → is_common_meta root p ≡ b → (b || is_version_sidecar (zone root p)) ≡ true → IsMetadata (Some k) root p
-    by true e g = common_metadata (Some k) root p e
+    by : (b : Bool) → is_common_meta root p ≡ b → (b || is_version_sidecar (zone root p)) ≡ true → IsMetadata Inventories root p
+    by true e g = common_metadata Inventories root p e
     by false e g = of_version refl ((version_sidecar_is root p).0 g)
 
 pub common_is_meta : (further : Further) (root : StorageRoot) (p : Place) → is_common_meta root p ≡ true → is_meta further root p ≡ true
-common_is_meta None root p h = h
-common_is_meta (Some k) root p h = ap (λ b. b || is_version_sidecar (zone root p)) h
+common_is_meta Nothing root p h = h
+common_is_meta Inventories root p h = ap (λ b. b || is_version_sidecar (zone root p)) h
 
-sidecar_is_meta : (further : Further) (root : StorageRoot) (p : Place) → is_some further ≡ true → is_version_sidecar (zone root p) ≡ true → is_meta further root p ≡ true
-sidecar_is_meta None root p some h = absurd (true_not_false (sym some))
-sidecar_is_meta (Some k) root p some h = or_right (is_common_meta root p) (is_version_sidecar (zone root p)) h
+sidecar_is_meta : (further : Further) (root : StorageRoot) (p : Place) → further ≡ Inventories → is_version_sidecar (zone root p) ≡ true → is_meta further root p ≡ true
+sidecar_is_meta further root p are h = ap (λ f. is_meta f root p) are ∙ or_right (is_common_meta root p) (is_version_sidecar (zone root p)) h
 
 module _ (further : Further) (root : StorageRoot) where
   is_there : (p : Place) → IsMetadata further root p → is_meta further root p ≡ true
   is_there p (of_root n h whole) = common_is_meta further root p (ap (is_common_meta root) whole ∙ ap (λ b. b || is_meta_zone (zone root (n ∷ []))) h)
   is_there p (of_object o n is h whole) = common_is_meta further root p (ap (is_common_meta root) whole
       ∙ or_right (is_root_meta (o ++ n ∷ [])) (is_meta_zone (zone root (o ++ n ∷ []))) (ap is_meta_zone (entry_zone root o n is) ∙ object_test n h))
-  is_there p (of_version some s) = sidecar_is_meta further root p some ((version_sidecar_is root p).1 s)
+  is_there p (of_version are s) = sidecar_is_meta further root p are ((version_sidecar_is root p).1 s)
 
   pub meta_is : (p : Place) → (is_meta further root p ≡ true) ↔ IsMetadata further root p
   meta_is p = (metadata further root p, is_there p)

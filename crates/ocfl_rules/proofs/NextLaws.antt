@@ -7,7 +7,7 @@ use Rattle.ocfl_tree.specs.Place.{Place, Text, text_cmp, place_cmp, place_eq, ch
 use Rattle.ocfl_tree.specs.Ascending.{ascending, IsAscending, IsBeforeAll, IsAmong}
 use Rattle.ocfl_tree.specs.StorageRoot.{StorageRoot, Leaf, dir, names_in}
 use Rattle.ocfl_inventory.specs.Table.{Table, paths_of}
-use Rattle.ocfl_rules.specs.Inventories.{Further, notes}
+use Rattle.ocfl_rules.specs.Inventories.{notes}
 use Rattle.ocfl_rules.specs.Zone.{skipped, inside, zone, table_at, seen}
 use Rattle.ocfl_rules.specs.Audit.{Unread, given_by, item_of, has_lines, candidates, audit, after}
 use Rattle.ocfl_rules.specs.Head.{on}
@@ -20,6 +20,7 @@ use Rattle.ocfl_rules.proofs.WayLaws.{seen_way, Reason, by_sight, by_table, head
 use Rattle.ocfl_rules.proofs.FurtherLaws.{reason}
 use Rattle.ocfl_rules.proofs.WalkLaws.{item_places, places_ascend, audit_places, filter_items, place_has, has_place, none_among}
 use Rattle.ocfl_tree.proofs.Orders.{place_cmp_total, place_cmp_exact, true_not_false, below_from_greater, ascending_unique, among_ascending, among_filter, among_from_filter, ascends_filter, ascends_ascending}
+use Rattle.ocfl_report.specs.declared.further.Further.{Further}
 
 -- ---- what is above a place, by order alone
 

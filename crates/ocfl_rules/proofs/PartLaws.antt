@@ -9,7 +9,8 @@ use Rattle.ocfl_tree.specs.Ascending.{ascending, IsAscending, IsBeforeAll}
 use Rattle.ocfl_tree.specs.StorageRoot.{StorageRoot}
 use Rattle.ocfl_tree.proofs.Orders.{place_cmp_total, true_not_false, not_less, ascends_filter, ascends_ascending}
 use Rattle.ocfl_report.specs.{Line.{Item}, Text.{lines_text, text}}
-use Rattle.ocfl_rules.specs.Inventories.{Further, notes, is_hashed}
+use Rattle.ocfl_report.specs.declared.further.Further.{Further}
+use Rattle.ocfl_rules.specs.Inventories.{notes, is_hashed}
 use Rattle.ocfl_rules.specs.Lines.{is_empty}
 use Rattle.ocfl_rules.specs.Audit.{Unread, candidates, item_of, audit, total_cost, after}
 use Rattle.ocfl_rules.specs.Due.{item_places, hashed_among}

@@ -2,7 +2,7 @@
 use Rattle.std.proofs.Common.{◌≡◌, [], ◌∷◌, ◌++◌, filter, Some}
 use Rattle.std.specs.{Prelude.{flat_map}, Ordering.{is_lt}}
 use Rattle.ocfl_tree.specs.{Place.{Place, Text, text_cmp}, StorageRoot.{StorageRoot}}
-use Rattle.ocfl_rules.specs.Inventories.{Further}
+use Rattle.ocfl_report.specs.declared.further.Further.{Further}
 use Rattle.ocfl_rules.specs.Audit.{Unread, audit, after}
 use Rattle.ocfl_rules.specs.Walk.{items_under, names_below, item_at}
 use Rattle.ocfl_rules.proofs.WayLaws.{is_closed}

@@ -3,7 +3,7 @@ use Rattle.std.proofs.Common.{◌≡◌, ℕ, zero, suc, ◌<◌, length, get_or
 use Rattle.std.proofs.lemmas.List.Elements.{filter-append}
 use Rattle.std.specs.{Prelude.{cond}, List.{AllByRecursion}}
 use Rattle.ocfl_tree.specs.{StorageRoot.{StorageRoot}, declared.store.Opening.{Opening}}
-use Rattle.ocfl_rules.specs.Inventories.{Further}
+use Rattle.ocfl_report.specs.declared.further.Further.{Further}
 use Rattle.ocfl_rules.specs.Trail.{is_meta, content_openings, content_trail, unread_of}
 
 pub filter_append : {A : Type 0} (test : A → Bool) (xs ys : List A) → filter test (xs ++ ys) ≡ filter test xs ++ filter test ys

@@ -4,8 +4,8 @@ use Rattle.std.proofs.lemmas.List.{map-append}
 use Rattle.std.specs.{Prelude.{cond, flat_map}, Ordering.{is_lt}}
 use Rattle.ocfl_tree.specs.Place.{Place, Text, text_cmp, place_cmp, place_eq, begins}
 use Rattle.ocfl_tree.specs.{Ascending.{ascending, IsAscending, IsAmong}, StorageRoot.{StorageRoot}}
-use Rattle.ocfl_report.specs.Line.{Item}
-use Rattle.ocfl_rules.specs.Inventories.{Further, notes}
+use Rattle.ocfl_report.specs.{Line.{Item}, declared.further.Further.{Further}}
+use Rattle.ocfl_rules.specs.Inventories.{notes}
 use Rattle.ocfl_rules.specs.Audit.{Unread, given_by, item_of, has_lines, candidates, audit, after}
 use Rattle.ocfl_rules.specs.Head.{on}
 use Rattle.ocfl_rules.specs.Walk.{items_under, items_of_place, seen_names, path_names, names_below, item_at, walk, walk_after, IsClosed}

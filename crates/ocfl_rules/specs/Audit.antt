@@ -3,9 +3,9 @@ use Rattle.std.specs.Prelude.{◌≡◌, ◌≢◌, ◌↔◌, ℕ, ◌+◌, Lis
 use Rattle.std.specs.{Ordering.{is_lt}, List.{AllByRecursion}}
 use Rattle.ocfl_tree.specs.Place.{Place, place_cmp, place_eq}
 use Rattle.ocfl_tree.specs.{Ascending.{ascending, IsAscending, IsAmong}, StorageRoot.{StorageRoot}}
-use Rattle.ocfl_report.specs.Line.{Item}
+use Rattle.ocfl_report.specs.{Line.{Item}, declared.further.Further.{Further}}
 use Rattle.ocfl_inventory.specs.{Note.{lines_at}, Table.{Table, paths_of}}
-use Rattle.ocfl_rules.specs.Inventories.{Further, notes, cost}
+use Rattle.ocfl_rules.specs.Inventories.{notes, cost}
 use Rattle.ocfl_rules.specs.Zone.{table_at}
 use Rattle.ocfl_rules.specs.Lines.{is_empty}
 

@@ -3,8 +3,8 @@
 use Rattle.std.specs.{Prelude.{List, not, Option, Some, None, map, filter}, Ordering.{is_lt}}
 use Rattle.ocfl_tree.specs.{Place.{Place, place_cmp}, Ascending.{ascending}}
 use Rattle.ocfl_tree.specs.{StorageRoot.{StorageRoot}, declared.store.Opening.{Opening}}
-use Rattle.ocfl_report.specs.Line.{Item}
-use Rattle.ocfl_rules.specs.Inventories.{Further, notes, is_hashed}
+use Rattle.ocfl_report.specs.{Line.{Item}, declared.further.Further.{Further}}
+use Rattle.ocfl_rules.specs.Inventories.{notes, is_hashed}
 use Rattle.ocfl_rules.specs.Lines.{is_empty}
 use Rattle.ocfl_rules.specs.Audit.{candidates, item_of}
 use Rattle.ocfl_rules.specs.Trail.{unread_of}

@@ -2,26 +2,21 @@
 -- directories, by their sidecars, and that of the version which the root inventory's head names by
 -- the root inventory (OCFL 1.1, 3.3 Version Directories, 3.5.1 Basic Structure and 3.6 Inventory
 -- Digest). It adds lines to those of an audit, and changes none.
-use Rattle.std.specs.Prelude.{◌≡◌, ◌≢◌, ◌↔◌, ◌⊎◌, ℕ, ◌+◌, ◌&&◌, ◌||◌, nat_lt, List, [], ◌∷◌, ◌++◌, Bool, true, false, not, length, if◌then◌else◌, Option, Some, None, is_some, option_and_then, option_map, Ok, Err, map, filter, flat_map, codes}
-use Rattle.std.specs.List.{AllByRecursion}
+use Rattle.std.specs.Prelude.{ℕ, ◌+◌, ◌&&◌, ◌||◌, nat_lt, List, [], ◌∷◌, ◌++◌, Bool, false, not, length, if◌then◌else◌, Option, Some, None, is_some, option_and_then, option_map, flat_map}
 use Rattle.hex.specs.Hex.{encode_lower}
 use Rattle.ocfl_tree.specs.Place.{Text, Place, text_eq}
 use Rattle.ocfl_tree.specs.StorageRoot.{StorageRoot, Leaf, file, dir, other}
 use Rattle.ocfl_report.specs.declared.code.Code.{Code}
-use Rattle.ocfl_report.specs.declared.code.Code.TheVariants.{E058, E060, E061, S08}
+use Rattle.ocfl_report.specs.declared.code.Code.TheVariants.{E058, E060, E061, E064, S08, S09}
+use Rattle.ocfl_report.specs.declared.further.Further.{Further}
+use Rattle.ocfl_report.specs.declared.further.Further.TheVariants.{Nothing, Inventories}
 use Rattle.ocfl_inventory.specs.{Note.{note, Note, plain}, Reading.{head_of}}
 use Rattle.ocfl_inventory.specs.{ListedPath.{is_version_name}, Sidecar.{sidecar_of}, Table.{Table}}
 use Rattle.ocfl_digest.specs.{Algorithm.{algorithm_name}, declared.algorithm.Algorithm.{Algorithm}}
 use Rattle.ocfl_digest.specs.declared.algorithm.Algorithm.TheVariants.{Sha256, Sha512}
-use Rattle.ocfl_rules.specs.declared.further.NewCodes.{NewCodes}
 use Rattle.ocfl_rules.specs.Zone.{Zone, skipped, hierarchy, inside, zone, seen, table_at, inventory_at, inventory_name}
 use Rattle.ocfl_rules.specs.Head.{on, digest_of, mismatch, sidecar_name, sidecar_at, are_sidecars_missing}
 use Rattle.ocfl_rules.specs.Lines.{or_bytes, common_notes, common_cost}
-
--- what an audit checks beside what each audit does: nothing, or the inventories of version
--- directories
-abbrev pub Further : Type 0
-Further = Option NewCodes
 
 -- ---- the root inventory
 
@@ -46,12 +41,12 @@ abbrev pub after_blank : Option Text → Text
 after_blank None = []
 after_blank (Some t) = 32 ∷ t
 
-abbrev pub is_now_note : NewCodes → RootInventory → Note
-is_now_note k r = note k.is_now (algorithm_name r.algorithm ++ 32 ∷ r.digest ++ after_blank r.head)
+abbrev pub is_now_note : RootInventory → Note
+is_now_note r = note S09 (algorithm_name r.algorithm ++ 32 ∷ r.digest ++ after_blank r.head)
 
-abbrev pub root_inventory_notes : NewCodes → Option RootInventory → List Note
-root_inventory_notes k None = []
-root_inventory_notes k (Some r) = is_now_note k r ∷ []
+abbrev pub root_inventory_notes : Option RootInventory → List Note
+root_inventory_notes None = []
+root_inventory_notes (Some r) = is_now_note r ∷ []
 
 -- ---- the inventory of a version directory, by what is beside it and by the root inventory
 
@@ -75,16 +70,16 @@ is_text v None = false
 is_text v (Some t) = text_eq v t
 
 -- that of the root inventory, whose head names the version v
-abbrev pub expected_by_root : NewCodes → Text → Option RootInventory → List Expected
-expected_by_root k v None = []
-expected_by_root k v (Some r) = on (is_text v r.head) (record { code = k.differs; algorithm = r.algorithm; digest = r.digest })
+abbrev pub expected_by_root : Text → Option RootInventory → List Expected
+expected_by_root v None = []
+expected_by_root v (Some r) = on (is_text v r.head) (record { code = E064; algorithm = r.algorithm; digest = r.digest })
 
 -- the digests that are expected of the inventory in the directory of a version of o
-abbrev pub expected_of : NewCodes → StorageRoot → Place → Text → List Expected
-expected_of k root o v =
+abbrev pub expected_of : StorageRoot → Place → Text → List Expected
+expected_of root o v =
     expected_beside Sha256 (sidecar_at root (o ++ v ∷ []) Sha256)
     ++ expected_beside Sha512 (sidecar_at root (o ++ v ∷ []) Sha512)
-    ++ expected_by_root k v (root_inventory root o)
+    ++ expected_by_root v (root_inventory root o)
 
 -- a sidecar that is not of the form
 abbrev pub form_notes : Algorithm → Option Text → List Note
@@ -138,27 +133,27 @@ version_inventory root p = version_inventory_in (zone root p) (seen root p)
 
 -- ---- what such an audit adds
 
-abbrev pub version_notes : NewCodes → StorageRoot → Option ℕ → Option VersionInventory → List Note
-version_notes k root u None = []
-version_notes k root u (Some x) = inventory_notes (beside_notes root (x.0 ++ x.1 ∷ [])) x.2 (expected_of k root x.0 x.1) u
+abbrev pub version_notes : StorageRoot → Option ℕ → Option VersionInventory → List Note
+version_notes root u None = []
+version_notes root u (Some x) = inventory_notes (beside_notes root (x.0 ++ x.1 ∷ [])) x.2 (expected_of root x.0 x.1) u
 
-abbrev pub head_notes : NewCodes → StorageRoot → Zone → List Note
-head_notes k root skipped = []
-head_notes k root hierarchy = []
-head_notes k root (inside o []) = root_inventory_notes k (root_inventory root o)
-head_notes k root (inside o (n ∷ q)) = []
+abbrev pub head_notes : StorageRoot → Zone → List Note
+head_notes root skipped = []
+head_notes root hierarchy = []
+head_notes root (inside o []) = root_inventory_notes (root_inventory root o)
+head_notes root (inside o (n ∷ q)) = []
 
 -- the lines: at an object's head, and at the inventory of a version directory
-abbrev pub further_notes : NewCodes → StorageRoot → Option ℕ → Place → List Note
-further_notes k root u p = head_notes k root (zone root p) ++ version_notes k root u (version_inventory root p)
+abbrev pub further_notes : StorageRoot → Option ℕ → Place → List Note
+further_notes root u p = head_notes root (zone root p) ++ version_notes root u (version_inventory root p)
 
-abbrev pub version_cost : NewCodes → StorageRoot → Option ℕ → Option VersionInventory → ℕ
-version_cost k root u None = 0
-version_cost k root u (Some x) = inventory_cost x.2 (expected_of k root x.0 x.1) u
+abbrev pub version_cost : StorageRoot → Option ℕ → Option VersionInventory → ℕ
+version_cost root u None = 0
+version_cost root u (Some x) = inventory_cost x.2 (expected_of root x.0 x.1) u
 
 -- what these cost
-abbrev pub further_cost : NewCodes → StorageRoot → Option ℕ → Place → ℕ
-further_cost k root u p = version_cost k root u (version_inventory root p)
+abbrev pub further_cost : StorageRoot → Option ℕ → Place → ℕ
+further_cost root u p = version_cost root u (version_inventory root p)
 
 -- the sidecars in version directories, by name and zone
 abbrev pub is_version_sidecar : Zone → Bool
@@ -173,14 +168,14 @@ is_version_sidecar (inside o (v ∷ c ∷ n ∷ q)) = false
 
 -- the lines of a place
 abbrev pub notes : Further → StorageRoot → Option ℕ → Place → List Note
-notes None root u p = common_notes root u p
-notes (Some k) root u p = common_notes root u p ++ further_notes k root u p
+notes Nothing root u p = common_notes root u p
+notes Inventories root u p = common_notes root u p ++ further_notes root u p
 
 -- what auditing a place costs: one more than the bytes that were delivered, if its file is hashed,
 -- and else nothing
 abbrev pub cost : Further → StorageRoot → Option ℕ → Place → ℕ
-cost None root u p = common_cost root u p
-cost (Some k) root u p = common_cost root u p + further_cost k root u p
+cost Nothing root u p = common_cost root u p
+cost Inventories root u p = common_cost root u p + further_cost root u p
 
 -- a file is seen there, and some digest is named for it or expected of it
 abbrev pub is_hashed : Further → StorageRoot → Place → Bool

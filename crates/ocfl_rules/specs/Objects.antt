@@ -1,11 +1,12 @@
 -- Which objects an audit reaches, which of them have an inventory that it reads, which directories
 -- it looks into, and what is metadata.
-use Rattle.std.specs.Prelude.{◌≡◌, ◌≢◌, ◌⊎◌, ◌≤◌, length, [], ◌∷◌, ◌++◌, true, false, Some, is_some, codes}
+use Rattle.std.specs.Prelude.{◌≡◌, ◌≢◌, ◌⊎◌, ◌≤◌, length, [], ◌∷◌, ◌++◌, true, false, Some, codes}
 use Rattle.ocfl_tree.specs.{Place.{Text, Place}, StorageRoot.{StorageRoot, dir, file, file_at}}
+use Rattle.ocfl_report.specs.declared.further.Further.{Further}
+use Rattle.ocfl_report.specs.declared.further.Further.TheVariants.{Inventories}
 use Rattle.ocfl_inventory.specs.Declaration.{known, is_declaration}
 use Rattle.ocfl_inventory.specs.declared.declaration.Level.TheVariants.{Root, Object}
 use Rattle.ocfl_inventory.specs.{declared.declaration.Version.{Version}, Table.{Table}, ListedPath.{is_version_name}}
-use Rattle.ocfl_rules.specs.Inventories.{Further}
 use Rattle.ocfl_rules.specs.Zone.{hierarchy, inside, zone, seen, table_at, is_listed_within, inventory_name, root_declared, object_declared, is_in_extensions, is_known, is_declared, max_listed_depth}
 
 -- an object's root: in a storage root of known version, outside its extensions, declared, and with
@@ -69,4 +70,4 @@ pub record IsVersionInventory (root : StorageRoot) (p object : Place) (version b
 pub data IsMetadata (further : Further) (root : StorageRoot) (p : Place) : Type 0 where
   of_root : (n : Text) → is_declaration Root n ≡ true → p ≡ n ∷ [] → IsMetadata further root p
   of_object : (o : Place) (n : Text) → IsObjectRoot root o → IsObjectFile n → p ≡ o ++ n ∷ [] → IsMetadata further root p
-  of_version : is_some further ≡ true → IsVersionSidecar root p → IsMetadata further root p
+  of_version : further ≡ Inventories → IsVersionSidecar root p → IsMetadata further root p

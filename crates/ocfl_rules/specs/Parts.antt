@@ -3,8 +3,7 @@
 use Rattle.std.specs.Prelude.{ℕ, ◌&&◌, ◌||◌, List, [], ◌∷◌, ◌++◌, Bool, true, not, if◌then◌else◌, Option, Some, None, is_some, map, filter, flat_map}
 use Rattle.std.specs.Ordering.{is_lt}
 use Rattle.ocfl_tree.specs.{Place.{Text, Place, place_cmp, begins}, StorageRoot.{StorageRoot}}
-use Rattle.ocfl_report.specs.Line.{Item}
-use Rattle.ocfl_rules.specs.Inventories.{Further}
+use Rattle.ocfl_report.specs.{Line.{Item}, declared.further.Further.{Further}}
 use Rattle.ocfl_rules.specs.Lines.{is_empty}
 use Rattle.ocfl_rules.specs.Audit.{Unread, audit, total_cost}
 use Rattle.ocfl_rules.specs.Runs.{total_files}

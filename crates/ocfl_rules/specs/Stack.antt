@@ -3,9 +3,8 @@ use Rattle.std.specs.Prelude.{◌≡◌, ℕ, zero, suc, is_some, option_map, �
 use Rattle.std.specs.{Ordering.{is_lt}, declared.cmp.Ordering.TheVariants.{Less}}
 use Rattle.ocfl_tree.specs.Place.{Text, Place, text_cmp, place_cmp, begins}
 use Rattle.ocfl_tree.specs.{Ascending.{ascending, IsAmong}, StorageRoot.{StorageRoot, Leaf, dir}}
-use Rattle.ocfl_report.specs.Line.{Item}
+use Rattle.ocfl_report.specs.{Line.{Item}, declared.further.Further.{Further}}
 use Rattle.ocfl_inventory.specs.Table.{Table, paths_of}
-use Rattle.ocfl_rules.specs.Inventories.{Further}
 use Rattle.ocfl_rules.specs.Zone.{Zone, inside, zone, seen, table_at, skipped, hierarchy}
 use Rattle.ocfl_rules.specs.Audit.{Unread, candidates}
 use Rattle.ocfl_rules.specs.Head.{on}

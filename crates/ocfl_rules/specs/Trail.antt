@@ -1,10 +1,12 @@
 -- What openings and listings show of an audit.
-use Rattle.std.specs.Prelude.{◌&&◌, ◌||◌, List, [], ◌∷◌, ◌++◌, Bool, true, false, not, Some, None, is_some, map, filter, if◌then◌else◌}
+use Rattle.std.specs.Prelude.{◌&&◌, ◌||◌, List, [], ◌∷◌, ◌++◌, Bool, true, false, not, is_some, map, filter, if◌then◌else◌}
 use Rattle.ocfl_tree.specs.{Place.{Place, place_cmp, text_eq}, Ascending.{ascending}}
 use Rattle.ocfl_tree.specs.{StorageRoot.{StorageRoot}, declared.store.Opening.{Opening}}
+use Rattle.ocfl_report.specs.declared.further.Further.{Further}
+use Rattle.ocfl_report.specs.declared.further.Further.TheVariants.{Nothing, Inventories}
 use Rattle.ocfl_inventory.specs.Declaration.{is_declaration}
 use Rattle.ocfl_inventory.specs.declared.declaration.Level.TheVariants.{Root, Object}
-use Rattle.ocfl_rules.specs.Inventories.{Further, is_version_sidecar}
+use Rattle.ocfl_rules.specs.Inventories.{is_version_sidecar}
 use Rattle.ocfl_rules.specs.Zone.{Zone, inside, zone, inventory_name, inventory_at, skipped, hierarchy}
 use Rattle.ocfl_rules.specs.Lines.{is_inventory_or_sidecar}
 use Rattle.ocfl_rules.specs.Audit.{Unread}
@@ -30,8 +32,8 @@ abbrev pub is_common_meta : StorageRoot → Place → Bool
 is_common_meta root p = is_root_meta p || is_meta_zone (zone root p)
 
 abbrev pub is_meta : Further → StorageRoot → Place → Bool
-is_meta None root p = is_common_meta root p
-is_meta (Some k) root p = is_common_meta root p || is_version_sidecar (zone root p)
+is_meta Nothing root p = is_common_meta root p
+is_meta Inventories root p = is_common_meta root p || is_version_sidecar (zone root p)
 
 -- ---- what openings show of content
 

@@ -4,9 +4,8 @@ use Rattle.std.specs.{List.{list_all}, Ordering.{is_lt}}
 use Rattle.ocfl_tree.specs.Place.{Text, Place, text_cmp, text_eq, place_eq, begins}
 use Rattle.ocfl_tree.specs.Ascending.{ascending}
 use Rattle.ocfl_tree.specs.StorageRoot.{StorageRoot, Leaf, dir, at, names_in}
-use Rattle.ocfl_report.specs.Line.{Item}
+use Rattle.ocfl_report.specs.{Line.{Item}, declared.further.Further.{Further}}
 use Rattle.ocfl_inventory.specs.{Table.{Table, paths_of}, ListedPath.{is_version_name}}
-use Rattle.ocfl_rules.specs.Inventories.{Further}
 use Rattle.ocfl_rules.specs.Zone.{Zone, skipped, hierarchy, inside, zone, is_entered, table_at, object_declared, is_in_extensions, is_listed_within, beginnings, is_declared}
 use Rattle.ocfl_rules.specs.Audit.{Unread, has_lines, item_of}
 use Rattle.ocfl_rules.specs.Head.{on}

@@ -6,12 +6,12 @@ ghost use Rattle.ocfl_tree.specs.Name.{IsName, IsPlace};
 ghost use Rattle.ocfl_tree.specs.StorageRoot.{Leaf, StorageRoot, at, dir, is_dir, file_at, file};
 ghost use Rattle.ocfl_tree.specs.Place.{Place, Text, begins, place_cmp, text_cmp};
 ghost use Rattle.ocfl_tree.specs.declared.store.Opening.{Opening};
-ghost use Rattle.ocfl_report.specs.{Line.{Item}, Text.{text}};
+ghost use Rattle.ocfl_report.specs.{Line.{Item}, Text.{text}, declared.further.Further.{Further}};
 ghost use Rattle.ocfl_report.specs.declared.code.Code.TheVariants.{E001};
 ghost use Rattle.ocfl_inventory.specs.{Note.{plain}, Table.{Table, paths_of}, Notes.{listed}};
 ghost use Rattle.ocfl_inventory.specs.{ListedPath.{is_version_name}, Declaration.{is_declaration}};
 ghost use Rattle.ocfl_inventory.specs.declared.declaration.Level.TheVariants.{Object};
-ghost use Rattle.ocfl_rules.specs.Inventories.{Further, notes, is_hashed};
+ghost use Rattle.ocfl_rules.specs.Inventories.{notes, is_hashed};
 ghost use Rattle.ocfl_rules.specs.Audit.{IsAudit, Unread, after, audit, candidates, given_by, item_of, total_cost};
 ghost use Rattle.ocfl_rules.specs.Walk.{is_extensions, is_reached, item_at, items_of_place, items_under, names_below, step_listed, step_zone, walk, walk_after};
 ghost use Rattle.ocfl_rules.specs.Stack.{IsStack, NoPathAbove, NoPathBetween, NoneSeenAbove, NoneSeenBetween, entered_at, left_of, listed_at, lists, taken};
@@ -187,7 +187,8 @@ pub fn allowed_names_are_exact()
 {}
 
 /// Metadata is the storage root's declarations, and right in an object's root its declarations, its
-/// inventory and the two sidecars; and nothing else.
+/// inventory and the two sidecars; the two sidecars in its version directories, if the inventories
+/// there are checked; and nothing else.
 pub fn metadata_is_exact()
     ensures { (further : Further) (root : StorageRoot) (p : Place)
         → (is_meta further root p ≡ true) ↔ IsMetadata further root p }

@@ -3,6 +3,5 @@
 //! laws and worked cases, and no function that runs.
 #![tactic(auto)]
 
-pub mod further;
 pub mod inventories;
 pub mod laws;

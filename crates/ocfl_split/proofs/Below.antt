@@ -1,9 +1,10 @@
 -- One directory is listed, and the directories right below it are taken.
-use Rattle.std.proofs.Common.{◌≡◌, ℕ, ◌<◌, List, [], ◌∷◌, ◌++◌, refl, sym, ◌∙◌, ap, subst, true, false, Bool, length, append-nil, append_assoc, arith, IsPermutation, None}
+use Rattle.std.proofs.Common.{◌≡◌, ℕ, ◌<◌, List, [], ◌∷◌, ◌++◌, refl, sym, ◌∙◌, ap, subst, true, false, Bool, length, append-nil, append_assoc, arith, IsPermutation}
 use Rattle.std.specs.{Prelude.{cond}, List.Sorted.{IsSorted}}
 use Rattle.ocfl_tree.specs.{Place.{Place, text_cmp}, StorageRoot.{StorageRoot}, Store.{Store}}
 use Rattle.ocfl_tree.specs.{Listing.{IsListing, IsOrdinary}, declared.store.Entry.{Entry}}
 use Rattle.ocfl_tree.proofs.{Orders.{true_not_false}, Stores.{did_then, did_nothing, listed_well}}
+use Rattle.ocfl_report.specs.declared.further.Further.TheVariants.{Nothing}
 use Rattle.ocfl_item.specs.{Auditing.{FailedAt, in_listing, in_opening}, Looking.{failures_by}}
 use Rattle.ocfl_item.specs.{Ways.{is_listable, Enters, Stops}, declared.fault.Fault.{Fault}}
 use Rattle.ocfl_item.specs.declared.fault.Fault.TheVariants as fault
@@ -20,13 +21,13 @@ pub never_empty : {A : Type 0} (before : List A) (x : A) → [] ≡ before ++ x 
 never_empty [] x e = cc
 never_empty (y ∷ before) x e = cc
 
-failed_last : (root : StorageRoot) (s t : Store) (ls : List Place) (q : Place) → FailedAt None root s t ls [] q
+failed_last : (root : StorageRoot) (s t : Store) (ls : List Place) (q : Place) → FailedAt Nothing root s t ls [] q
     → ((before : List Place) × (ls ≡ before ++ q ∷ [])) × (t.failed_listings ≡ s.failed_listings ++ q ∷ [])
 failed_last root s t ls q (in_listing before e failed read) = ((before, e), failed)
 failed_last root s t ls q (in_opening before given e none) = absurd (never_empty before _ e)
 
 module _ (root : StorageRoot) where
-  pub listing_stops : (s t : Store) (d p : Place) (why : Fault) → p ≡ d → Stops None root s t (p ∷ []) [] why → ListsStop root s t (d ∷ []) why
+  pub listing_stops : (s t : Store) (d p : Place) (why : Fault) → p ≡ d → Stops Nothing root s t (p ∷ []) [] why → ListsStop root s t (d ∷ []) why
   listing_stops s t d p why same h = subst (λ x. ListsStop root s t (x ∷ []) why) same (record {
     over = h.goes.over;
     listings = h.goes.listings;

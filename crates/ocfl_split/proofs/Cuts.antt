@@ -167,3 +167,45 @@ separators_count root count = cut_count count (split_level root count)
 pub separator_at : (root : StorageRoot) (count k : ℕ) → k < length (separators_of root count)
     → slice_get (separators_of root count) k ≡ slice_get (split_level root count) ((k + 1) * length (split_level root count) / min count (length (split_level root count)))
 separator_at root count k l = cut_at count k (split_level root count) l
+
+-- ---- they ascend
+
+is_item : (ds : List Place) (j : ℕ) (p : Place) → j < length ds → slice_get ds j ≡ Some p → p ≡ get_or ds j p
+is_item ds j p l e =
+    let found : Some p ≡ Some (get_or ds j p) = sym e ∙ slice_get-get_or ds j p l in
+    cc
+
+module _ (ds : List Place) (m : ℕ) (few : m ≤ length ds) (up : IsAscending place_cmp ds) where
+  -- where the part after the next k begins
+  abbrev start : ℕ → ℕ
+  start k = (k + 1) * length ds / m
+
+  starts_within : (k : ℕ) → suc k < m → start k < length ds
+  starts_within k l = index_within (k + 1) m (length ds) (omega (arith, l)) few
+
+  starts_rise : (k : ℕ) → suc k < m → start k + 1 ≤ start (suc k)
+  starts_rise k l =
+      let next : k + 1 + 1 ≡ suc k + 1 = omega arith in
+      subst (λ i. start k + 1 ≤ i * length ds / m) next (index_grows (k + 1) m (length ds) (omega (arith, l)) few)
+
+  -- the first k, and then the directories from the next one on
+  firsts_rise : (k : ℕ) → k < m → IsAscending place_cmp (firsts ds m k ++ drop (start k) ds)
+  firsts_rise zero l = begins [] ds (start 0) refl up
+  firsts_rise (suc k) l =
+      let f = one_first ds m k l few in
+      let before : IsAscending place_cmp (firsts ds m k ++ drop (start k) ds) = firsts_rise k (omega (arith, l)) in
+      cut_on ds (firsts ds m k) (start k) f.0 (starts_within k l) (is_item ds (start k) f.0 (starts_within k l) f.1) before (firsts ds m (suc k)) (start (suc k)) f.2 (starts_rise k l)
+
+  firsts_ascend : (k : ℕ) → k < m → IsAscending place_cmp (firsts ds m k)
+  firsts_ascend zero l = tt
+  firsts_ascend (suc k) l =
+      let f = one_first ds m k l few in
+      subst (IsAscending place_cmp) (sym f.2)
+      (cut_above ds (firsts ds m k) (start k) f.0 (starts_within k l) (is_item ds (start k) f.0 (starts_within k l) f.1) (firsts_rise k (omega (arith, l))))
+
+pub cut_ascends : (count : ℕ) (ds : List Place) → IsAscending place_cmp ds → IsAscending place_cmp (cut_evenly count ds)
+cut_ascends count ds up = by (min count (length ds)) refl
+  where
+    by : (m : ℕ) → min count (length ds) ≡ m → IsAscending place_cmp (firsts ds m (m - 1))
+    by zero e = let none : 0 - 1 ≡ 0 = omega arith in subst (λ k. IsAscending place_cmp (firsts ds 0 k)) (sym none) tt
+    by (suc m) e = firsts_ascend ds (suc m) (omega (arith, sym e)) up (suc m - 1) (omega arith)

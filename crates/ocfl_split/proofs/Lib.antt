@@ -8,6 +8,7 @@ mod Descents
 mod LevelLaws
 mod LevelZones
 mod Listed
+mod EachAudit
 mod ReportedParts
 mod ReportedRuns
 mod Cases

@@ -1,10 +1,10 @@
 //! The laws of what splits a storage root.
-ghost use Rattle.std.specs.Prelude.{◌≡◌, ◌↔◌, ℕ, ◌+◌, ◌-◌, ◌*◌, ◌/◌, ◌<◌, ◌≤◌, ◌≢◌, Some, AllPairs, length, min, slice_get, List, ◌∷◌, ◌++◌, drop, map, replicate};
+ghost use Rattle.std.specs.Prelude.{◌≡◌, ◌↔◌, ℕ, ◌+◌, ◌-◌, ◌*◌, ◌/◌, ◌<◌, ◌≤◌, ◌≢◌, Some, AllPairs, length, min, slice_get, List, ◌∷◌, ◌++◌, drop, flat_map, map, replicate};
 ghost use Rattle.ocfl_tree.specs.{Ascending.{IsAmong, IsAscending}, Place.{Place, place_cmp}};
 ghost use Rattle.ocfl_tree.specs.StorageRoot.{StorageRoot, dir, at};
-ghost use Rattle.ocfl_report.specs.Line.{Line, Item};
+ghost use Rattle.ocfl_report.specs.{Line.{Line, Item}, declared.further.Further.{Further}};
 ghost use Rattle.ocfl_rules.specs.Runs.{Limits, runs, joined, FileLimitFits};
-ghost use Rattle.ocfl_rules.specs.Parts.{within, parts_of};
+ghost use Rattle.ocfl_rules.specs.{Audit.{Unread, audit}, Parts.{within, parts_of}};
 ghost use Rattle.ocfl_separators.specs.Splits.{cuts, reported};
 ghost use Rattle.ocfl_split.specs.Levels.{level, LiesInHierarchy};
 ghost use Rattle.ocfl_split.specs.Reported.{first_places, PassesJust};
@@ -57,6 +57,18 @@ pub fn directories_are_listed_once()
     ensures order { (root : StorageRoot) (n : ℕ) → IsAscending place_cmp (level root n) }
     ensures once { (root : StorageRoot) (count : ℕ)
         → AllPairs (λ a b. a ≢ b) (listed_for root count) }
+{}
+
+/// The separators are in strict order. So the parts that they make hold each audit, one that checks
+/// the inventories of versions too: the items of the parts, joined, are all of its items.
+#[tactic(auto, using(crate::proofs::EachAudit::separators_ascend, crate::proofs::EachAudit::parts_hold))]
+pub fn parts_hold_each_audit()
+    ensures order { (root : StorageRoot) (count : ℕ)
+        → IsAscending place_cmp (separators_of root count) }
+    ensures items { (further : Further) (root : StorageRoot) (unread : Unread) (count : ℕ)
+        → flat_map (λ part. within part (audit further root unread))
+        (parts_of (separators_of root count))
+        ≡ audit further root unread }
 {}
 
 /// A report is cut at the first places of the runs, but the first, that a budget makes of its items

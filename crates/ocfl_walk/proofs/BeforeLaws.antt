@@ -8,11 +8,12 @@ use Rattle.ocfl_tree.specs.Place.{Place, Text, place_cmp}
 use Rattle.ocfl_tree.specs.Ascending.{ascending, IsAscending, IsAmong}
 use Rattle.ocfl_tree.specs.StorageRoot.{StorageRoot, dir}
 use Rattle.ocfl_tree.proofs.Orders.{place_cmp_total, place_cmp_exact, true_not_false, below_from_greater, not_below_itself, not_both_below, before_each, among_ascending, among_filter, among_from_filter, ascends_filter, ascends_ascending}
+use Rattle.ocfl_report.specs.declared.further.Further.{Further}
 use Rattle.ocfl_rules.specs.Audit.{candidates}
 use Rattle.ocfl_rules.specs.Between.{looked_between, read_between, up_to}
 use Rattle.ocfl_rules.specs.Due.{due, item_places, places_after}
 use Rattle.ocfl_rules.specs.Lines.{is_empty}
-use Rattle.ocfl_rules.specs.Inventories.{Further, notes}
+use Rattle.ocfl_rules.specs.Inventories.{notes}
 use Rattle.ocfl_rules.proofs.AuditExists.{seen_candidate}
 use Rattle.ocfl_rules.proofs.BelowLaws.{less_from}
 use Rattle.ocfl_rules.proofs.BetweenLaws.{directories, from_directory, from_object, looked_seen, objects, read_seen}

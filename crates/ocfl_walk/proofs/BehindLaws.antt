@@ -8,8 +8,10 @@ use Rattle.ocfl_tree.specs.{Ascending.{IsAmong}, StorageRoot.{StorageRoot, Leaf,
 use Rattle.ocfl_tree.specs.{Listing.{kind_at, kind_in, kind_of}, declared.store.Entry.{Entry}}
 use Rattle.ocfl_tree.proofs.Orders.{among_filter, among_from_filter, among_map, before_each, not_below_itself, place_cmp_total, true_not_false}
 use Rattle.ocfl_tree.proofs.Places.{text_eq-same}
+use Rattle.ocfl_report.specs.declared.further.Further.{Further}
+use Rattle.ocfl_report.specs.declared.further.Further.TheVariants.{Nothing, Inventories}
 use Rattle.ocfl_digest.specs.declared.algorithm.Algorithm.TheVariants.{Sha256, Sha512}
-use Rattle.ocfl_rules.specs.{Head.{sidecar_name}, Inventories.{Further}, Walk.{is_reached, seen_names}, Zone.{seen}}
+use Rattle.ocfl_rules.specs.{Head.{sidecar_name}, Walk.{is_reached, seen_names}, Zone.{seen}}
 use Rattle.ocfl_rules.specs.Stack.{Frame, IsStack, seen_in, seen_left, seen_places}
 use Rattle.ocfl_rules.proofs.BelowLaws.{above, above_name, above_self, begins_front, begins_name, begins_rest, from_append, from_flat_map, text_from_test}
 use Rattle.ocfl_rules.proofs.{NextLaws.{seen_to}, StepLaws.{seen_step}}
@@ -138,5 +140,5 @@ module _ (root : StorageRoot) (last x : Place) (ps new : List Pile) (entry : Ent
 -- so it tells of the sidecars of an inventory
 pub is_behind : (further : Further) (root : StorageRoot) (d : Place) (entry : Entry) (es : List Entry) → ((n : Text) → text_cmp entry.name n ≡ Less → kind_in es n ≡ kind_at root d n)
     → AreBehind further root d entry es
-is_behind None root d entry es h = tt
-is_behind (Some k) root d entry es h = λ named. (h (sidecar_name Sha256) (ap (λ m. text_cmp m (sidecar_name Sha256)) named), h (sidecar_name Sha512) (ap (λ m. text_cmp m (sidecar_name Sha512)) named))
+is_behind Nothing root d entry es h = tt
+is_behind Inventories root d entry es h = λ named. (h (sidecar_name Sha256) (ap (λ m. text_cmp m (sidecar_name Sha256)) named), h (sidecar_name Sha512) (ap (λ m. text_cmp m (sidecar_name Sha512)) named))

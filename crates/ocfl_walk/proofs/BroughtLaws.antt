@@ -5,7 +5,7 @@ use Rattle.std.specs.{Prelude.{cond, Result, Ok, Err, IfOk, MatchResult}, Orderi
 use Rattle.ocfl_tree.specs.{Place.{Text, Place, text_cmp}, Ascending.{IsAscending, IsBeforeAll}}
 use Rattle.ocfl_tree.specs.{StorageRoot.{StorageRoot, names_in, max_entries}, Store.{Store}}
 use Rattle.ocfl_tree.specs.{Listing.{kind_at}, declared.store.Entry.{Entry}}
-use Rattle.ocfl_rules.specs.Inventories.{Further}
+use Rattle.ocfl_report.specs.declared.further.Further.{Further}
 use Rattle.ocfl_rules.specs.{Zone.{hierarchy, inside, zone}, Walk.{seen_names}}
 use Rattle.ocfl_rules.specs.Stack.{IsListed, listed_at, seen_left, seen_places}
 use Rattle.ocfl_item.specs.{Ways.{IsAt, way_below}, Around.{IsPart, IsTableAround}}

@@ -5,12 +5,12 @@ use Rattle.std.specs.declared.cmp.Ordering.TheVariants.{Less}
 use Rattle.arrayvec.specs.ArrayVec.{ArrayVec}
 use Rattle.ocfl_tree.specs.{Place.{Place, place_cmp}, StorageRoot.{StorageRoot}}
 use Rattle.ocfl_tree.specs.declared.store.Entry.{Entry}
+use Rattle.ocfl_report.specs.declared.further.Further.{Further}
 use Rattle.ocfl_walk.specs.Standing.{IsStanding, Pile, StandsAt, size_of, stand_size, piles_in}
 use Rattle.ocfl_walk.specs.Internal.Standing.{IsBelowNext, IsOrderlyIf, TurnIs, next_of, path_from, trimmed, trimmed_from, is_turn_past, turn_before, turn_of}
 use Rattle.ocfl_walk.specs.{Internal.Walking.{GoesOn}}
 use Rattle.ocfl_walk.specs.{declared.end.End.{End}, declared.stand.Stand.{Stand}}
 use Rattle.ocfl_walk.specs.{declared.stand.Step.{Step}, declared.stand.Turn.{Turn}}
-use Rattle.ocfl_rules.specs.Inventories.{Further}
 use Rattle.ocfl_rules.specs.Between.{IsBeyond}
 use Rattle.ocfl_item.specs.declared.meeting.Around.{Around}
 use Rattle.ocfl_walk.specs.declared.stand.Step.TheVariants as step

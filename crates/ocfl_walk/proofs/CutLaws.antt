@@ -9,7 +9,7 @@ use Rattle.ocfl_tree.specs.Place.{Place, Text, text_cmp, place_cmp, begins}
 use Rattle.ocfl_tree.specs.{Ascending.{IsAmong, IsBeforeAll}, StorageRoot.{StorageRoot, Leaf, dir}}
 use Rattle.ocfl_tree.specs.{Listing.{kind_at}, declared.store.Entry.{Entry}}
 use Rattle.ocfl_tree.proofs.Orders.{place_cmp_total, place_cmp_exact, true_not_false, not_below_itself, ascending_unique, among_filter, among_from_filter, ascends_filter}
-use Rattle.ocfl_rules.specs.Inventories.{Further}
+use Rattle.ocfl_report.specs.declared.further.Further.{Further}
 use Rattle.ocfl_rules.specs.Audit.{candidates}
 use Rattle.ocfl_rules.specs.Stack.{Frame, IsListed, IsStack, seen_in, seen_left, seen_places}
 use Rattle.ocfl_rules.specs.{Walk.{seen_names}, Zone.{inside, seen, table_at, zone}}

@@ -4,9 +4,10 @@ use Rattle.std.proofs.lemmas.List.{append-nil, length-append}
 use Rattle.std.specs.Prelude.{Ok, Err, cond}
 use Rattle.ocfl_tree.specs.{Place.{Place, text_eq}, Ascending.{IsAmong}, StorageRoot.{StorageRoot}}
 use Rattle.ocfl_tree.specs.{Store.{Store, Did}, declared.store.Opening.{Opening}}
+use Rattle.ocfl_report.specs.declared.further.Further.{Further}
+use Rattle.ocfl_report.specs.declared.further.Further.TheVariants.{Nothing, Inventories}
 use Rattle.ocfl_inventory.specs.Table.{Table}
 use Rattle.ocfl_tree.proofs.{Orders.{true_not_false}, Stores.{did_then, did_nothing, listed_well}}
-use Rattle.ocfl_rules.specs.Inventories.{Further}
 use Rattle.ocfl_rules.specs.Zone.{Zone, skipped, hierarchy, inside, zone, inventory_name}
 use Rattle.ocfl_rules.specs.{Head.{on}, Trail.{heads_of, inventory_of, reads_inventory}}
 use Rattle.ocfl_item.specs.{Looking.{IsFront, failures_by}, Ways.{AreInventories, Stops}}
@@ -64,8 +65,8 @@ at_most_one o false (x ∷ xs) h = absurd (let k = h.1 in cc)
 
 -- what is right in one of these directories is near them
 near_in : (further : Further) (root : StorageRoot) (ds : List Place) (p : Place) → LiesIn ds p → LiesNear further root ds p
-near_in None root ds p h = h
-near_in (Some k) root ds p h = inl h
+near_in Nothing root ds p h = h
+near_in Inventories root ds p h = inl h
 
 module _ (further : Further) (root : StorageRoot) where
   pub both_reached : (os os' : List Opening) → AreReached root os → AreReached root os' → AreReached root (os ++ os')

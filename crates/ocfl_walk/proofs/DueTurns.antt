@@ -5,11 +5,12 @@ use Rattle.ocfl_tree.specs.{Place.{Place, place_cmp}, Ascending.{IsAmong}}
 use Rattle.ocfl_tree.specs.StorageRoot.{StorageRoot, Leaf}
 use Rattle.ocfl_tree.proofs.Orders.{place_cmp_total, not_below_itself, among_filter, among_from_filter}
 use Rattle.ocfl_report.specs.Line.{Item}
+use Rattle.ocfl_report.specs.declared.further.Further.{Further}
 use Rattle.ocfl_inventory.specs.Note.{Note, lines_at}
 use Rattle.ocfl_rules.specs.Audit.{Unread, item_of, audit, after}
 use Rattle.ocfl_rules.specs.Due.{due, items_at}
 use Rattle.ocfl_rules.specs.Head.{on}
-use Rattle.ocfl_rules.specs.Inventories.{Further, notes}
+use Rattle.ocfl_rules.specs.Inventories.{notes}
 use Rattle.ocfl_rules.specs.Lines.{is_empty}
 use Rattle.ocfl_rules.specs.Walk.{item_at}
 use Rattle.ocfl_rules.specs.Stack.{Frame, IsListed, IsStack, NoPathBetween, NoneSeenBetween, seen_places}

@@ -3,9 +3,9 @@ use Rattle.std.proofs.Common.{◌≡◌, inl, inr, true, List, [], ◌∷◌, �
 use Rattle.std.specs.Prelude.{cond, ◌||◌, not, Result, Ok, Err, IfOk, MatchResult}
 use Rattle.ocfl_tree.specs.{Place.{Place}, StorageRoot.{StorageRoot}, Store.{Store, Did}}
 use Rattle.ocfl_tree.specs.{Listing.{IsOrdinary}, Ascending.{IsAmong}, declared.store.Entry.{Entry}}
+use Rattle.ocfl_report.specs.declared.further.Further.{Further}
 use Rattle.ocfl_inventory.specs.{Declaration.{declared}, Entries.{file_names}}
 use Rattle.ocfl_inventory.specs.declared.declaration.Level.TheVariants as level
-use Rattle.ocfl_rules.specs.Inventories.{Further}
 use Rattle.ocfl_rules.specs.Zone.{hierarchy, skipped, root_declared, is_listed_zone, zone, is_known}
 use Rattle.ocfl_rules.specs.{Walk.{is_reached}, Stack.{seen_places}}
 use Rattle.ocfl_item.specs.{Looking.{way_to}, Ways.{Enters, IsHead, Stops, way_below}}

@@ -6,9 +6,10 @@ use Rattle.ocfl_tree.specs.{Place.{Place, Text, place_cmp, begins, text_eq}, Asc
 use Rattle.ocfl_tree.specs.{StorageRoot.{StorageRoot, names_in}, Store.{Store}}
 use Rattle.ocfl_tree.specs.declared.store.Entry.{Entry}
 use Rattle.ocfl_tree.proofs.Orders.{place_cmp_total, not_below_itself, true_not_false}
+use Rattle.ocfl_report.specs.declared.further.Further.{Further}
 use Rattle.ocfl_inventory.specs.Table.{Table}
 use Rattle.ocfl_rules.specs.Due.{due}
-use Rattle.ocfl_rules.specs.Inventories.{Further, notes}
+use Rattle.ocfl_rules.specs.Inventories.{notes}
 use Rattle.ocfl_rules.specs.Walk.{is_reached, seen_names}
 use Rattle.ocfl_rules.specs.Stack.{IsListed}
 use Rattle.ocfl_rules.specs.Zone.{Zone, skipped, hierarchy, inside, zone, table_at, is_listed_zone, is_listed_in_object}

@@ -7,7 +7,9 @@ use Rattle.std.specs.Prelude.{AllPairs, is_some, Result, Ok, Err}
 use Rattle.ocfl_tree.specs.{Place.{Text, Place}, StorageRoot.{StorageRoot, dir}, Store.{Store, Did}}
 use Rattle.ocfl_tree.specs.{Listing.{kind_at, kind_in}, declared.store.Entry.{Entry}}
 use Rattle.ocfl_tree.specs.{declared.store.Opening.{Opening}, Ascending.{IsAmong}}
-use Rattle.ocfl_rules.specs.Inventories.{Further, version_inventory_in}
+use Rattle.ocfl_report.specs.declared.further.Further.{Further}
+use Rattle.ocfl_report.specs.declared.further.Further.TheVariants.{Nothing, Inventories}
+use Rattle.ocfl_rules.specs.Inventories.{version_inventory_in}
 use Rattle.ocfl_rules.specs.Zone.{Zone, skipped, hierarchy, inside, zone, seen}
 use Rattle.ocfl_rules.specs.Trail.{heads_of, inventory_of, is_head, content_trail, reads_inventory}
 use Rattle.ocfl_rules.specs.{Walk.{is_reached}, Head.{on}, Between.{is_looked_into}}
@@ -61,8 +63,8 @@ front_own e b xs is = front_within e b xs ([], sym is ∙ sym (append-nil xs))
 -- ---- no object's inventory
 
 pub nothing_no_head : (further : Further) (root : StorageRoot) (trail : List Opening) → trail ≡ [] → OpensNoHead further root trail
-nothing_no_head None root trail e = e
-nothing_no_head (Some k) root trail e = subst (AllByRecursion (λ o. inventory_of (zone root o.place) ≡ [])) (sym e) tt
+nothing_no_head Nothing root trail e = e
+nothing_no_head Inventories root trail e = subst (AllByRecursion (λ o. inventory_of (zone root o.place) ≡ [])) (sym e) tt
 
 -- what lies beside the inventory of a version is no object's inventory
 beside_quiet : (root : StorageRoot) (e p : Place) → LiesBeside root e p → inventory_of (zone root p) ≡ []
@@ -75,7 +77,7 @@ beside_quiet root e p h = by (zone root e) refl h.0
         let whole = (zone_is root e o (v ∷ c ∷ []) z).whole in
         let same = same_from_push d (o ++ v ∷ []) h.1.1.0 c (sym h.1.1.1.1.0 ∙ whole ∙ sym (append_one o (c ∷ []) v)) in
         let is : p ≡ o ++ v ∷ n ∷ [] = h.1.1.1.1.1 ∙ ap (λ x. x ++ n ∷ []) same.0 ∙ append_one o (n ∷ []) v in
-        ap (λ x. inventory_of (zone root x)) is ∙ ap inventory_of (object_zone None root o (v ∷ c ∷ []) (v ∷ n ∷ []) e z)
+        ap (λ x. inventory_of (zone root x)) is ∙ ap inventory_of (object_zone Nothing root o (v ∷ c ∷ []) (v ∷ n ∷ []) e z)
 
     by : (z : Zone) → zone root e ≡ z → is_some (version_inventory_in z (seen root e)) ≡ true → inventory_of (zone root p) ≡ []
     by skipped z k = absurd (true_not_false (sym k))
@@ -86,16 +88,16 @@ beside_quiet root e p h = by (zone root e) refl h.0
     by (inside o (v ∷ c ∷ n ∷ q)) z k = absurd (true_not_false (sym k))
 
 beside_no_head : (further : Further) (root : StorageRoot) (e : Place) (trail : List Opening) → OpensBeside further root e trail → OpensNoHead further root trail
-beside_no_head None root e trail h = h
-beside_no_head (Some k) root e trail h = all trail (λ o i. beside_quiet root e o.place (h o i))
+beside_no_head Nothing root e trail h = h
+beside_no_head Inventories root e trail h = all trail (λ o i. beside_quiet root e o.place (h o i))
   where
     all : (xs : List Opening) → ((o : Opening) → IsAmong xs o → inventory_of (zone root o.place) ≡ []) → AllByRecursion (λ o. inventory_of (zone root o.place) ≡ []) xs
     all [] g = tt
     all (x ∷ xs) g = (g x (inl refl), all xs (λ o i. g o (inr i)))
 
 no_heads : (further : Further) (root : StorageRoot) (trail : List Opening) → OpensNoHead further root trail → AllByRecursion (λ o. inventory_of (zone root o.place) ≡ []) trail
-no_heads None root trail h = subst (AllByRecursion (λ o. inventory_of (zone root o.place) ≡ [])) (sym h) tt
-no_heads (Some k) root trail h = h
+no_heads Nothing root trail h = subst (AllByRecursion (λ o. inventory_of (zone root o.place) ≡ [])) (sym h) tt
+no_heads Inventories root trail h = h
 
 none_of_heads : (root : StorageRoot) (trail : List Opening) → AllByRecursion (λ o. inventory_of (zone root o.place) ≡ []) trail → heads_of root trail ≡ []
 none_of_heads root [] h = refl

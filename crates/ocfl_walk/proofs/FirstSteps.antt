@@ -9,7 +9,7 @@ use Rattle.ocfl_tree.specs.{Place.{Place, Text, place_cmp}, Ascending.{IsAmong}}
 use Rattle.ocfl_tree.specs.{StorageRoot.{StorageRoot, dir}, Store.{Store}}
 use Rattle.ocfl_tree.specs.declared.store.Entry.{Entry}
 use Rattle.ocfl_tree.proofs.Orders.{place_cmp_exact, place_cmp_total, below_from_greater, true_not_false}
-use Rattle.ocfl_rules.specs.Inventories.{Further}
+use Rattle.ocfl_report.specs.declared.further.Further.{Further}
 use Rattle.ocfl_rules.specs.{Audit.{candidates}, Between.{IsBeyond, looked_between, read_between}}
 use Rattle.ocfl_rules.specs.{Due.{due, item_places}, Stack.{IsListed, IsStack}, Walk.{seen_names}}
 use Rattle.ocfl_rules.specs.Zone.{seen}

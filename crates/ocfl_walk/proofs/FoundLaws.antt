@@ -3,9 +3,11 @@ use Rattle.std.proofs.Common.{◌≡◌, ◌≢◌, ℕ, List, [], ◌∷◌, �
 use Rattle.std.specs.Prelude.{AllPairs, cond, ◌||◌, not, Result, Ok, Err, MatchResult}
 use Rattle.ocfl_tree.specs.{Place.{Text, Place, text_eq}, StorageRoot.{StorageRoot}}
 use Rattle.ocfl_tree.specs.{Store.{Store, Did}, declared.store.Opening.{Opening}}
+use Rattle.ocfl_report.specs.declared.further.Further.{Further}
+use Rattle.ocfl_report.specs.declared.further.Further.TheVariants.{Nothing, Inventories}
 use Rattle.ocfl_rules.specs.Zone.{Zone, skipped, hierarchy, inside, inventory_name, is_in_extensions, object_zone, root_declared, seen, zone, is_known}
 use Rattle.ocfl_rules.specs.Due.{hashed_among}
-use Rattle.ocfl_rules.specs.Inventories.{Further, head_notes, is_hashed, notes, version_inventory_in, version_notes}
+use Rattle.ocfl_rules.specs.Inventories.{head_notes, is_hashed, notes, version_inventory_in, version_notes}
 use Rattle.ocfl_rules.specs.Lines.{common_notes, notes_in}
 use Rattle.ocfl_rules.specs.Between.{is_looked_into}
 use Rattle.ocfl_rules.specs.Trail.{content_trail, heads_of, inventory_of, reads_inventory}
@@ -118,8 +120,8 @@ module _ (further : Further) (root : StorageRoot) where
         common = notes_at root None q some ∙ ap (notes_in root q None) out
 
         by : (f : Further) → notes f root None q ≡ []
-        by None = common
-        by (Some k) = λ i. common i ++ (head_notes k root (out i) ++ version_notes k root None (version_inventory_in (out i) (seen root q)))
+        by Nothing = common
+        by Inventories = λ i. common i ++ (head_notes root (out i) ++ version_notes root None (version_inventory_in (out i) (seen root q)))
 
     -- if the root's version is not known nothing else has lines
     pub answered_unknown : p ≢ [] → is_known (root_declared root) ≡ false → GoesDown further root s t (Some p) × IsItemAt further root p None

@@ -4,13 +4,13 @@ use Rattle.std.specs.Prelude.{Result, Ok, Err}
 use Rattle.ocfl_tree.specs.{Place.{Text, Place, begins}, StorageRoot.{StorageRoot}, Store.{Store}}
 use Rattle.ocfl_tree.specs.declared.store.Entry.{Entry}
 use Rattle.ocfl_tree.proofs.Places.{begins-itself}
+use Rattle.ocfl_report.specs.declared.further.Further.{Further}
 use Rattle.ocfl_inventory.specs.{Declaration.{declared}, Table.{IsFit}}
 use Rattle.ocfl_inventory.specs.Entries.{file_names, meaning, PointsAtOne}
 use Rattle.ocfl_inventory.specs.declared.declaration.Declared.{Declared as MadeDeclared}
 use Rattle.ocfl_inventory.specs.declared.declaration.Version.{Version}
 use Rattle.ocfl_inventory.specs.declared.declaration.Declared.TheVariants as made
 use Rattle.ocfl_inventory.specs.declared.declaration.Level.TheVariants as level
-use Rattle.ocfl_rules.specs.Inventories.{Further}
 use Rattle.ocfl_rules.specs.Zone.{inside, table_at, zone, is_known, max_listed_depth}
 use Rattle.ocfl_item.specs.{Ways.{InHierarchy, IsObject}, Internal.Ways.{IsDeclared}}
 use Rattle.ocfl_item.specs.{Meeting.{IsFairFolder}, declared.fault.Fault.{Fault}}

@@ -4,8 +4,8 @@ use Rattle.std.specs.Prelude.{cond, IfSome, option_map}
 use Rattle.ocfl_tree.specs.{Place.{Place, Text}, StorageRoot.{StorageRoot}}
 use Rattle.ocfl_tree.specs.{declared.store.Entry.{Entry}, Listing.{IsOrdinary}}
 use Rattle.ocfl_tree.proofs.Places.{begins-itself}
+use Rattle.ocfl_report.specs.declared.further.Further.{Further}
 use Rattle.ocfl_inventory.specs.Table.{IsFit, Table}
-use Rattle.ocfl_rules.specs.Inventories.{Further}
 use Rattle.ocfl_rules.specs.Trail.{is_head}
 use Rattle.ocfl_rules.specs.Zone.{skipped, hierarchy, inside, zone, table_at, object_declared, is_declared, max_listed_depth}
 use Rattle.ocfl_rules.specs.Walk.{is_extensions, step_zone}

@@ -6,7 +6,7 @@ use Rattle.ocfl_tree.specs.{Place.{Text, Place}, Ascending.{IsAmong}}
 use Rattle.ocfl_tree.specs.{StorageRoot.{StorageRoot, is_dir}, Store.{Store, Did}}
 use Rattle.ocfl_tree.proofs.Orders.{among_left, among_right, true_not_false}
 use Rattle.ocfl_tree.proofs.{Stores.{among_either}, Bools.{and_first, and_second, and_both}}
-use Rattle.ocfl_rules.specs.Inventories.{Further}
+use Rattle.ocfl_report.specs.declared.further.Further.{Further}
 use Rattle.ocfl_rules.specs.Walk.{is_reached}
 use Rattle.ocfl_rules.specs.Zone.{Zone, skipped, hierarchy, inside, zone, beginnings, is_entered, is_listed_zone, max_listed_depth}
 use Rattle.ocfl_rules.specs.{Between.{is_looked_into, shows_entries}, Head.{on}}

@@ -5,7 +5,7 @@ use Rattle.std.specs.Prelude.{IfOk, Result, Ok, Err, option_map}
 use Rattle.ocfl_tree.specs.{Place.{Place}, StorageRoot.{StorageRoot}, Store.{Store}}
 use Rattle.ocfl_tree.specs.declared.store.Entry.{Entry}
 use Rattle.ocfl_tree.proofs.Orders.{place_cmp_total}
-use Rattle.ocfl_rules.specs.Inventories.{Further}
+use Rattle.ocfl_report.specs.declared.further.Further.{Further}
 use Rattle.ocfl_rules.specs.{Zone.{inside, zone}, Walk.{seen_names}, Stack.{IsStack, IsListed}}
 use Rattle.ocfl_rules.specs.{Due.{due}, Between.{IsBeyond, IsWithin}}
 use Rattle.ocfl_walk.specs.Standing.{StandsAt, stand_size, AreEntries, HaveEntries, IsStanding, Pile, frames_of}

@@ -5,7 +5,7 @@ use Rattle.std.specs.declared.cmp.Ordering.TheVariants.{Less}
 use Rattle.arrayvec.specs.ArrayVec.{ArrayVec}
 use Rattle.ocfl_tree.specs.{Place.{Place, place_cmp}, StorageRoot.{StorageRoot}, Store.{Store}}
 use Rattle.ocfl_tree.specs.declared.store.Entry.{Entry}
-use Rattle.ocfl_rules.specs.Inventories.{Further}
+use Rattle.ocfl_report.specs.declared.further.Further.{Further}
 use Rattle.ocfl_rules.specs.{Between.{IsBeyond, looked_between, read_between}, Due.{due}}
 use Rattle.ocfl_rules.specs.{Stack.{Frame}, Walk.{seen_names}}
 use Rattle.ocfl_rules.proofs.BetweenLaws.{looked_end, read_end}

@@ -4,7 +4,7 @@ use Rattle.std.proofs.Math.Nat.{pow-suc, one-le-pow, mul_comm}
 use Rattle.std.specs.{declared.alloc.Global.{Global}, Prelude.{IfSome, Vec}}
 use Rattle.ocfl_tree.specs.{declared.store.Entry.{Entry}, Place.{Place, Text}}
 use Rattle.ocfl_tree.specs.{StorageRoot.{StorageRoot, max_entries}, Store.{Store}}
-use Rattle.ocfl_rules.specs.Inventories.{Further}
+use Rattle.ocfl_report.specs.declared.further.Further.{Further}
 use Rattle.ocfl_rules.specs.{Due.{due}, Head.{on}}
 use Rattle.ocfl_walk.specs.Standing.{IsStanding, Pile, StandsAt, entry_weight, piles_at, size_of, weigh, levels}
 use Rattle.ocfl_walk.specs.Internal.Standing.{IsFairPile, IsOrderly, left_of_folder, pushed}

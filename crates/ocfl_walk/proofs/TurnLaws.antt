@@ -9,9 +9,9 @@ use Rattle.ocfl_tree.specs.Place.{Place, place_cmp}
 use Rattle.ocfl_tree.specs.Ascending.{ascending, insert_once, IsAscending}
 use Rattle.ocfl_tree.specs.{StorageRoot.{StorageRoot}, declared.store.Entry.{Entry}}
 use Rattle.ocfl_tree.proofs.Orders.{place_cmp_exact}
+use Rattle.ocfl_report.specs.declared.further.Further.{Further}
 use Rattle.ocfl_inventory.specs.Table.{Table, Triple, paths_of, triple_cmp}
 use Rattle.ocfl_inventory.specs.NextPath as table
-use Rattle.ocfl_rules.specs.Inventories.{Further}
 use Rattle.ocfl_rules.specs.Zone.{Zone, skipped, hierarchy, inside, zone, table_at}
 use Rattle.ocfl_rules.specs.Walk.{IsClosed, seen_names}
 use Rattle.ocfl_rules.specs.Stack.{IsListed, seen_places, seen_left, next_entry, next_path, next_path_in, next_path_of, next_place, lesser, least_path, first_of_list}

@@ -5,13 +5,13 @@ use Rattle.std.specs.declared.cmp.Ordering.TheVariants.{Less}
 use Rattle.std.specs.Prelude.{IfOk, MatchResult, option_map}
 use Rattle.ocfl_tree.specs.{Place.{Place, Text, place_cmp}, Store.{Store}}
 use Rattle.ocfl_tree.specs.StorageRoot.{StorageRoot}
+use Rattle.ocfl_report.specs.declared.further.Further.{Further}
 use Rattle.ocfl_walk.specs.{Before.{directory_of, place_before}, Ends.{before_end}}
 use Rattle.ocfl_walk.specs.{Internal.Entering.{Descends}, Standing.{StandsAt}}
 use Rattle.ocfl_walk.specs.Internal.Walking.{GoesAt, NextGoesOn, NextTold, StepsAt}
 use Rattle.ocfl_walk.specs.Walks.{Gives, GivesOut, GoesOn, HasEndedOut, OpensInventories, Stands, StandsFrom, first_size, walk_size}
 use Rattle.ocfl_walk.specs.{WalkCalls.{FailsOut, WalkFails, WalksOut}, declared.end.End.{End}}
 use Rattle.ocfl_walk.specs.{declared.stand.Stand.{Stand}, declared.walk.Walk.{Walk}}
-use Rattle.ocfl_rules.specs.Inventories.{Further}
 use Rattle.ocfl_rules.specs.{Between.{IsBeyond}, Due.{due}}
 use Rattle.ocfl_item.specs.{declared.fault.Fault.{Fault}, declared.pending.Pending.{Pending}}
 use Rattle.ocfl_walk.specs.declared.stand.Step.TheVariants as step

@@ -5,7 +5,7 @@ use Rattle.std.specs.Prelude.{IfSome, codes, cond, not}
 use Rattle.ocfl_tree.specs.{Place.{Place, Text}, Ascending.{IsAmong}, StorageRoot.{StorageRoot}}
 use Rattle.ocfl_tree.specs.{Store.{Store}, declared.store.Opening.{Opening}}
 use Rattle.ocfl_tree.proofs.Orders.{among_left, among_right}
-use Rattle.ocfl_rules.specs.Inventories.{Further}
+use Rattle.ocfl_report.specs.declared.further.Further.{Further}
 use Rattle.ocfl_rules.specs.Objects.{IsObjectRoot}
 use Rattle.ocfl_rules.specs.Trail.{content_trail, heads_of, inventory_of, is_meta, reads_inventory}
 use Rattle.ocfl_rules.specs.{Walk.{is_reached}, Zone.{beginnings, zone}}

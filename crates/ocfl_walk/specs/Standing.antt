@@ -5,8 +5,8 @@ use Rattle.std.specs.Prelude.{Vec, suc, take, ◌≡◌, ◌+◌, ◌*◌, ◌-�
 use Rattle.std.specs.{Ordering.{is_lt}, List.{AllByRecursion}}
 use Rattle.ocfl_tree.specs.{Place.{Place, place_cmp}, StorageRoot.{StorageRoot}, Listing.{kind_at}}
 use Rattle.ocfl_tree.specs.declared.store.Entry.{Entry}
+use Rattle.ocfl_report.specs.declared.further.Further.{Further}
 use Rattle.ocfl_inventory.specs.Table.{paths_of}
-use Rattle.ocfl_rules.specs.Inventories.{Further}
 use Rattle.ocfl_rules.specs.{Zone.{max_listed_depth}, Stack.{Frame, IsStack, IsListed}}
 use Rattle.ocfl_item.specs.{Around.{IsTableAround}, declared.folder.Folder.{Folder}}
 use Rattle.ocfl_item.specs.declared.meeting.Around.{Around}

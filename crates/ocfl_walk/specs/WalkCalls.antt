@@ -3,7 +3,7 @@
 use Rattle.std.specs.Prelude.{true, List, [], ◌∷◌, Option, Some, None, IfSome, AllPairs, ◌≡◌, ◌≢◌, filter, slice_get}
 use Rattle.ocfl_tree.specs.{Place.{Place}, Ascending.{IsAmong}, StorageRoot.{StorageRoot}}
 use Rattle.ocfl_tree.specs.{Store.{Store}, declared.store.Opening.{Opening}}
-use Rattle.ocfl_rules.specs.Inventories.{Further}
+use Rattle.ocfl_report.specs.declared.further.Further.{Further}
 use Rattle.ocfl_rules.specs.Zone.{Zone, skipped, hierarchy, inside, zone}
 use Rattle.ocfl_rules.specs.{Between.{looked_between, read_between}, Due.{due}, Trail.{reads_inventory}}
 use Rattle.ocfl_rules.specs.Walk.{is_reached}

@@ -2,13 +2,17 @@
 use Rattle.std.specs.Prelude.{◌≡◌, ◌<◌, ◌≤◌, ◌+◌, ℕ, ◌∷◌, ◌++◌, List, [], Option, Some, None, length, ⊤}
 use Rattle.ocfl_tree.specs.{Place.{Place, Text}, StorageRoot.{StorageRoot}, Store.{Store}}
 use Rattle.ocfl_tree.specs.declared.store.Opening.{Opening}
-use Rattle.ocfl_rules.specs.Inventories.{Further}
+use Rattle.ocfl_report.specs.declared.further.Further.{Further}
 use Rattle.ocfl_rules.specs.{Due.{due}, Between.{IsBeyond}}
 use Rattle.ocfl_walk.specs.{Before.{place_before}, Ends.{before_end}, WalkCalls.{Walks, WalksOut}}
 use Rattle.ocfl_walk.specs.{Standing.{StandsAt, stand_size}, declared.end.End.{End}}
 use Rattle.ocfl_walk.specs.{declared.stand.Stand.{Stand}, declared.walk.Walk.{Walk}}
 use Rattle.ocfl_item.specs.{Ways.{AreInventories}, Pending.{IsPending}}
 use Rattle.ocfl_item.specs.declared.pending.Pending.{Pending}
+
+-- what its audit checks beside what every audit checks
+abbrev pub further_of : Walk → Further
+further_of walk = walk.further
 
 -- the place after which it stands
 abbrev pub last_of : Walk → Option Place

@@ -3,8 +3,9 @@ ghost use Rattle.std.specs.Prelude.{◌≡◌, ◌∷◌, ◌++◌, [], length, 
 ghost use Rattle.std.specs.Prelude.{MatchOption, MatchResult};
 ghost use Rattle.ocfl_tree.specs.{StorageRoot.{StorageRoot}, Store.{Store, IfTold}};
 ghost use Rattle.ocfl_tree.specs.{Place.{Place as Spot, Text}, Listing.{IsListing}};
+ghost use Rattle.ocfl_report.specs.declared.further.Further.{Further as ModelFurther};
 ghost use Rattle.ocfl_inventory.specs.Table.{IsFit};
-ghost use Rattle.ocfl_rules.specs.{Inventories.{Further}, Zone.{zone}};
+ghost use Rattle.ocfl_rules.specs.Zone.{zone};
 ghost use Rattle.ocfl_item.specs.{Around.{IsPart}, Meeting.{IsFairFolder}};
 ghost use Rattle.ocfl_item.specs.Ways.{Enters, IsAt, IsObject, Stops, way_below};
 ghost use Rattle.ocfl_walk.specs.Internal.Entering.{StaysOut, Comes, DescendFails, IsBrought};
@@ -22,7 +23,7 @@ use ocfl_inventory::{Declared, Level, is_version_name};
 use ocfl_item::{
     Around, Fault, Folder, Head, can_enter, head_of, is_extensions, list, table_of_object,
 };
-use ocfl_rules::further::NewCodes;
+use ocfl_report::Further;
 use ocfl_tree::{Name, Place, Tree, is_text};
 use std::alloc::{AllocError, Global};
 
@@ -31,7 +32,7 @@ fn listed<T: Tree>(store: &mut T, folder: &Folder, name: &Name) -> Result<Option
     ensures fair { IfOk result (λ next. IfSome next
         (λ inner. IsFairFolder (folder.now.place ++ name.now ∷ []) inner)) }
     ensures told { IfTold T.told (T.state store.old) (λ root.
-        (further : Further) → IsListing root folder.now.place folder.now.entries.items
+        (further : ModelFurther) → IsListing root folder.now.place folder.now.entries.items
         → let below = folder.now.place ++ name.now ∷ [] in MatchResult result
         (λ next. MatchOption next
         (StaysOut root (T.state store.old) (T.state store.new) below)
@@ -50,7 +51,7 @@ fn listed<T: Tree>(store: &mut T, folder: &Folder, name: &Name) -> Result<Option
 pub(crate) fn known_root<T: Tree>(alloc: Global, store: &mut T) -> Result<Option<Folder>, Fault>
     ensures fair { IfOk result (λ next. IfSome next (λ base. IsFairFolder [] base)) }
     ensures told { IfTold T.told (T.state store.old) (λ root.
-        (further : Further)
+        (further : ModelFurther)
         → ListsRoot further root (T.state store.old) (T.state store.new) result) }
 {
     let base = list(store, Place::root(alloc))?;
@@ -64,7 +65,7 @@ pub(crate) fn known_root<T: Tree>(alloc: Global, store: &mut T) -> Result<Option
 fn opened<T: Tree>(
     alloc: Global,
     store: &mut T,
-    further: Option<NewCodes>,
+    further: Further,
     folder: &Folder,
 ) -> Result<Option<Around>, Fault>
     ensures kept { IfOk result (λ next. IfSome next
@@ -86,7 +87,7 @@ fn opened<T: Tree>(
 fn into_directory<T: Tree>(
     alloc: Global,
     store: &mut T,
-    further: Option<NewCodes>,
+    further: Further,
     object: &mut Option<Around>,
     inner: Folder,
 ) -> Result<Option<Folder>, Fault>
@@ -135,7 +136,7 @@ fn leads_on(object: &Option<Around>, folder: &Folder, name: &Name) -> bool
 pub(crate) fn down<T: Tree>(
     alloc: Global,
     store: &mut T,
-    further: Option<NewCodes>,
+    further: Further,
     object: &mut Option<Around>,
     folder: &Folder,
     name: &Name,
@@ -164,7 +165,7 @@ pub(crate) fn down<T: Tree>(
 fn go_down<T: Tree>(
     alloc: Global,
     store: &mut T,
-    further: Option<NewCodes>,
+    further: Further,
     stand: &mut Stand,
     folder: Folder,
     names: &[Name],
@@ -220,7 +221,7 @@ fn stand_without_listings(alloc: Global, place: &Place) -> Result<Stand, AllocEr
 fn go_down_from_root<T: Tree>(
     alloc: Global,
     store: &mut T,
-    further: Option<NewCodes>,
+    further: Further,
     stand: &mut Stand,
     after: &Place,
 ) -> Result<(), Fault>
@@ -246,7 +247,7 @@ fn go_down_from_root<T: Tree>(
 pub(crate) fn stand_at<T: Tree>(
     alloc: Global,
     store: &mut T,
-    further: Option<NewCodes>,
+    further: Further,
     after: &Place,
 ) -> Result<Stand, Fault>
     ensures last { IfOk result (λ stand. stand.last ≡ Some after.now) }

@@ -8,7 +8,7 @@ ghost use Rattle.ocfl_walk.specs.Internal.Standing.{IsAroundIf};
 
 use crate::entry::down;
 use ocfl_item::{Around, Fault, Folder, Pending, visit_entry, visit_path};
-use ocfl_rules::further::NewCodes;
+use ocfl_report::Further;
 use ocfl_tree::{Entry, Name, Place, Tree, is_text};
 use std::alloc::Global;
 
@@ -29,7 +29,7 @@ fn entry_named<'f>(entries: &'f [Entry], name: &Name) -> Option<&'f Entry>
 fn item_in<T: Tree>(
     alloc: Global,
     store: &mut T,
-    further: Option<NewCodes>,
+    further: Further,
     place: &Place,
     around: &Option<Around>,
     folder: &Folder,
@@ -56,7 +56,7 @@ fn item_in<T: Tree>(
 pub(crate) fn find_below<T: Tree>(
     alloc: Global,
     store: &mut T,
-    further: Option<NewCodes>,
+    further: Further,
     place: &Place,
     mut around: Option<Around>,
     folder: Folder,

@@ -7,7 +7,7 @@ ghost use Rattle.ocfl_tree.specs.Store.{IfTold};
 use crate::entry::known_root;
 use crate::find::find_below;
 use ocfl_item::{Fault, Pending, visit_base};
-use ocfl_rules::further::NewCodes;
+use ocfl_report::Further;
 use ocfl_tree::{Place, Tree};
 use std::alloc::{AllocError, Global};
 
@@ -23,7 +23,7 @@ use std::alloc::{AllocError, Global};
 pub fn item_at<T: Tree>(
     alloc: Global,
     store: &mut T,
-    further: Option<NewCodes>,
+    further: Further,
     place: &Place,
 ) -> Result<Option<Pending>, Fault>
     ensures told { IfTold T.told (T.state store.old) (λ root.

@@ -3,8 +3,9 @@
 ghost use Rattle.std.specs.Prelude.{◌≡◌, ◌++◌, ◌∷◌, [], List, Option, None, Some, codes, true};
 ghost use Rattle.ocfl_tree.specs.{Place.{Place}, Ascending.{IsAmong}, Store.{Store}};
 ghost use Rattle.ocfl_tree.specs.{declared.store.Opening.{Opening}, StorageRoot.{StorageRoot}};
+ghost use Rattle.ocfl_report.specs.declared.further.Further.{Further};
 ghost use Rattle.ocfl_rules.specs.Between.{IsBeyond, IsWithin, looked_between, read_between};
-ghost use Rattle.ocfl_rules.specs.{Due.{due, item_places}, Inventories.{Further}};
+ghost use Rattle.ocfl_rules.specs.Due.{due, item_places};
 ghost use Rattle.ocfl_rules.specs.Objects.{IsObjectRoot};
 ghost use Rattle.ocfl_rules.specs.{Trail.{is_meta, reads_inventory}, Walk.{is_reached}};
 ghost use Rattle.ocfl_rules.specs.Zone.{inside, zone, beginnings};

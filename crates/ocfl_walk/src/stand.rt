@@ -6,7 +6,8 @@ ghost use Rattle.std.specs.{Ordering.{is_lt}, declared.cmp.Ordering.TheVariants.
 ghost use Rattle.arrayvec.specs.ArrayVec.{array_vec_len};
 ghost use Rattle.ocfl_tree.specs.{Place.{Place as Spot, place_cmp}, StorageRoot.{StorageRoot}};
 ghost use Rattle.ocfl_tree.specs.Store.{Store, IfTold};
-ghost use Rattle.ocfl_rules.specs.{Inventories.{Further}, Walk.{seen_names}, Zone.{seen}};
+ghost use Rattle.ocfl_report.specs.declared.further.Further.{Further as ModelFurther};
+ghost use Rattle.ocfl_rules.specs.{Walk.{seen_names}, Zone.{seen}};
 ghost use Rattle.ocfl_item.specs.Around.{AreBehind, IsMet, IsNamedIn, IsTableAround};
 ghost use Rattle.ocfl_item.specs.Meeting.{IsFairVisit, IsVisit, MeetFails, Meets};
 ghost use Rattle.ocfl_walk.specs.Standing.{StandsAt, back, frames_of, levels, pile_of, piles_at};
@@ -27,7 +28,7 @@ use ocfl_inventory::Table;
 use ocfl_item::{
     Around, Fault, Folder, Pending, RootInventory, Visit, visit_base, visit_entry, visit_path,
 };
-use ocfl_rules::further::NewCodes;
+use ocfl_report::Further;
 use ocfl_tree::{Entry, Name, Place, Tree, is_text};
 use std::alloc::{AllocError, Global};
 
@@ -301,7 +302,7 @@ fn met_by(around: Option<Around>, place: &Place, visit: Visit) -> Result<Met, Al
     ensures fair { IsFairVisit place.now visit
         → IsAroundIf place.now (around_of around place.now visit.table visit.root)
         → IfOk result (λ m. IsFairMet place.now m) }
-    ensures told { (further : Further) (root : StorageRoot) → IsFairVisit place.now visit
+    ensures told { (further : ModelFurther) (root : StorageRoot) → IsFairVisit place.now visit
         → IsVisit further root place.now visit
         → IsTableAround further root place.now (around_of around place.now visit.table visit.root)
         → IfOk result (λ m. IsMeeting further root place.now m) }
@@ -325,7 +326,7 @@ fn met_by(around: Option<Around>, place: &Place, visit: Visit) -> Result<Met, Al
 fn meet<T: Tree>(
     alloc: Global,
     store: &mut T,
-    further: Option<NewCodes>,
+    further: Further,
     around: Option<Around>,
     place: &Place,
     entry: &Entry,
@@ -394,7 +395,7 @@ impl Stand {
         ensures goes_on { IfOk result (λ step. GoesOn self.old self.new step) }
         ensures there { IfOk result (λ step. GoesTo self.new [] step) }
         ensures told { IfTold T.told (T.state store.old) (λ root.
-            (further : Further)
+            (further : ModelFurther)
             → StepsTo further root (T.state store.old) (T.state store.new) None [] self.new
             result) }
     {
@@ -409,7 +410,7 @@ impl Stand {
         &mut self,
         alloc: Global,
         store: &mut T,
-        further: Option<NewCodes>,
+        further: Further,
         place: Place,
     ) -> Result<Step, Fault>
         requires orderly { IsOrderlyStand self.old }
@@ -457,7 +458,7 @@ impl Stand {
         ensures falls { IsNamedIn place self.old.around
             → IfOk result (λ _. stand_size self.new < stand_size self.old) }
         ensures there { IfOk result (λ step. GoesTo self.new place step) }
-        ensures told { (further : Further) (s : Store) (root : StorageRoot) → s.tree ≡ root
+        ensures told { (further : ModelFurther) (s : Store) (root : StorageRoot) → s.tree ≡ root
             → (last : Spot)
             → IsHeld further root place (piles_in self.old.last self.old.listings.items)
             self.old.around → IsTurn further root last place
@@ -475,7 +476,7 @@ impl Stand {
         &mut self,
         alloc: Global,
         store: &mut T,
-        further: Option<NewCodes>,
+        further: Further,
         name: &Name,
         end: &End,
     ) -> Result<Step, Fault>
@@ -509,7 +510,7 @@ impl Stand {
         &mut self,
         alloc: Global,
         store: &mut T,
-        further: Option<NewCodes>,
+        further: Further,
         end: &End,
     ) -> Result<Step, Fault>
         requires orderly { IsOrderlyStand self.old }
@@ -537,7 +538,7 @@ impl Stand {
         &mut self,
         alloc: Global,
         store: &mut T,
-        further: Option<NewCodes>,
+        further: Further,
         end: &End,
     ) -> Result<Option<Pending>, Fault>
         requires { IsOrderlyStand self.old }

@@ -2,7 +2,7 @@
 ghost use Rattle.std.specs.Prelude.{◌≡◌, ◌≢◌, ◌∷◌, ◌++◌, [], Option, option_map, true, false, None};
 ghost use Rattle.std.specs.Prelude.{Some, IfOk, IfErr, IfSome, MatchResult};
 ghost use Rattle.ocfl_tree.specs.{Place.{Place as Spot}, Store.{IfTold}};
-ghost use Rattle.ocfl_rules.specs.Inventories.{Further};
+ghost use Rattle.ocfl_report.specs.declared.further.Further.{Further as ModelFurther};
 ghost use Rattle.ocfl_walk.specs.{Before.{directory_of, place_before}, Ends.{is_past}};
 ghost use Rattle.ocfl_walk.specs.WalkCalls.{FailsOut, GoDownFails, GoesDown, WalkFails};
 ghost use Rattle.ocfl_walk.specs.Orderly.{is_orderly};
@@ -12,7 +12,7 @@ use crate::entry::stand_at;
 use crate::stand::{Stand, Step};
 use arrayvec::ArrayVec;
 use ocfl_item::{Fault, Pending};
-use ocfl_rules::further::NewCodes;
+use ocfl_report::Further;
 use ocfl_tree::{Name, Place, Tree};
 use std::alloc::{AllocError, Global};
 
@@ -24,7 +24,7 @@ use std::alloc::{AllocError, Global};
 pub struct Walk {
     alloc: Global,
     /// What is checked beside what each audit checks.
-    further: Option<NewCodes>,
+    further: Further,
     stand: Stand,
     /// The name that the walk begins at, in the directory at its last place, until it has begun.
     first: Option<Name>,
@@ -45,7 +45,7 @@ impl Drop for Walk {
 
 impl Walk {
     ghost use Rattle.ocfl_walk.specs.Walks.{Gives, GivesOut, GoesOn};
-    ghost use Rattle.ocfl_walk.specs.Walks.{OpensInventories, Stands, last_of};
+    ghost use Rattle.ocfl_walk.specs.Walks.{OpensInventories, Stands, further_of, last_of};
 
     /// A walk over the items above a place, whether or not there is one at it, or over all of them.
     ///
@@ -56,7 +56,7 @@ impl Walk {
     pub fn start<T: Tree>(
         alloc: Global,
         store: &mut T,
-        further: Option<NewCodes>,
+        further: Further,
         after: Option<&Place>,
     ) -> Result<Walk, Fault>
         ensures last { IfOk result (λ walk. last_of walk ≡ option_map (λ p. p.now) after.entry) }
@@ -101,7 +101,7 @@ impl Walk {
     pub fn start_at<T: Tree>(
         alloc: Global,
         store: &mut T,
-        further: Option<NewCodes>,
+        further: Further,
         from: &Place,
     ) -> Result<Walk, Fault>
         ensures last { IfOk result (λ walk. last_of walk ≡ directory_of from.now) }
@@ -128,6 +128,13 @@ impl Walk {
         })
     }
 
+    /// What its audit checks beside what every audit checks.
+    pub fn further(&self) -> Further
+        ensures { result ≡ further_of self.now }
+    {
+        self.further
+    }
+
     /// The walk after its next item, and that item; `None` if there are no more, then and at each
     /// further call.
     ///
@@ -139,7 +146,7 @@ impl Walk {
     pub fn next<T: Tree>(self, store: &mut T) -> Result<(Walk, Option<Pending>), Fault>
         ensures goes_on { IfOk result (λ o. GoesOn self o.0 o.1) }
         ensures told { IfTold T.told (T.state store.old) (λ root.
-            (further : Further) (last : Option Spot) → Stands further root self last
+            (further : ModelFurther) (last : Option Spot) → Stands further root self last
             → MatchResult result
             (λ o. Gives further root (T.state store.old) (T.state store.new) last o.0 o.1)
             (λ why. WalkFails further root (T.state store.old) (T.state store.new) last why)) }
@@ -162,7 +169,7 @@ impl Walk {
         ensures goes_on { IfOk result (λ o. GoesOn self o.0 o.1) }
         ensures before { IfOk result (λ o. IfSome o.1 (λ p. is_past end.now p.place ≡ false)) }
         ensures told { IfTold T.told (T.state store.old) (λ root.
-            (further : Further) (last : Option Spot) → Stands further root self last
+            (further : ModelFurther) (last : Option Spot) → Stands further root self last
             → MatchResult result
             (λ o. GivesOut further root (T.state store.old) (T.state store.new) last end.now o.0
             o.1)

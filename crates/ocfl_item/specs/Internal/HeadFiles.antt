@@ -3,12 +3,12 @@ use Rattle.std.specs.Prelude.{ℕ, List, Option, Some, None, true, Result, Match
 use Rattle.ocfl_tree.specs.{Place.{Text, Place}, StorageRoot.{StorageRoot, file_at}}
 use Rattle.ocfl_tree.specs.{Store.{Store, Did}, declared.store.Opening.{Opening}}
 use Rattle.ocfl_tree.specs.declared.store.Entry.{Entry}
+use Rattle.ocfl_report.specs.declared.further.Further.{Further}
 use Rattle.ocfl_digest.specs.{Bounded.{IsBoundedTo}, declared.bounded.Bounded.{Bounded}}
 use Rattle.ocfl_digest.specs.declared.algorithm.Algorithm.TheVariants.{Sha256, Sha512}
 use Rattle.ocfl_inventory.specs.Declaration.{Declared, undeclared, known, unknown, several, declaration_name}
 use Rattle.ocfl_inventory.specs.declared.declaration.Level.TheVariants.{Object}
 use Rattle.ocfl_inventory.specs.{declared.declaration.Version.{Version}, Table.{Table, table_of}}
-use Rattle.ocfl_rules.specs.Inventories.{Further}
 use Rattle.ocfl_rules.specs.{Zone.{inventory_name, inventory_limit}, Head.{sidecar_name}}
 use Rattle.ocfl_rules.specs.Trail.{is_meta, places_of}
 use Rattle.ocfl_item.specs.{Looking.{IsFront}, Around.{TellOfSidecars}, Auditing.{IsMetadataRead}}

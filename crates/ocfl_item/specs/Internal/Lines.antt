@@ -2,10 +2,11 @@
 use Rattle.std.specs.Prelude.{List, Bool, false, Option, Some, None, map, codes, ◌≡◌, ◌≢◌, [], ◌++◌}
 use Rattle.std.specs.Ordering.{is_eq}
 use Rattle.ocfl_tree.specs.StorageRoot.{StorageRoot}
+use Rattle.ocfl_report.specs.declared.further.Further.{Further}
 use Rattle.ocfl_inventory.specs.{Note.{note, Note}, Remark.{remark_view}, Table.{Named}}
 use Rattle.ocfl_digest.specs.Algorithm.{algorithm_name}
 use Rattle.ocfl_item.specs.declared.lines.PlaceLines.{PlaceLines}
-use Rattle.ocfl_rules.specs.Inventories.{Further, notes, is_hashed}
+use Rattle.ocfl_rules.specs.Inventories.{notes, is_hashed}
 use Rattle.ocfl_rules.specs.Lines.{block_cmp, block_code}
 
 -- these are the lines

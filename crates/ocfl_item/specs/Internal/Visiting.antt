@@ -6,6 +6,8 @@ use Rattle.ocfl_tree.specs.{Listing.{kind_of, IsListing}, declared.store.Entry.{
 use Rattle.ocfl_tree.specs.{declared.store.Kind.{Kind}, Store.{Store, Did}}
 use Rattle.ocfl_tree.specs.declared.store.Opening.{Opening}
 use Rattle.ocfl_tree.specs.declared.store.Kind.TheVariants as kind
+use Rattle.ocfl_report.specs.declared.further.Further.{Further}
+use Rattle.ocfl_report.specs.declared.further.Further.TheVariants.{Nothing, Inventories}
 use Rattle.ocfl_inventory.specs.{Note.{Note, plain}, Declaration.{undeclared}}
 use Rattle.ocfl_inventory.specs.Entries.{meaning, PointsAtOne}
 use Rattle.ocfl_inventory.specs.declared.declaration.Declared.{Declared as MadeDeclared}
@@ -13,7 +15,7 @@ use Rattle.ocfl_inventory.specs.{Table.{Table}, ListedPath.{is_version_name}}
 use Rattle.ocfl_inventory.specs.declared.declaration.Level.TheVariants as level
 use Rattle.ocfl_rules.specs.Zone.{hierarchy, inside, zone, table_at, inventory_name, is_entered, is_listed_zone, object_declared, root_declared, beginnings, is_declared, max_listed_depth}
 use Rattle.ocfl_rules.specs.Lines.{listed_dir_notes}
-use Rattle.ocfl_rules.specs.Inventories.{Further, notes, is_hashed}
+use Rattle.ocfl_rules.specs.Inventories.{notes, is_hashed}
 use Rattle.ocfl_rules.specs.Between.{is_looked_into}
 use Rattle.ocfl_rules.specs.Walk.{seen_names}
 use Rattle.ocfl_rules.specs.Head.{on}
@@ -39,10 +41,10 @@ pub record IsPlainAt (further : Further) (root : StorageRoot) (e : Place) (ns : 
 
 -- whether an entry of a version directory is an inventory that is checked
 abbrev pub is_checked : Further → Text → Kind → Bool
-is_checked None n k = false
-is_checked (Some c) n kind.File = text_eq n inventory_name
-is_checked (Some c) n kind.Dir = false
-is_checked (Some c) n kind.Other = false
+is_checked Nothing n k = false
+is_checked Inventories n kind.File = text_eq n inventory_name
+is_checked Inventories n kind.Dir = false
+is_checked Inventories n kind.Other = false
 
 -- the inventory in the directory of the version v of an object whose head does not stop
 pub record IsInventoryAt (root : StorageRoot) (e o : Place) (v : Text) : Type 0 where

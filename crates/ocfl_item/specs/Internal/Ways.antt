@@ -6,11 +6,12 @@ use Rattle.ocfl_tree.specs.{Place.{Place}, StorageRoot.{StorageRoot}, Store.{Sto
 use Rattle.ocfl_tree.specs.{Listing.{IsListing}, declared.store.Entry.{Entry}}
 use Rattle.ocfl_tree.specs.{declared.store.Kind.{Kind}, declared.store.Opening.{Opening}}
 use Rattle.ocfl_tree.specs.declared.store.Trouble.{Trouble}
+use Rattle.ocfl_report.specs.declared.further.Further.{Further}
 use Rattle.ocfl_inventory.specs.Entries.{meaning, PointsAtOne}
 use Rattle.ocfl_inventory.specs.declared.declaration.Declared.{Declared as MadeDeclared}
 use Rattle.ocfl_inventory.specs.Table.{Table}
 use Rattle.ocfl_rules.specs.Zone.{inside, zone, is_entered, object_declared, table_at, beginnings}
-use Rattle.ocfl_rules.specs.Inventories.{Further, notes}
+use Rattle.ocfl_rules.specs.Inventories.{notes}
 use Rattle.ocfl_rules.specs.Head.{on}
 use Rattle.ocfl_rules.specs.Trail.{content_trail, heads_of, reads_inventory}
 use Rattle.ocfl_item.specs.{Looking.{IsFront}, Auditing.{IsMetadataRead}, Internal.Lines.{HasLines}}

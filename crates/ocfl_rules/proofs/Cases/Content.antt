@@ -1,8 +1,9 @@
 -- Worked cases: the content of objects, and what else is in them.
-use Rattle.std.proofs.Common.{◌≡◌, ap, List, [], ◌∷◌, ◌++◌, codes, refl, true, map, None}
+use Rattle.std.proofs.Common.{◌≡◌, ap, List, [], ◌∷◌, ◌++◌, codes, refl, true, map}
 use Prim.Native.String.{String}
 use Rattle.ocfl_tree.specs.{Place.{Text}, StorageRoot.{StorageRoot, file}}
 use Rattle.ocfl_report.specs.{Line.{found}, Text.{text}}
+use Rattle.ocfl_report.specs.declared.further.Further.TheVariants.{Nothing}
 use Rattle.ocfl_digest.specs.declared.algorithm.Algorithm.{Algorithm}
 use Rattle.ocfl_digest.specs.declared.algorithm.Algorithm.TheVariants.{Md5, Sha1, Sha256, Sha512, Sha512_256}
 use Rattle.ocfl_rules.specs.{Head.{digest_of}, Audit.{audit, total_cost}}
@@ -28,7 +29,7 @@ digests_of_no_bytes = (refl, refl, refl, refl, refl)
 
 -- ---- a file and its digests
 
-cost_of_right_file : map (λ i. i.cost) (audit None sha512_file []) ≡ 0 ∷ 0 ∷ 4 ∷ []
+cost_of_right_file : map (λ i. i.cost) (audit Nothing sha512_file []) ≡ 0 ∷ 0 ∷ 4 ∷ []
 unfolding audit_on_literals
 cost_of_right_file = ap (map (λ i. i.cost)) (audit_512 sha512_file_listing f_is_abc [])
 
@@ -47,7 +48,7 @@ abbrev empty_file : StorageRoot
 empty_file = sha256_object empty_file_listing empty_file_content
 
 -- one file to be opened, of cost one
-empty_file_is_hashed_once : (hashed_among None empty_file (item_places None empty_file) ≡ place "o/v1/content/f" ∷ []) × (total_cost (audit None empty_file []) ≡ 1)
+empty_file_is_hashed_once : (hashed_among Nothing empty_file (item_places Nothing empty_file) ≡ place "o/v1/content/f" ∷ []) × (total_cost (audit Nothing empty_file []) ≡ 1)
 unfolding audit_on_literals hashed_among item_places
 empty_file_is_hashed_once = (refl, refl)
 
@@ -58,11 +59,11 @@ wrong_in_fixity_listing = listing_with lists_f (codes "{\"md5\":{\"d41d8cd98f00b
 abbrev wrong_in_fixity : StorageRoot
 wrong_in_fixity = sha256_object wrong_in_fixity_listing f_is_abc
 
-cost_of_fixity_mismatch : (total_cost (audit None wrong_in_fixity []) ≡ 4) × (found (audit None wrong_in_fixity []) ≡ true)
+cost_of_fixity_mismatch : (total_cost (audit Nothing wrong_in_fixity []) ≡ 4) × (found (audit Nothing wrong_in_fixity []) ≡ true)
 unfolding audit_on_literals
 cost_of_fixity_mismatch = (refl, refl)
 
-cost_of_named_by_fixity_alone : map (λ i. i.cost) (audit None (sha256_object (listing_with [] (codes "{\"md5\":{\"900150983cd24fb0d6963f7d28e17f72\":[\"v1/content/f\"]}}")) f_is_abc) []) ≡ 0 ∷ 0 ∷ 4 ∷ []
+cost_of_named_by_fixity_alone : map (λ i. i.cost) (audit Nothing (sha256_object (listing_with [] (codes "{\"md5\":{\"900150983cd24fb0d6963f7d28e17f72\":[\"v1/content/f\"]}}")) f_is_abc) []) ≡ 0 ∷ 0 ∷ 4 ∷ []
 unfolding audit_on_literals
 cost_of_named_by_fixity_alone = refl
 
@@ -127,7 +128,7 @@ fifth_algorithm : AllAre fifth_algorithm_cases
 unfolding audit_on_literals
 fifth_algorithm = quickly fifth_algorithm_cases refl
 
-cost_of_fifth_algorithm : (map (λ i. i.cost) (audit None fifth_alone []) ≡ 0 ∷ 0 ∷ 4 ∷ []) × (hashed_among None fifth_alone (item_places None fifth_alone) ≡ place "o/v1/content/f" ∷ [])
+cost_of_fifth_algorithm : (map (λ i. i.cost) (audit Nothing fifth_alone []) ≡ 0 ∷ 0 ∷ 4 ∷ []) × (hashed_among Nothing fifth_alone (item_places Nothing fifth_alone) ≡ place "o/v1/content/f" ∷ [])
 unfolding audit_on_literals hashed_among item_places
 cost_of_fifth_algorithm = (refl, refl)
 
@@ -135,13 +136,13 @@ cost_of_fifth_algorithm = (refl, refl)
 
 -- the lines of one place
 abbrev shows : String → StorageRoot → String → String → Case
-shows name root p t = case name (text (item_at None root [] (place p))) (codes t)
+shows name root p t = case name (text (item_at Nothing root [] (place p))) (codes t)
 
 -- the same with an unlisted file
 abbrev with_unlisted : StorageRoot
 with_unlisted = sha512_file ++ text_at "o/v1/content/g" "abc" ∷ []
 
-unlisted_file_is_not_hashed : hashed_among None with_unlisted (item_places None with_unlisted) ≡ place "o/v1/content/f" ∷ []
+unlisted_file_is_not_hashed : hashed_among Nothing with_unlisted (item_places Nothing with_unlisted) ≡ place "o/v1/content/f" ∷ []
 unfolding audit_on_literals hashed_among item_places
 unlisted_file_is_not_hashed = refl
 
@@ -175,7 +176,7 @@ files_that_nothing_names = quickly files_that_nothing_names_cases refl
 
 -- ---- paths where no file is
 
-cost_of_missing_and_right_files : map (λ i. i.cost) (audit None missing_and_right []) ≡ 0 ∷ 0 ∷ 0 ∷ 4 ∷ []
+cost_of_missing_and_right_files : map (λ i. i.cost) (audit Nothing missing_and_right []) ≡ 0 ∷ 0 ∷ 0 ∷ 4 ∷ []
 unfolding audit_on_literals
 cost_of_missing_and_right_files = ap (map (λ i. i.cost)) (audit_256 missing_and_right_listing missing_and_right_content [])
 
@@ -203,13 +204,13 @@ paths_without_file = quickly paths_without_file_cases refl
 
 -- ---- directories and links in content
 
-cost_of_listed_empty_directory : total_cost (audit None (sha256_object (listing (key (abc Sha256) "[\"v1/content/d\"]" ∷ [])) (folder "o/v1/content/d" ∷ [])) []) ≡ 0
+cost_of_listed_empty_directory : total_cost (audit Nothing (sha256_object (listing (key (abc Sha256) "[\"v1/content/d\"]" ∷ [])) (folder "o/v1/content/d" ∷ [])) []) ≡ 0
 unfolding audit_on_literals
 cost_of_listed_empty_directory = refl
 
 -- nor does a link cost anything, and it is not hashed
 cost_of_listed_link : let root : StorageRoot = sha256_object (listing lists_f) (link "o/v1/content/f" ∷ []) in
-    (total_cost (audit None root []) ≡ 0) × (hashed_among None root (item_places None root) ≡ [])
+    (total_cost (audit Nothing root []) ≡ 0) × (hashed_among Nothing root (item_places Nothing root) ≡ [])
 unfolding audit_on_literals hashed_among item_places
 cost_of_listed_link = (refl, refl)
 

@@ -4,6 +4,7 @@ use Prim.Native.String.{String}
 use Rattle.serde_json.specs.Data.{null, no_members, member}
 use Rattle.ocfl_tree.specs.{Place.{Text, Place}, StorageRoot.{StorageRoot}}
 use Rattle.ocfl_report.specs.{Line.{found}, declared.code.Code.TheVariants.{S02}}
+use Rattle.ocfl_report.specs.declared.further.Further.TheVariants.{Nothing}
 use Rattle.ocfl_inventory.specs.{Note.{plain}, Reading.{unsupported_in}, Sidecar.{sidecar_of}}
 use Rattle.ocfl_inventory.specs.Table.{table_of}
 use Rattle.ocfl_digest.specs.declared.algorithm.Algorithm.TheVariants.{Md5, Sha1, Sha256, Sha512_256}
@@ -222,7 +223,7 @@ content_directories = quickly content_directories_cases refl
 -- ---- the manifest and the fixity block as values
 
 -- Seen to refuse: S07 is a finding.
-unsupported_fixity_is_no_finding : found (audit None (sha256_object (listing_with lists_f (codes "{\"blake2b-512\":7}")) f_is_abc) []) ≡ false
+unsupported_fixity_is_no_finding : found (audit Nothing (sha256_object (listing_with lists_f (codes "{\"blake2b-512\":7}")) f_is_abc) []) ≡ false
 unfolding audit_on_literals
 unsupported_fixity_is_no_finding = refl
 

@@ -3,6 +3,7 @@ use Rattle.std.proofs.Common.{◌≡◌, ◌++◌, List, [], ◌∷◌, codes, r
 use Prim.Native.String.{String}
 use Rattle.ocfl_tree.specs.Place.{Text}
 use Rattle.ocfl_report.specs.{Line.{Item}, Text.{text}}
+use Rattle.ocfl_report.specs.declared.further.Further.TheVariants.{Nothing}
 use Rattle.ocfl_rules.specs.Audit.{Unread, audit, after, total_cost}
 use Rattle.ocfl_rules.specs.{Due.{item_places, hashed_among}, Runs.{runs, of_budget}}
 use Rattle.ocfl_rules.specs.Parts.{Part, branch, within, places_within, parts_of, costs_of, file_counts, together, branch_end, enclosed}
@@ -27,7 +28,7 @@ part_from p = record { under = []; from = Some (place p); below = None }
 -- the item at a separator belongs to the part that it begins
 -- Seen to refuse: the item at a separator is in neither part; the first part leaves out the
 -- storage root's item; a part without an end loses its last item.
-at_items : cut_at ("o/v1/content/a" ∷ "o/v1/content/b" ∷ []) (audit None three_files []) ≡ codes "ok\t.\t-\nok\to\t-\n" ∷ codes "ok\to/v1/content/a\t3\n" ∷ codes
+at_items : cut_at ("o/v1/content/a" ∷ "o/v1/content/b" ∷ []) (audit Nothing three_files []) ≡ codes "ok\t.\t-\nok\to\t-\n" ∷ codes "ok\to/v1/content/a\t3\n" ∷ codes
     "ok\to/v1/content/b\t0\nok\to/v1/content/c\t3\n" ∷ []
 at_items = rw items_of_three_files refl
 
@@ -36,14 +37,14 @@ costs_at_items : (costs_of (parts_of (map place ("o/v1/content/a" ∷ "o/v1/cont
 costs_at_items = (refl, refl)
 
 -- Seen to refuse: the first part leaves out the storage root's item.
-at_no_item : cut_at ("o/v1/content/aa" ∷ []) (audit None three_files []) ≡ codes "ok\t.\t-\nok\to\t-\nok\to/v1/content/a\t3\n" ∷ codes "ok\to/v1/content/b\t0\nok\to/v1/content/c\t3\n" ∷ []
+at_no_item : cut_at ("o/v1/content/aa" ∷ []) (audit Nothing three_files []) ≡ codes "ok\t.\t-\nok\to\t-\nok\to/v1/content/a\t3\n" ∷ codes "ok\to/v1/content/b\t0\nok\to/v1/content/c\t3\n" ∷ []
 at_no_item = rw items_of_three_files refl
 
-no_separators : cut_at [] (audit None three_files []) ≡ text (audit None three_files []) ∷ []
+no_separators : cut_at [] (audit Nothing three_files []) ≡ text (audit Nothing three_files []) ∷ []
 no_separators = refl
 
 -- Seen to refuse: the item at a separator is in neither part.
-at_the_root : map (λ part. within part (audit None three_files [])) (parts_of ([] ∷ [])) ≡ [] ∷ three_items ∷ []
+at_the_root : map (λ part. within part (audit Nothing three_files [])) (parts_of ([] ∷ [])) ≡ [] ∷ three_items ∷ []
 at_the_root = rw items_of_three_files refl
 
 -- above the last item nothing is left
@@ -72,17 +73,17 @@ above_a_place_behind_a_part : after (within (part_below "o/v1/content/b") three_
 above_a_place_behind_a_part = refl
 
 -- the hashed files of each part
-hashed_in_parts : map (λ part. hashed_among None three_files (places_within part (item_places None three_files))) (parts_of (map place ("o/v1/content/b" ∷ [])))
+hashed_in_parts : map (λ part. hashed_among Nothing three_files (places_within part (item_places Nothing three_files))) (parts_of (map place ("o/v1/content/b" ∷ [])))
     ≡ (place "o/v1/content/a" ∷ []) ∷ (place "o/v1/content/b" ∷ place "o/v1/content/c" ∷ []) ∷ []
 unfolding audit_on_literals hashed_among item_places
 hashed_in_parts = refl
 
 -- ---- a slash before a dash
 
-at_the_directory : cut_at ("o/v1/content/a" ∷ []) (audit None slash_and_dash []) ≡ codes "ok\t.\t-\nok\to\t-\n" ∷ codes "ok\to/v1/content/a/b\t3\nok\to/v1/content/a-b\t3\n" ∷ []
+at_the_directory : cut_at ("o/v1/content/a" ∷ []) (audit Nothing slash_and_dash []) ≡ codes "ok\t.\t-\nok\to\t-\n" ∷ codes "ok\to/v1/content/a/b\t3\nok\to/v1/content/a-b\t3\n" ∷ []
 at_the_directory = rw items_of_slash_and_dash refl
 
-at_the_dash : cut_at ("o/v1/content/a-b" ∷ []) (audit None slash_and_dash []) ≡ codes "ok\t.\t-\nok\to\t-\nok\to/v1/content/a/b\t3\n" ∷ codes "ok\to/v1/content/a-b\t3\n" ∷ []
+at_the_dash : cut_at ("o/v1/content/a-b" ∷ []) (audit Nothing slash_and_dash []) ≡ codes "ok\t.\t-\nok\to\t-\nok\to/v1/content/a/b\t3\n" ∷ codes "ok\to/v1/content/a-b\t3\n" ∷ []
 at_the_dash = rw items_of_slash_and_dash refl
 
 -- the branch of `a` goes by names: `a-b` is not in it
@@ -101,7 +102,7 @@ enclosed_is_the_middle = refl
 -- ---- a missing file, and one that is right
 
 -- both lines of the missing file are in one part
-at_the_missing_file : cut_at ("o/v1/content/a" ∷ []) (audit None missing_and_right []) ≡ codes "ok\t.\t-\nok\to\t-\n" ∷ codes
+at_the_missing_file : cut_at ("o/v1/content/a" ∷ []) (audit Nothing missing_and_right []) ≡ codes "ok\t.\t-\nok\to\t-\n" ∷ codes
     "E092\to/v1/content/a\tsha256 missing\nE093\to/v1/content/a\tsha1 missing\nok\to/v1/content/b\t3\n" ∷ []
 at_the_missing_file = rw items_around_a_missing_file refl
 
@@ -110,16 +111,16 @@ at_the_missing_file = rw items_around_a_missing_file refl
 abbrev object_items : List Item
 object_items = the_root ∷ clean "o1" ∷ right "o1/v1/content/f" 4 "3" ∷ clean "o2" ∷ right "o2/v1/content/f" 4 "3" ∷ clean "o3" ∷ right "o3/v1/content/f" 4 "3" ∷ []
 
-items_of_three_objects : audit None three_objects [] ≡ object_items
+items_of_three_objects : audit Nothing three_objects [] ≡ object_items
 unfolding audit_on_literals
 items_of_three_objects = refl
 
 -- a separator at an object leaves it whole
-at_an_object : cut_at ("o2" ∷ []) (audit None three_objects []) ≡ codes "ok\t.\t-\nok\to1\t-\nok\to1/v1/content/f\t3\n" ∷ codes "ok\to2\t-\nok\to2/v1/content/f\t3\nok\to3\t-\nok\to3/v1/content/f\t3\n" ∷ []
+at_an_object : cut_at ("o2" ∷ []) (audit Nothing three_objects []) ≡ codes "ok\t.\t-\nok\to1\t-\nok\to1/v1/content/f\t3\n" ∷ codes "ok\to2\t-\nok\to2/v1/content/f\t3\nok\to3\t-\nok\to3/v1/content/f\t3\n" ∷ []
 at_an_object = rw items_of_three_objects refl
 
 -- and one inside it parts its head from its file
-inside_an_object : cut_at ("o2/v1/content/f" ∷ []) (audit None three_objects []) ≡ codes "ok\t.\t-\nok\to1\t-\nok\to1/v1/content/f\t3\nok\to2\t-\n" ∷ codes
+inside_an_object : cut_at ("o2/v1/content/f" ∷ []) (audit Nothing three_objects []) ≡ codes "ok\t.\t-\nok\to1\t-\nok\to1/v1/content/f\t3\nok\to2\t-\n" ∷ codes
     "ok\to2/v1/content/f\t3\nok\to3\t-\nok\to3/v1/content/f\t3\n" ∷ []
 inside_an_object = rw items_of_three_objects refl
 
@@ -157,6 +158,6 @@ unread_together = refl
 abbrev joined_text : List Item → List Item → Text
 joined_text first second = text (within (part_below "o/v1/content/b") first) ++ text (within (part_from "o/v1/content/b") second)
 
-audits_apart : joined_text (audit None three_files first_unread) (audit None three_files second_unread) ≡ codes "ok\t.\t-\nok\to\t-\nS08\to/v1/content/a\t-\nS08\to/v1/content/b\t-\nok\to/v1/content/c\t3\n"
+audits_apart : joined_text (audit Nothing three_files first_unread) (audit Nothing three_files second_unread) ≡ codes "ok\t.\t-\nok\to\t-\nS08\to/v1/content/a\t-\nS08\to/v1/content/b\t-\nok\to/v1/content/c\t3\n"
 unfolding audit_on_literals
 audits_apart = λ k. joined_text (audit_256 three_files_listing three_files_content first_unread k) (audit_256 three_files_listing three_files_content second_unread k)

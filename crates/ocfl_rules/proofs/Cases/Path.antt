@@ -5,6 +5,7 @@ use Rattle.std.specs.List.{join_with_byte}
 use Rattle.ocfl_tree.specs.Place.{Text}
 use Rattle.ocfl_report.specs.{Text.{text}, declared.code.Code.{Code}}
 use Rattle.ocfl_report.specs.declared.code.Code.TheVariants.{E099, E100, S06}
+use Rattle.ocfl_report.specs.declared.further.Further.TheVariants.{Nothing}
 use Rattle.ocfl_inventory.specs.ListedPath.{path_fault}
 use Rattle.ocfl_digest.specs.declared.algorithm.Algorithm.TheVariants.{Sha256}
 use Rattle.ocfl_rules.specs.Audit.{audit}
@@ -158,12 +159,12 @@ with_content d path = codes "{\"digestAlgorithm\":\"sha256\",\"contentDirectory\
     "\",\"manifest\":{\"ba7816bf8f01cfea414140de5dae2223b00361a396177a9cb410ff61f20015ad\":[\"" ++ path ++ codes "\"]}}"
 
 -- stops nothing, but no path can be in it
-content_directory_longer_than_a_name : text (audit None (sha256_object (with_content (replicate 256 97) (codes "v1/" ++ replicate 256 97 ++ codes "/f")) []) [])
+content_directory_longer_than_a_name : text (audit Nothing (sha256_object (with_content (replicate 256 97) (codes "v1/" ++ replicate 256 97 ++ codes "/f")) []) [])
     ≡ codes "ok\t.\t-\nS06\to\tv1/" ++ replicate 256 97 ++ codes "/f\n"
 unfolding audit_on_literals
 content_directory_longer_than_a_name = refl
 
-content_directory_with_nul : text (audit None (sha256_object (with_content (codes "a\\u0000") (codes "v1/a\\u0000/f")) []) []) ≡ codes "ok\t.\t-\nS06\to\tv1/a%00/f\n"
+content_directory_with_nul : text (audit Nothing (sha256_object (with_content (codes "a\\u0000") (codes "v1/a\\u0000/f")) []) []) ≡ codes "ok\t.\t-\nS06\to\tv1/a%00/f\n"
 unfolding audit_on_literals
 content_directory_with_nul = refl
 

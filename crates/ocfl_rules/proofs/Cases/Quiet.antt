@@ -1,10 +1,11 @@
 -- Worked cases of objects with a right sidecar, whose digest is not computed: it has no lines,
 -- whatever it is.
-use Rattle.std.proofs.Common.{◌≡◌, List, [], ◌∷◌, ◌++◌, codes, refl, ◌∙◌, ap, Bool, true, false, append-nil, None}
+use Rattle.std.proofs.Common.{◌≡◌, List, [], ◌∷◌, ◌++◌, codes, refl, ◌∙◌, ap, Bool, true, false, append-nil}
 use Rattle.std.specs.Prelude.{◌&&◌}
 use Prim.Native.String.{String}
 use Rattle.ocfl_tree.specs.{Place.{Text, Place}, StorageRoot.{StorageRoot}}
 use Rattle.ocfl_report.specs.{Line.{Item}, Text.{text}, declared.code.Code.TheVariants.{E058}}
+use Rattle.ocfl_report.specs.declared.further.Further.TheVariants.{Nothing}
 use Rattle.ocfl_inventory.specs.Note.{Note, plain}
 use Rattle.ocfl_digest.specs.declared.algorithm.Algorithm.TheVariants.{Sha256, Sha512}
 use Rattle.ocfl_rules.specs.Head.{on, sidecar_at, sidecar_notes, sidecars_notes, is_sidecar_missing}
@@ -31,7 +32,7 @@ quick_256 inventory more unread = let root = sha256_object inventory more in aud
 abbrev pub quick_512 : Text → StorageRoot → Unread → List Item
 quick_512 inventory more unread = let root = sha512_object inventory more in audit_beside (beside_512 inventory root) root unread o inventory
 
-pub audit_256 : (inventory : Text) (more : StorageRoot) (unread : Unread) → audit None (sha256_object inventory more) unread ≡ quick_256 inventory more unread
+pub audit_256 : (inventory : Text) (more : StorageRoot) (unread : Unread) → audit Nothing (sha256_object inventory more) unread ≡ quick_256 inventory more unread
 audit_256 inventory more unread = audit_is root (codes "o") [] inventory (beside_256 inventory root) refl those unread
   where
     root : StorageRoot
@@ -40,7 +41,7 @@ audit_256 inventory more unread = audit_is root (codes "o") [] inventory (beside
     those : sidecars_notes root o inventory ≡ beside_256 inventory root
     those = ap (λ ns. ns ++ beside_256 inventory root) (right_256_is_quiet inventory)
 
-pub audit_512 : (inventory : Text) (more : StorageRoot) (unread : Unread) → audit None (sha512_object inventory more) unread ≡ quick_512 inventory more unread
+pub audit_512 : (inventory : Text) (more : StorageRoot) (unread : Unread) → audit Nothing (sha512_object inventory more) unread ≡ quick_512 inventory more unread
 audit_512 inventory more unread = audit_is root (codes "o") [] inventory (beside_512 inventory root) refl those unread
   where
     root : StorageRoot
@@ -68,10 +69,10 @@ told name items quick is_quick wanted = record {
 
 -- the text of the audit of such an object
 abbrev pub told_256 : String → Text → StorageRoot → Text → Case
-told_256 name inventory more wanted = told name (audit None (sha256_object inventory more) []) (quick_256 inventory more []) (audit_256 inventory more []) wanted
+told_256 name inventory more wanted = told name (audit Nothing (sha256_object inventory more) []) (quick_256 inventory more []) (audit_256 inventory more []) wanted
 
 abbrev pub reports_256 : String → Text → StorageRoot → String → Case
 reports_256 name inventory more t = told_256 name inventory more (codes t)
 
 abbrev pub reports_512 : String → Text → StorageRoot → String → Case
-reports_512 name inventory more t = told name (audit None (sha512_object inventory more) []) (quick_512 inventory more []) (audit_512 inventory more []) (codes t)
+reports_512 name inventory more t = told name (audit Nothing (sha512_object inventory more) []) (quick_512 inventory more []) (audit_512 inventory more []) (codes t)

@@ -5,6 +5,7 @@ use Rattle.ocfl_tree.specs.Place.{Text, Place, place_cmp, text_cmp}
 use Rattle.ocfl_tree.specs.{StorageRoot.{StorageRoot, file, dir, other, is_dir}, Name.{IsPlace}}
 use Rattle.ocfl_report.specs.{Line.{found}, Text.{escape, place_text}}
 use Rattle.ocfl_report.specs.declared.code.Code.TheVariants.{E001, E024, E072, E073, S04, S05}
+use Rattle.ocfl_report.specs.declared.further.Further.TheVariants.{Nothing}
 use Rattle.ocfl_inventory.specs.{Note.{plain}, Declaration.{undeclared, declared}}
 use Rattle.ocfl_inventory.specs.{declared.declaration.Level.TheVariants.{Object}, Table.{Table}}
 use Rattle.ocfl_digest.specs.declared.algorithm.Algorithm.TheVariants.{Sha256}
@@ -17,11 +18,11 @@ use Rattle.ocfl_rules.proofs.Cases.Trees.{AllAre, reports, place, text_at, bytes
 
 -- ---- the declaration of the storage root
 
-declared_root_is_no_finding : found (audit None (storage_root []) []) ≡ false
+declared_root_is_no_finding : found (audit Nothing (storage_root []) []) ≡ false
 unfolding audit_on_literals
 declared_root_is_no_finding = refl
 
-empty_root_is_finding : found (audit None [] []) ≡ true
+empty_root_is_finding : found (audit Nothing [] []) ≡ true
 unfolding audit_on_literals
 empty_root_is_finding = refl
 
@@ -165,7 +166,7 @@ directory_too_deep root = refl
 
 -- also in the audit, wherever one is seen in the hierarchy
 -- Seen to refuse: empty before too deep.
-seen_directory_too_deep : (root : StorageRoot) → zone root (deep 128) ≡ hierarchy → seen root (deep 128) ≡ Some dir → notes None root None (deep 128) ≡ plain S05 ∷ []
+seen_directory_too_deep : (root : StorageRoot) → zone root (deep 128) ≡ hierarchy → seen root (deep 128) ≡ Some dir → notes Nothing root None (deep 128) ≡ plain S05 ∷ []
 seen_directory_too_deep root where_it_lies is_seen = rw (where_it_lies, is_seen)
 
 -- files and links there have their lines

@@ -5,6 +5,7 @@ use Prim.Native.String.{String}
 use Rattle.ocfl_tree.specs.{Place.{Text}, StorageRoot.{StorageRoot}}
 use Rattle.ocfl_report.specs.{Line.{Item, found}, declared.code.Code.TheVariants.{E023, E092, E093}}
 use Rattle.ocfl_report.specs.Text.{text, place_text}
+use Rattle.ocfl_report.specs.declared.further.Further.TheVariants.{Nothing}
 use Rattle.ocfl_inventory.specs.Note.{note, plain}
 use Rattle.ocfl_digest.specs.declared.algorithm.Algorithm.TheVariants.{Sha256}
 use Rattle.ocfl_rules.specs.{Audit.{audit, after, total_cost}, Trail.{inventories}}
@@ -23,7 +24,7 @@ costs items budgets = map total_cost (runs items (map of_budget budgets))
 
 -- ---- a storage root alone
 
-items_of_a_bare_root : audit None (storage_root []) [] ≡ the_root ∷ []
+items_of_a_bare_root : audit Nothing (storage_root []) [] ≡ the_root ∷ []
 unfolding audit_on_literals
 items_of_a_bare_root = refl
 
@@ -31,7 +32,7 @@ one_run_of_a_bare_root : (texts (the_root ∷ []) (1 ∷ []) ≡ codes "ok\t.\t-
 one_run_of_a_bare_root = (refl, refl, refl)
 
 -- what costs nothing takes one run, however many budgets there are
-one_run_where_nothing_costs : texts (audit None (storage_root (folder "x" ∷ [])) []) (1 ∷ 1 ∷ 1 ∷ []) ≡ codes "ok\t.\t-\nE073\tx\t-\n" ∷ []
+one_run_where_nothing_costs : texts (audit Nothing (storage_root (folder "x" ∷ [])) []) (1 ∷ 1 ∷ 1 ∷ []) ≡ codes "ok\t.\t-\nE073\tx\t-\n" ∷ []
 unfolding audit_on_literals
 one_run_where_nothing_costs = refl
 
@@ -40,7 +41,7 @@ one_run_where_nothing_costs = refl
 abbrev pub three_items : List Item
 three_items = the_root ∷ clean "o" ∷ right "o/v1/content/a" 4 "3" ∷ right "o/v1/content/b" 1 "0" ∷ right "o/v1/content/c" 4 "3" ∷ []
 
-pub items_of_three_files : audit None three_files [] ≡ three_items
+pub items_of_three_files : audit Nothing three_files [] ≡ three_items
 unfolding audit_on_literals
 items_of_three_files = audit_256 three_files_listing three_files_content []
 
@@ -160,7 +161,7 @@ places_of_the_first_run = (refl, refl)
 abbrev pub missing_items : List Item
 missing_items = the_root ∷ clean "o" ∷ item "o/v1/content/a" 0 (note E092 (codes "sha256 missing") ∷ note E093 (codes "sha1 missing") ∷ []) ∷ right "o/v1/content/b" 4 "3" ∷ []
 
-pub items_around_a_missing_file : audit None missing_and_right [] ≡ missing_items
+pub items_around_a_missing_file : audit Nothing missing_and_right [] ≡ missing_items
 unfolding audit_on_literals
 items_around_a_missing_file = audit_256 missing_and_right_listing missing_and_right_content []
 
@@ -196,7 +197,7 @@ listed_and_unlisted = sha256_object listed_and_unlisted_listing listed_and_unlis
 abbrev unlisted_items : List Item
 unlisted_items = the_root ∷ clean "o" ∷ right "o/v1/content/f" 4 "3" ∷ item "o/v1/content/z" 0 (plain E023 ∷ []) ∷ []
 
-items_beside_an_unlisted_file : audit None listed_and_unlisted [] ≡ unlisted_items
+items_beside_an_unlisted_file : audit Nothing listed_and_unlisted [] ≡ unlisted_items
 unfolding audit_on_literals
 items_beside_an_unlisted_file = audit_256 listed_and_unlisted_listing listed_and_unlisted_content []
 
@@ -214,7 +215,7 @@ unlisted_file_behind_the_file_limit = (refl, refl, refl)
 
 -- a run has a finding if its own items have one
 finding_of_one_run : map found (runs
-    (audit None (sha256_object (listing (key (abc Sha256) "[\"v1/content/a\",\"v1/content/c\"]" ∷ []))
+    (audit Nothing (sha256_object (listing (key (abc Sha256) "[\"v1/content/a\",\"v1/content/c\"]" ∷ []))
     (text_at "o/v1/content/a" "abc" ∷ text_at "o/v1/content/b" "" ∷ text_at "o/v1/content/c" "abc" ∷ [])) []) (of_budget 1 ∷ of_budget 1 ∷ [])) ≡ true ∷ false ∷ []
 unfolding audit_on_literals
 finding_of_one_run = refl
@@ -233,7 +234,7 @@ slash_and_dash = sha256_object slash_and_dash_listing slash_and_dash_content
 abbrev pub slash_items : List Item
 slash_items = the_root ∷ clean "o" ∷ right "o/v1/content/a/b" 4 "3" ∷ right "o/v1/content/a-b" 4 "3" ∷ []
 
-pub items_of_slash_and_dash : audit None slash_and_dash [] ≡ slash_items
+pub items_of_slash_and_dash : audit Nothing slash_and_dash [] ≡ slash_items
 unfolding audit_on_literals
 items_of_slash_and_dash = audit_256 slash_and_dash_listing slash_and_dash_content []
 
@@ -248,7 +249,7 @@ behind_the_slash = refl
 
 -- a run goes on to the head of the next object
 -- Seen to refuse: free items wait for the budget.
-runs_over_three_objects : texts (audit None three_objects []) (replicate 4 1) ≡ codes "ok\t.\t-\nok\to1\t-\nok\to1/v1/content/f\t3\nok\to2\t-\n" ∷ codes
+runs_over_three_objects : texts (audit Nothing three_objects []) (replicate 4 1) ≡ codes "ok\t.\t-\nok\to1\t-\nok\to1/v1/content/f\t3\nok\to2\t-\n" ∷ codes
     "ok\to2/v1/content/f\t3\nok\to3\t-\n" ∷ codes "ok\to3/v1/content/f\t3\n" ∷ []
 unfolding audit_on_literals
 runs_over_three_objects = refl
@@ -267,7 +268,7 @@ inventories_of_a_stopped_object = refl
 abbrev one_items : List Item
 one_items = the_root ∷ clean "o" ∷ right "o/v1/content/f" 4 "3" ∷ []
 
-items_of_one_file : audit None sha512_file [] ≡ one_items
+items_of_one_file : audit Nothing sha512_file [] ≡ one_items
 unfolding audit_on_literals
 items_of_one_file = audit_512 sha512_file_listing f_is_abc []
 

@@ -1,9 +1,10 @@
 -- Words to write the trees of worked cases with, and the digests that they name.
-use Rattle.std.proofs.Common.{◌≡◌, ◌==◌, ℕ, List, [], ◌∷◌, ◌++◌, codes, map, refl, ◌∙◌, None}
+use Rattle.std.proofs.Common.{◌≡◌, ◌==◌, ℕ, List, [], ◌∷◌, ◌++◌, codes, map, refl, ◌∙◌}
 use Rattle.std.specs.List.{join_with_byte, slice_split}
 use Prim.Native.String.{String}
 use Rattle.ocfl_tree.specs.{Place.{Text, Place}, StorageRoot.{StorageRoot, Leaf, file, dir, other}}
 use Rattle.ocfl_report.specs.{Line.{Item}, Text.{text}, declared.code.Code.TheVariants.{Clean}}
+use Rattle.ocfl_report.specs.declared.further.Further.TheVariants.{Nothing}
 use Rattle.ocfl_inventory.specs.Note.{note, Note, plain, lines_at}
 use Rattle.ocfl_digest.specs.declared.algorithm.Algorithm.{Algorithm}
 use Rattle.ocfl_digest.specs.declared.algorithm.Algorithm.TheVariants.{Md5, Sha1, Sha256, Sha512, Sha512_256}
@@ -39,7 +40,7 @@ case name shown wanted = record { name = name; shown = shown; quick = shown; is_
 
 -- the text of the audit of a tree in which each file can be read
 abbrev pub reports : String → StorageRoot → String → Case
-reports name root t = case name (text (audit None root [])) (codes t)
+reports name root t = case name (text (audit Nothing root [])) (codes t)
 
 -- ---- what is in a tree
 

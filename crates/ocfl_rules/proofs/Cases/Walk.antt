@@ -1,14 +1,15 @@
 -- Worked cases: the walk over a stack of listings and the table of one object.
-use Rattle.std.proofs.Common.{◌≡◌, ℕ, List, [], ◌∷◌, codes, refl, map, None}
+use Rattle.std.proofs.Common.{◌≡◌, ℕ, List, [], ◌∷◌, codes, refl, map}
 use Rattle.ocfl_tree.specs.{Place.{Text, Place}, StorageRoot.{StorageRoot}}
 use Rattle.ocfl_report.specs.Text.{text}
+use Rattle.ocfl_report.specs.declared.further.Further.TheVariants.{Nothing}
 use Rattle.ocfl_rules.specs.{Walk.{walk}, Stack.{taken, lists, listed_at}}
 use Rattle.ocfl_rules.proofs.Cases.OnLiterals.{audit_on_literals}
 use Rattle.ocfl_rules.proofs.Cases.Trees.{Case, case, AllAre, Behind, behind, behind_each, place, text_at, folder, storage_root, missing_and_right, three_objects, sha512_file}
 
 -- what a walk that enters a tree at a place takes from there on
 abbrev takes : StorageRoot → Behind → Case
-takes root b = case b.name (text (taken None 12 root [] (place b.place) (listed_at root [] (place b.place) []))) (codes b.lines)
+takes root b = case b.name (text (taken Nothing 12 root [] (place b.place) (listed_at root [] (place b.place) []))) (codes b.lines)
 
 -- ---- a file that is missing, and one that is right
 
@@ -24,7 +25,7 @@ directories_listed = refl
 
 -- what the walk has taken, and has listed, after n places
 abbrev taken_of_one_file : ℕ → Text
-taken_of_one_file n = text (taken None n sha512_file [] [] (listed_at sha512_file [] [] []))
+taken_of_one_file n = text (taken Nothing n sha512_file [] [] (listed_at sha512_file [] [] []))
 
 abbrev listed_of_one_file : ℕ → List Place
 listed_of_one_file n = lists n sha512_file [] (listed_at sha512_file [] [] [])
@@ -60,11 +61,11 @@ listed_behind_the_second_head = refl
 abbrev plain_tree : StorageRoot
 plain_tree = storage_root (folder "x" ∷ folder "y" ∷ text_at "y/z" "z" ∷ [])
 
-walk_through_the_hierarchy : text (walk None 4 plain_tree [] []) ≡ codes "ok\t.\t-\nE073\tx\t-\nE072\ty/z\t-\n"
+walk_through_the_hierarchy : text (walk Nothing 4 plain_tree [] []) ≡ codes "ok\t.\t-\nE073\tx\t-\nE072\ty/z\t-\n"
 unfolding audit_on_literals
 walk_through_the_hierarchy = refl
 
-walk_through_an_object : text (walk None 6 missing_and_right [] []) ≡ codes "ok\t.\t-\nok\to\t-\nE092\to/v1/content/a\tsha256 missing\nE093\to/v1/content/a\tsha1 missing\nok\to/v1/content/b\t3\n"
+walk_through_an_object : text (walk Nothing 6 missing_and_right [] []) ≡ codes "ok\t.\t-\nok\to\t-\nE092\to/v1/content/a\tsha256 missing\nE093\to/v1/content/a\tsha1 missing\nok\to/v1/content/b\t3\n"
 unfolding audit_on_literals
 walk_through_an_object = refl
 
@@ -73,6 +74,6 @@ unfolding audit_on_literals
 taken_from_the_hierarchy = refl
 
 -- what is under no directory is not there, for the walk as for the audit
-walk_without_directory : text (walk None 4 (storage_root (folder "a/b" ∷ text_at "a/b/0=ocfl_object_1.1" "ocfl_object_1.1\n" ∷ [])) [] []) ≡ codes "ok\t.\t-\n"
+walk_without_directory : text (walk Nothing 4 (storage_root (folder "a/b" ∷ text_at "a/b/0=ocfl_object_1.1" "ocfl_object_1.1\n" ∷ [])) [] []) ≡ codes "ok\t.\t-\n"
 unfolding audit_on_literals
 walk_without_directory = refl

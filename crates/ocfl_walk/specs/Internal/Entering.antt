@@ -4,8 +4,9 @@ use Rattle.std.specs.List.{AllByRecursion}
 use Rattle.ocfl_tree.specs.{Place.{Text, Place}, StorageRoot.{StorageRoot, max_entries}}
 use Rattle.ocfl_tree.specs.{Store.{Store, Did}, Listing.{IsOrdinary}, declared.store.Entry.{Entry}}
 use Rattle.ocfl_tree.specs.declared.store.Opening.{Opening}
+use Rattle.ocfl_report.specs.declared.further.Further.{Further}
 use Rattle.ocfl_rules.specs.Zone.{Zone, inside, root_declared, zone, table_at, is_known, max_listed_depth}
-use Rattle.ocfl_rules.specs.Inventories.{Further, is_hashed}
+use Rattle.ocfl_rules.specs.Inventories.{is_hashed}
 use Rattle.ocfl_rules.specs.Trail.{content_trail, heads_of, reads_inventory}
 use Rattle.ocfl_rules.specs.Walk.{is_reached, step_listed}
 use Rattle.ocfl_rules.specs.Stack.{seen_places, seen_left, listed_at, IsListed}

@@ -1,7 +1,8 @@
 -- One place, looked up by itself: the way down to it, and what is met there.
-use Rattle.std.specs.Prelude.{◌≡◌, ◌≢◌, ℕ, List, [], Option, Result, MatchResult, AllPairs, Some, None}
+use Rattle.std.specs.Prelude.{◌≡◌, ◌≢◌, ℕ, List, [], Option, Result, MatchResult, AllPairs}
 use Rattle.ocfl_tree.specs.{Place.{Place}, StorageRoot.{StorageRoot}, Store.{Store}}
-use Rattle.ocfl_rules.specs.Inventories.{Further}
+use Rattle.ocfl_report.specs.declared.further.Further.{Further}
+use Rattle.ocfl_report.specs.declared.further.Further.TheVariants.{Nothing, Inventories}
 use Rattle.ocfl_rules.specs.{Trail.{heads_of, inventory_of}, Zone.{zone}}
 use Rattle.ocfl_tree.specs.declared.store.Opening.{Opening}
 use Rattle.std.specs.List.{AllByRecursion}
@@ -11,8 +12,8 @@ use Rattle.ocfl_walk.specs.{Internal.Entering.{Calls, NamesFailed}, WalkCalls.{A
 
 -- nothing was opened or, where inventories of versions are checked, no object's inventory
 abbrev pub OpensNoHead : Further → StorageRoot → List Opening → Type 0
-OpensNoHead None root trail = trail ≡ []
-OpensNoHead (Some k) root trail = AllByRecursion (λ o. inventory_of (zone root o.place) ≡ []) trail
+OpensNoHead Nothing root trail = trail ≡ []
+OpensNoHead Inventories root trail = AllByRecursion (λ o. inventory_of (zone root o.place) ≡ []) trail
 
 -- from s to t the first directories of a way were listed, in order, and metadata was read, near
 -- these and each file once, of inventories the first of those that may be; if none may be, no

@@ -5,9 +5,10 @@ use Rattle.std.specs.declared.cmp.Ordering.TheVariants.{Less}
 use Rattle.ocfl_tree.specs.Place.{Text, Place, text_cmp, place_cmp, begins}
 use Rattle.ocfl_tree.specs.Ascending.{IsAscending, IsBeforeAll}
 use Rattle.ocfl_tree.specs.{StorageRoot.{StorageRoot, max_entries}, declared.store.Entry.{Entry}}
+use Rattle.ocfl_report.specs.declared.further.Further.{Further}
 use Rattle.ocfl_inventory.specs.{Table.{IsFit, Table}, NextPath.{next_path}}
 use Rattle.ocfl_rules.specs.Zone.{seen, max_listed_depth}
-use Rattle.ocfl_rules.specs.Inventories.{Further, notes}
+use Rattle.ocfl_rules.specs.Inventories.{notes}
 use Rattle.ocfl_rules.specs.Due.{due}
 use Rattle.ocfl_rules.specs.Walk.{seen_names}
 use Rattle.ocfl_rules.specs.Stack.{NoneSeenBetween, NoneSeenAbove, Frame, IsStack, IsListed}

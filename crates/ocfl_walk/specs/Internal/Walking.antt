@@ -1,7 +1,7 @@
 -- What a walk does to a store that tells its tree.
 use Rattle.std.specs.Prelude.{◌≡◌, ◌⊎◌, ◌≤◌, [], ◌∷◌, false, Option, Some, None, Result, MatchOption, MatchResult, IfSome, length, ◌<◌, ⊤}
 use Rattle.ocfl_tree.specs.{Place.{Place}, StorageRoot.{StorageRoot}, Store.{Store}}
-use Rattle.ocfl_rules.specs.Inventories.{Further}
+use Rattle.ocfl_report.specs.declared.further.Further.{Further}
 use Rattle.ocfl_rules.specs.{Due.{due}, Between.{IsBeyond}}
 use Rattle.ocfl_rules.specs.Walk.{seen_names}
 use Rattle.ocfl_item.specs.Meeting.{IsItemAt}

@@ -1,4 +1,4 @@
-use Rattle.std.proofs.Common.{◌≡◌, [], None, sym, ◌∙◌, ap, arith, vec_len, length, map}
+use Rattle.std.proofs.Common.{◌≡◌, [], sym, ◌∙◌, ap, arith, vec_len, length, map}
 use Rattle.std.proofs.{lemmas.Bool.{eqb-true, eqb-false}, lemmas.List.{nil_from_length}}
 use Rattle.ocfl_inventory.specs.TripleView.{named_view}
 use Rattle.ocfl_item.specs.Internal.Content.{is_read}

@@ -1,6 +1,6 @@
-use Rattle.std.specs.Prelude.{None}
 use Rattle.std.proofs.Common.{◌≡◌, ◌∙◌, ◌∷◌, [], sym, subst, true}
 use Rattle.std.proofs.lemmas.Result.{err_from_is_err_and}
+use Rattle.ocfl_report.specs.declared.further.Further.TheVariants.{Nothing}
 use Rattle.ocfl_item.specs.Ways.{is_listable}
 use Rattle.ocfl_split.specs.Internal.Directories.{directories_among, IsBelow}
 use Rattle.ocfl_split.proofs.Below.{listing_stops, entered, adds_all, adds_none, memory_first, memory_stops}
@@ -15,7 +15,7 @@ returns-in_err-try_clone-clause-told g c = λ h root over l.
 pub returns-in_err-folder-clause-told : goal.returns-in_err-folder-clause-told
 returns-in_err-folder-clause-told g c = λ h root over l.
     let p = err_from_is_err_and c.from_residual-in_err-folder.result c.from_residual-in_err-folder.ensures.1 in
-    let stops = c.in_err-folder.ensures.told h root over None (subst (λ x. is_listable root x ≡ true) (sym c.in_ok-try_clone.ensures) l) in
+    let stops = c.in_err-folder.ensures.told h root over Nothing (subst (λ x. is_listable root x ≡ true) (sym c.in_ok-try_clone.ensures) l) in
     rw (p.1, p.2) (listing_stops root (g.T.Tree.state c.args.store.now) (g.T.Tree.state c.list.new.store) c.args.place.now c.in_ok-try_clone.field-0
     c.in_err-folder.field-0.0 c.in_ok-try_clone.ensures stops)
 
@@ -32,7 +32,7 @@ returns-clause-fair g c = λ fits.
 
 pub returns-clause-told : goal.returns-clause-told
 returns-clause-told g c = λ h root over l.
-    let enters = c.in_ok-folder.ensures.told h root over None (subst (λ x. is_listable root x ≡ true) (sym c.in_ok-try_clone.ensures) l) in (
+    let enters = c.in_ok-folder.ensures.told h root over Nothing (subst (λ x. is_listable root x ≡ true) (sym c.in_ok-try_clone.ensures) l) in (
       adds_all root (g.T.Tree.state c.args.store.now) (g.T.Tree.state c.list.new.store) c.args.place.now c.in_ok-try_clone.field-0 c.in_ok-folder.folder.place
           c.in_ok-folder.folder.entries.items c.sort.new.entries.items
           c.args.room c.args.next.now.items c.add_among.new.next.items c.leads_on_from.result c.in_ok-add_among.field-0 c.in_ok-try_clone.ensures enters
@@ -44,7 +44,7 @@ returns-clause-told g c = λ h root over l.
 
 pub returns-then-not-leads_on_from-clause-told : goal.returns-then-not-leads_on_from-clause-told
 returns-then-not-leads_on_from-clause-told g c = λ h root over l.
-    let enters = c.in_ok-folder.ensures.told h root over None (subst (λ x. is_listable root x ≡ true) (sym c.in_ok-try_clone.ensures) l) in (
+    let enters = c.in_ok-folder.ensures.told h root over Nothing (subst (λ x. is_listable root x ≡ true) (sym c.in_ok-try_clone.ensures) l) in (
       adds_none root (g.T.Tree.state c.args.store.now) (g.T.Tree.state c.list.new.store) c.args.place.now c.in_ok-try_clone.field-0 c.in_ok-folder.folder.place
           c.in_ok-folder.folder.entries.items c.args.room c.args.next.now.items c.leads_on_from.result c.in_ok-try_clone.ensures enters
           c.in_ok-folder.ensures.ordinary (c.leads_on_from.ensures root) c.if-not-leads_on_from.true,
@@ -55,7 +55,7 @@ returns-then-not-leads_on_from-clause-told g c = λ h root over l.
 pub returns-in_err-add_among-clause-told : goal.returns-in_err-add_among-clause-told
 returns-in_err-add_among-clause-told g c = λ h root over l.
     let p = err_from_is_err_and c.from_residual-in_err-add_among.result c.from_residual-in_err-add_among.ensures.1 in
-    let enters = c.in_ok-folder.ensures.told h root over None (subst (λ x. is_listable root x ≡ true) (sym c.in_ok-try_clone.ensures) l) in
+    let enters = c.in_ok-folder.ensures.told h root over Nothing (subst (λ x. is_listable root x ≡ true) (sym c.in_ok-try_clone.ensures) l) in
     rw (p.1, p.2) (memory_stops root (g.T.Tree.state c.args.store.now) (g.T.Tree.state c.list.new.store) (c.args.place.now ∷ []) []
     (entered root (g.T.Tree.state c.args.store.now) (g.T.Tree.state c.list.new.store) c.args.place.now c.in_ok-try_clone.field-0 c.in_ok-folder.folder.place
     c.in_ok-folder.folder.entries.items over c.in_ok-try_clone.ensures enters))

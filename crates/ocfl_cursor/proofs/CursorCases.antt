@@ -1,9 +1,11 @@
 -- Worked cases: cursors, their text, and why bytes are none.
-use Rattle.std.proofs.Common.{◌≡◌, ◌==◌, ◌+◌, ◌-◌, ◌∙◌, ℕ, zero, suc, List, [], ◌∷◌, ◌++◌, codes, refl, sym, ap, ap₂, inr, arith, length, map, replicate, take, drop, get_or}
+use Rattle.std.proofs.Common.{◌≡◌, ◌==◌, ◌+◌, ◌-◌, ◌∙◌, ℕ, zero, suc, List, [], ◌∷◌, ◌++◌, codes, refl, sym, ap, ap₂, inr, arith, Some, None, length, map, replicate, take, drop, get_or}
 use Rattle.std.specs.{Prelude.{◌&&◌, nat_le}, List.{slice_split}}
 use Prim.Native.String.{String}
 use Rattle.ocfl_tree.specs.Place.{Text, Place, text_eq}
+use Rattle.ocfl_report.specs.declared.further.Further.TheVariants.{Nothing, Inventories}
 use Rattle.ocfl_cursor.specs.Cursor.{start, behind, ended, Cursor, IsCursor, new_cursor, cursor_lines, cursor_body, cursor_text, digest_line, version_one_body, version_one_text}
+use Rattle.ocfl_cursor.specs.{Part.{part_text}, declared.ends.PartEnds.{PartEnds}}
 use Rattle.ocfl_cursor.specs.Refusal.{refusal, is_cursor_front, is_version_read, IsTextOf}
 use Rattle.ocfl_cursor.specs.Refused.{first_reason}
 use Rattle.ocfl_cursor.specs.declared.refused.Refused.{Refused}
@@ -19,7 +21,7 @@ place t = slice_split (λ b. b == 47) (codes t)
 
 -- of a third cycle, after its second run
 abbrev third_cycle : Cursor
-third_cycle = record { cycle = 3; runs = 2; spent = 9; files = 3; state = behind (place "o/v1/content/c") }
+third_cycle = record { cycle = 3; runs = 2; spent = 9; files = 3; further = Nothing; state = behind (place "o/v1/content/c") }
 
 -- Seen to refuse: a cursor's digest leaves out the last line feed; leading zeros in a cursor; a
 -- cursor's files before what was spent; a cursor with files in version 1.
@@ -36,9 +38,41 @@ cursor_as_shown = (refl, refl)
 
 -- Seen to refuse: a cursor's digest leaves out the last line feed; a cursor with files in
 -- version 1.
-text_of_a_new_cursor : cursor_text new_cursor ≡ codes "ocfl-scrub cursor 2\ncycle 1\nruns 0\nspent 0\nfiles 0\nstart\ndigest f5dddf8c1323ee2119db1954daab3d21b29adbdb93b23e9c366e50fbc8b52aa3\n"
+text_of_a_new_cursor : cursor_text (new_cursor Nothing) ≡ codes "ocfl-scrub cursor 2\ncycle 1\nruns 0\nspent 0\nfiles 0\nstart\ndigest f5dddf8c1323ee2119db1954daab3d21b29adbdb93b23e9c366e50fbc8b52aa3\n"
 unfolding cursor_on_literals
 text_of_a_new_cursor = refl
+
+-- ---- texts of version 3, of audits that check the inventories of versions
+
+abbrev checking : Cursor
+checking = record third_cycle { further = Inventories }
+
+-- Seen to refuse: the line of inventories is left out; it comes last.
+text_of_version_three : cursor_text checking ≡ codes
+    "ocfl-scrub cursor 3\nchecks inventories\ncycle 3\nruns 2\nspent 9\nfiles 3\nafter o/v1/content/c\ndigest 916840502fbca1329d44a9d683a6ffff5d6b796cea5c97378ecabe129c010ba6\n"
+unfolding cursor_on_literals
+text_of_version_three = refl
+
+version_three_as_shown : cursor_lines checking ≡ codes "checks inventories\ncycle 3\nruns 2\nspent 9\nfiles 3\nafter o/v1/content/c\n"
+unfolding cursor_on_literals
+version_three_as_shown = refl
+
+version_three_of_a_new_cursor : cursor_text (new_cursor Inventories) ≡ codes "ocfl-scrub cursor 3\nchecks inventories\ncycle 1\nruns 0\nspent 0\nfiles 0\nstart\ndigest 2c54512d7b48ea8d7af1398607da3c856272f7a6ac6e2f8d2c745ac27d8e1fa3\n"
+unfolding cursor_on_literals
+version_three_of_a_new_cursor = refl
+
+-- of a part its first line is that of version 2, and the line comes after those of the ends
+abbrev from_b : PartEnds
+from_b = record { from = Some (place "o/v1/content/b"); below = None }
+
+text_of_a_part : part_text from_b checking ≡ codes
+    "ocfl-scrub part cursor 2\nfrom o/v1/content/b\nbelow end\nchecks inventories\ncycle 3\nruns 2\nspent 9\nfiles 3\nafter o/v1/content/c\ndigest 343019590ad84b0b1eff59e071b8f587662c724c525df04c272b9cf965c09ff0\n"
+unfolding cursor_on_literals
+text_of_a_part = refl
+
+first_line_of_a_part : take 25 (part_text from_b third_cycle) ≡ codes "ocfl-scrub part cursor 1\n"
+unfolding cursor_on_literals
+first_line_of_a_part = refl
 
 -- ---- texts of version 1
 
@@ -54,27 +88,27 @@ version_one_of_a_cursor = refl
 -- it is read as that cursor
 version_one_is_read : IsCursor without_files
     → IsTextOf (codes "ocfl-scrub cursor 1\ncycle 3\nruns 2\nspent 9\nafter o/v1/content/c\ndigest 822836e04ff6618e0a7571237f0049f590a6f9890506f09338f0505902d351d7\n") without_files
-version_one_is_read keeps = record { keeps = keeps; is = inr (refl, sym version_one_of_a_cursor) }
+version_one_is_read keeps = record { keeps = keeps; is = inr (record { files = refl; further = refl }, sym version_one_of_a_cursor) }
 
 -- and shown with the line of its files
 version_one_as_shown : cursor_lines without_files ≡ codes "cycle 3\nruns 2\nspent 9\nfiles 0\nafter o/v1/content/c\n"
 unfolding cursor_on_literals
 version_one_as_shown = refl
 
-version_one_of_a_new_cursor : version_one_text new_cursor ≡ codes "ocfl-scrub cursor 1\ncycle 1\nruns 0\nspent 0\nstart\ndigest eec5ed22301f28c448cd6ef3e3f29ee5aef8b762c091f1384e735a1c51cad9b7\n"
+version_one_of_a_new_cursor : version_one_text (new_cursor Nothing) ≡ codes "ocfl-scrub cursor 1\ncycle 1\nruns 0\nspent 0\nstart\ndigest eec5ed22301f28c448cd6ef3e3f29ee5aef8b762c091f1384e735a1c51cad9b7\n"
 unfolding cursor_on_literals
 version_one_of_a_new_cursor = refl
 
 -- ---- texts in both versions
 
 abbrev behind_the_root : Cursor
-behind_the_root = record new_cursor { state = behind [] }
+behind_the_root = record (new_cursor Nothing) { state = behind [] }
 
 -- how many bytes the text has in version 2, and in version 1
 abbrev lengths : Cursor → ℕ × ℕ
 lengths c = (length (cursor_text c), length (version_one_text c))
 
-lengths_of_texts : (lengths new_cursor ≡ (129, 121)) × (lengths behind_the_root ≡ (131, 123)) × (lengths third_cycle ≡ (144, 136))
+lengths_of_texts : (lengths (new_cursor Nothing) ≡ (129, 121)) × (lengths behind_the_root ≡ (131, 123)) × (lengths third_cycle ≡ (144, 136))
 unfolding cursor_on_literals
 lengths_of_texts = (refl, refl, refl)
 
@@ -94,7 +128,7 @@ bodies_behind_the_root : bodies behind_the_root ≡ (codes "ocfl-scrub cursor 2\
 unfolding cursor_on_literals
 bodies_behind_the_root = refl
 
-bodies_of_an_ended_cursor : bodies (record { cycle = 18446744073709551615; runs = 10; spent = 9223372036854775808; files = 12; state = ended })
+bodies_of_an_ended_cursor : bodies (record { cycle = 18446744073709551615; runs = 10; spent = 9223372036854775808; files = 12; further = Nothing; state = ended })
     ≡ (
       codes "ocfl-scrub cursor 2\ncycle 18446744073709551615\nruns 10\nspent 9223372036854775808\nfiles 12\nended\n",
       codes
@@ -104,29 +138,29 @@ unfolding cursor_on_literals
 bodies_of_an_ended_cursor = refl
 
 -- a place is written as in a report
-bodies_at_an_odd_place : bodies (record new_cursor { state = behind (codes "a%" ∷ (0xC3 ∷ 0xA9 ∷ 32 ∷ 10 ∷ []) ∷ []) })
+bodies_at_an_odd_place : bodies (record (new_cursor Nothing) { state = behind (codes "a%" ∷ (0xC3 ∷ 0xA9 ∷ 32 ∷ 10 ∷ []) ∷ []) })
     ≡ (codes "ocfl-scrub cursor 2\ncycle 1\nruns 0\nspent 0\nfiles 0\nafter a%25/%C3%A9 %0A\n", codes "ocfl-scrub cursor 1\ncycle 1\nruns 0\nspent 0\nafter a%25/%C3%A9 %0A\n")
 unfolding cursor_on_literals
 bodies_at_an_odd_place = refl
 
 -- 255 names of 255 bytes, each escaped
 abbrev longest : Cursor
-longest = record new_cursor { runs = 1; state = behind (replicate 255 (replicate 255 1)) }
+longest = record (new_cursor Nothing) { runs = 1; state = behind (replicate 255 (replicate 255 1)) }
 
--- with the last line 195,459 bytes, and 195,451 in version 1
-longest_bodies : (length (cursor_body longest) ≡ 195387) × (length (version_one_body longest) ≡ 195379)
+-- with the last line 195,459 bytes, 195,451 in version 1, and 195,478 in version 3
+longest_bodies : (length (cursor_body longest) ≡ 195387) × (length (version_one_body longest) ≡ 195379) × (length (cursor_body (record longest { further = Inventories })) ≡ 195406)
 unfolding cursor_on_literals
-longest_bodies = (refl, refl)
+longest_bodies = (refl, refl, refl)
 
 -- ---- a cursor's own rule
 
 -- a cursor without files, by its other numbers
 abbrev counted : ℕ → ℕ → ℕ → Cursor
-counted cycle runs spent = record { cycle = cycle; runs = runs; spent = spent; files = 0; state = start }
+counted cycle runs spent = record { cycle = cycle; runs = runs; spent = spent; files = 0; further = Nothing; state = start }
 
 -- these are cursors
 record KeepTheRule : Type 0 where
-  a_new_cursor : IsCursor new_cursor
+  a_new_cursor : IsCursor (new_cursor Inventories)
   most_spent_in_one_run : IsCursor (counted 1 1 9223372036854775808)
   last_cycle_and_run : IsCursor (counted 18446744073709551615 18446744073709551615 0)
   as_many_files_as_spent : IsCursor (record (counted 1 1 9) { files = 9 })
@@ -144,7 +178,7 @@ record BreakTheRule : Type 0 where
   more_spent_than_runs_can : IsCursor (counted 1 1 9223372036854775809) → ⊥
   -- Seen to refuse: a cursor may have more files than it spent.
   more_files_than_spent : IsCursor (record (counted 1 1 9) { files = 10 }) → ⊥
-  place_of_256_names : IsCursor (record new_cursor { state = behind (replicate 256 (1 ∷ [])) }) → ⊥
+  place_of_256_names : IsCursor (record (new_cursor Nothing) { state = behind (replicate 256 (1 ∷ [])) }) → ⊥
 
 they_break_the_rule : BreakTheRule
 they_break_the_rule = search arith
@@ -236,13 +270,13 @@ digest_in_capitals : refusal (codes "ocfl-scrub cursor 1\ncycle 3\nruns 2\nspent
 unfolding cursor_on_literals
 digest_in_capitals = refl
 
--- Seen to refuse: a third version of a cursor.
-version_of_the_future : refusal (codes "ocfl-scrub cursor 3\ncycle 3\nruns 2\nspent 9\nafter o/v1/content/c\n") ≡ Version
+-- Seen to refuse: a fourth version of a cursor.
+version_of_the_future : refusal (codes "ocfl-scrub cursor 4\ncycle 3\nruns 2\nspent 9\nafter o/v1/content/c\n") ≡ Version
 version_of_the_future = refl
 
 -- the version is looked at before the last line
--- Seen to refuse: a third version of a cursor.
-sealed_version_of_the_future : refusal (sealed "ocfl-scrub cursor 3\ncycle 3\nruns 2\nspent 9\nafter o/v1/content/c\n") ≡ Version
+-- Seen to refuse: a fourth version of a cursor.
+sealed_version_of_the_future : refusal (sealed "ocfl-scrub cursor 4\ncycle 3\nruns 2\nspent 9\nafter o/v1/content/c\n") ≡ Version
 unfolding cursor_on_literals
 sealed_version_of_the_future = refl
 
@@ -284,6 +318,14 @@ version_two_without_files = refl
 version_one_with_files : refusal (sealed "ocfl-scrub cursor 1\ncycle 3\nruns 2\nspent 9\nfiles 0\nafter o/v1/content/c\n") ≡ Malformed
 unfolding cursor_on_literals
 version_one_with_files = refl
+
+version_three_without_its_line : refusal (sealed "ocfl-scrub cursor 3\ncycle 3\nruns 2\nspent 9\nfiles 3\nafter o/v1/content/c\n") ≡ Malformed
+unfolding cursor_on_literals
+version_three_without_its_line = refl
+
+version_two_with_its_line : refusal (sealed "ocfl-scrub cursor 2\nchecks inventories\ncycle 3\nruns 2\nspent 9\nfiles 3\nafter o/v1/content/c\n") ≡ Malformed
+unfolding cursor_on_literals
+version_two_with_its_line = refl
 
 -- 262,145 bytes that begin as a cursor
 -- Seen to refuse: a cursor may have 262,145 bytes.

@@ -1,18 +1,20 @@
 -- The text of a part's cursor determines the part and the cursor.
-use Rattle.std.proofs.Common.{◌≡◌, ◌≢◌, [], ◌∷◌, ◌++◌, Bool, true, false, cond, Option, Some, None, All, codes, length, nat_eq, IsTrue, ◌↔◌, refl, sym, ap, subst, ◌∙◌, append_assoc, arith}
-use Rattle.std.proofs.{lemmas.Bool.{true≢false}, lemmas.List.{append_cancel_left}}
+use Rattle.std.proofs.Common.{◌≡◌, ◌≢◌, ℕ, [], ◌∷◌, ◌++◌, get_or, Bool, true, false, cond, Option, Some, None, All, codes, length, nat_eq, IsTrue, ◌↔◌, refl, sym, ap, subst, ◌∙◌, append_assoc, arith}
+use Rattle.std.proofs.{lemmas.Bool.{eqb-false, true≢false}, lemmas.List.{append_cancel_left}}
 use Rattle.std.proofs.lemmas.List.Elements.{All-head, All-weaker, All-append, All-from_recursion}
 use Rattle.std.specs.Cmp.Lexicographic.{pointwise}
 use Rattle.ocfl_tree.specs.{Place.{Text, Place, text_eq}, Name.{IsName, IsPlace}}
 use Rattle.ocfl_tree.proofs.Places.{text_eq-Decides, path_eq-Decides}
 use Rattle.ocfl_report.specs.Text.{place_text}
+use Rattle.ocfl_report.specs.declared.further.Further.{Further}
+use Rattle.ocfl_report.specs.declared.further.Further.TheVariants.{Nothing, Inventories}
 use Rattle.ocfl_report.proofs.{Bytes.{IsPrintable}, Separators.{first_parts}}
 use Rattle.ocfl_report.proofs.PlaceTexts.{names_of, names_of-place_text, place_text_determines, place_text_printable}
 use Rattle.ocfl_cursor.specs.Cursor.{Cursor, cursor_lines, digest_line}
-use Rattle.ocfl_cursor.specs.Part.{HasNames, AreEnds, end_text, end_line, ends_lines, part_body, IsPartText}
+use Rattle.ocfl_cursor.specs.Part.{HasNames, AreEnds, end_text, end_line, ends_lines, part_first_line, part_body, IsPartText}
 use Rattle.ocfl_cursor.specs.{Internal.Part.{IsPartBody}, declared.ends.PartEnds.{PartEnds}}
-use Rattle.ocfl_cursor.specs.{declared.form.FormVersion.TheVariants.{Two}, Internal.Body.{AreLinesOf}}
-use Rattle.ocfl_cursor.proofs.CursorTexts.{lines_determine, AreLinesOf-cursor}
+use Rattle.ocfl_cursor.specs.Internal.Body.{version_of, AreLinesOf}
+use Rattle.ocfl_cursor.proofs.CursorTexts.{further_written, lines_of-cursor, lines_determine, AreLinesOf-cursor}
 use Rattle.ocfl_cursor.proofs.Seals.{sealed_determines}
 
 -- ---- tests
@@ -159,27 +161,69 @@ ends_lines_determine e f r s h k g =
     let second = end_line_determines (codes "below ") (codes "end") e.below f.below r s end_one_line h.below k.below first.1 in
     ((λ i. record { from = first.0 i; below = second.0 i }), second.1)
 
+-- ---- the first line
+
+-- the digit of a version is the byte after the front
+abbrev part_digit : Further → ℕ
+part_digit Nothing = 49
+part_digit Inventories = 50
+
+digit_of_line : (f : Further) (r : Text) → get_or (part_first_line f ++ r) 23 0 ≡ part_digit f
+digit_of_line Nothing r = refl
+digit_of_line Inventories r = refl
+
+same_digits : (f g : Further) → part_digit f ≡ part_digit g → f ≡ g
+same_digits Nothing Nothing e = refl
+same_digits Nothing Inventories e = absurd (eqb-false 49 50 refl e)
+same_digits Inventories Nothing e = absurd (eqb-false 50 49 refl e)
+same_digits Inventories Inventories e = refl
+
+-- what it tells is the same if texts begin with it, and so is what follows
+pub part_first_line_determines : (f g : Further) (r s : Text) → part_first_line f ++ r ≡ part_first_line g ++ s → (f ≡ g) × (r ≡ s)
+part_first_line_determines f g r s e =
+    let same : f ≡ g = same_digits f g (sym (digit_of_line f r) ∙ ap (λ t. get_or t 23 0) e ∙ digit_of_line g s) in
+    (same, append_cancel_left (part_first_line g) r s (ap (λ h. part_first_line h ++ r) (sym same) ∙ e))
+
+-- a text without either line has none
+pub no_part_first_line : (body : Text) → ((r : Text) → body ≡ part_first_line Inventories ++ r → ⊥) → ((r : Text) → body ≡ part_first_line Nothing ++ r → ⊥)
+    → (f : Further) (r : Text) → body ≡ part_first_line f ++ r → ⊥
+no_part_first_line body two one Nothing r e = one r e
+no_part_first_line body two one Inventories r e = two r e
+
 -- ---- the text before the digest line
 
-pub part_body-append : (e : PartEnds) (c : Cursor) → part_body e c ≡ codes "ocfl-scrub part cursor 1\n" ++ (ends_lines e ++ cursor_lines c)
-part_body-append e c = append_assoc (codes "ocfl-scrub part cursor 1\n") (ends_lines e) (cursor_lines c)
+pub part_body-append : (e : PartEnds) (c : Cursor) → part_body e c ≡ part_first_line c.further ++ (ends_lines e ++ cursor_lines c)
+part_body-append e c = append_assoc (part_first_line c.further) (ends_lines e) (cursor_lines c)
 
--- what follows the first line
-pub part_lines : (e : PartEnds) (body lines : Text) (c : Cursor) → IsPartBody e body c → body ≡ codes "ocfl-scrub part cursor 1\n" ++ lines → lines ≡ ends_lines e ++ cursor_lines c
-part_lines e body lines c h f = append_cancel_left (codes "ocfl-scrub part cursor 1\n") _ _ (sym f ∙ h.is ∙ part_body-append e c)
+-- what the first line tells, and what follows it
+pub part_lines : (e : PartEnds) (f : Further) (body lines : Text) (c : Cursor) → IsPartBody e body c → body ≡ part_first_line f ++ lines → (c.further ≡ f) × (ends_lines e ++ cursor_lines c ≡ lines)
+part_lines e f body lines c h g = part_first_line_determines c.further f _ lines (sym (part_body-append e c) ∙ sym h.is ∙ g)
 
 -- what follows the lines of the ends, once these are read
-pub part_rest : (e f : PartEnds) (body lines rest : Text) (c : Cursor) → AreEnds f → IsPartBody e body c → body ≡ codes "ocfl-scrub part cursor 1\n" ++ lines
-    → lines ≡ ends_lines f ++ rest → (e ≡ f) × AreLinesOf Two rest c
-part_rest e f body lines rest c names h g k =
-    let same = ends_lines_determine e f (cursor_lines c) rest h.ends names (sym (part_lines e body lines c h g) ∙ k) in
-    (same.0, subst (λ t. AreLinesOf Two t c) same.1 (AreLinesOf-cursor c h.keeps))
+pub part_rest : (e g : PartEnds) (f : Further) (body lines rest : Text) (c : Cursor) → AreEnds g → IsPartBody e body c → body ≡ part_first_line f ++ lines
+    → lines ≡ ends_lines g ++ rest → (e ≡ g) × AreLinesOf (version_of f) rest c
+part_rest e g f body lines rest c names h k l =
+    let front = part_lines e f body lines c h k in
+    let same = ends_lines_determine e g (cursor_lines c) rest h.ends names (front.1 ∙ l) in
+    (same.0, subst (λ t. AreLinesOf (version_of f) t c) same.1 (subst (λ v. AreLinesOf (version_of v) (cursor_lines c) c) front.0 (AreLinesOf-cursor c h.keeps)))
+
+-- and with such lines it is the body of the part's cursor
+pub part_body_read : (e : PartEnds) (f : Further) (body lines rest : Text) (c : Cursor) → AreEnds e → body ≡ part_first_line f ++ lines → lines ≡ ends_lines e ++ rest
+    → AreLinesOf (version_of f) rest c → IsPartBody e body c
+part_body_read e f body lines rest c names k l h =
+    let further : c.further ≡ f = h.further ∙ further_written f in
+    let whole = k ∙ ap (λ t. part_first_line f ++ t) (l ∙ ap (λ t. ends_lines e ++ t) (lines_of-cursor f rest c h)) in
+    record {
+      ends = names;
+      keeps = h.keeps;
+      is = whole ∙ ap (λ v. part_first_line v ++ (ends_lines e ++ cursor_lines c)) (sym further) ∙ sym (part_body-append e c);
+    }
 
 -- parts and cursors are the same if their bodies are
 part_body_determines : (e f : PartEnds) (body : Text) (c d : Cursor) → IsPartBody e body c → IsPartBody f body d → (e ≡ f) × (c ≡ d)
 part_body_determines e f body c d h k =
-    let rest = part_rest e f body (ends_lines f ++ cursor_lines d) (cursor_lines d) c k.ends h (k.is ∙ part_body-append f d) refl in
-    (rest.0, lines_determine Two (cursor_lines d) c d rest.1 (AreLinesOf-cursor d k.keeps))
+    let rest = part_rest e f d.further body (ends_lines f ++ cursor_lines d) (cursor_lines d) c k.ends h (k.is ∙ part_body-append f d) refl in
+    (rest.0, lines_determine (version_of d.further) (cursor_lines d) c d rest.1 (AreLinesOf-cursor d k.keeps))
 
 -- ---- the whole text
 

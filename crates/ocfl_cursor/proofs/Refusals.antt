@@ -5,9 +5,11 @@ use Rattle.std.proofs.lemmas.Bool.Decides.{Decides-eqb}
 use Rattle.std.proofs.{lemmas.List.{drop_at}, lemmas.Slice.Eq.{starts_is}}
 use Rattle.std.specs.List.{starts_with}
 use Rattle.ocfl_tree.specs.Place.{Text}
+use Rattle.ocfl_report.specs.declared.further.Further.{Further}
+use Rattle.ocfl_report.specs.declared.further.Further.TheVariants.{Nothing, Inventories}
 use Rattle.ocfl_report.specs.declared.stop.TextStop.{TextStop}
 use Rattle.ocfl_report.specs.declared.stop.TextStop.TheVariants as stop
-use Rattle.ocfl_cursor.specs.Cursor.{Cursor, cursor_body, digest_line, cursor_text, version_one_body, version_one_text}
+use Rattle.ocfl_cursor.specs.Cursor.{Cursor, cursor_first_line, cursor_lines, cursor_body, digest_line, cursor_text, HasVersionOne, version_one_body, version_one_text}
 use Rattle.ocfl_cursor.specs.Internal.Body.{IsBodyOf}
 use Rattle.ocfl_cursor.specs.Refusal.{refusal, max_text, is_cursor_front, is_version_read, is_sealed, IsTextOf, RefusedRightly}
 use Rattle.ocfl_cursor.specs.Refused.{first_reason, is_version, reason_by, refusal_of, version_after, IsRefused}
@@ -88,21 +90,34 @@ failed first why e other = (sym e, λ h. other (sym e ∙ h))
 
 -- ---- a cursor's text passes each test
 
--- a test that its text of either version passes
+-- a test that its text passes, as it is written and in version 1
 passed : (test : Text → Bool) (b : Text) (c : Cursor) → IsTextOf b c → test (cursor_text c) ≡ true → test (version_one_text c) ≡ true → test b ≡ true
-passed test b c h two one = by h.is
+passed test b c h written one = by h.is
   where
-    by : (b ≡ cursor_text c) ⊎ ((c.files ≡ 0) × (b ≡ version_one_text c)) → test b ≡ true
-    by (inl e) = ap test e ∙ two
+    by : (b ≡ cursor_text c) ⊎ (HasVersionOne c × (b ≡ version_one_text c)) → test b ≡ true
+    by (inl e) = ap test e ∙ written
     by (inr e) = ap test e.1 ∙ one
+
+-- the front and the version of what begins with the first line
+abbrev begins_as_cursor : Text → Bool
+begins_as_cursor t = starts_with nat_eq t (codes "ocfl-scrub cursor ")
+
+front_of_line : (f : Further) (a b : Text) → begins_as_cursor (cursor_first_line f ++ a ++ b) ≡ true
+front_of_line Nothing a b = refl
+front_of_line Inventories a b = refl
+
+version_of_line : (f : Further) (a b : Text) → is_version_read (cursor_first_line f ++ a ++ b) ≡ true
+version_of_line Nothing a b = refl
+version_of_line Inventories a b = refl
 
 front-cursor_text : (b : Text) (c : Cursor) → IsTextOf b c → is_cursor_front b ≡ true
 front-cursor_text b c h =
     let short : length b ≤ max_text = omega (arith, length-text b c h) in
-    ap₂ (λ r s. r && s) (passed (λ t. starts_with nat_eq t (codes "ocfl-scrub cursor ")) b c h refl refl) (le-leb (length b) max_text short)
+    let front = front_of_line c.further (cursor_lines c) (digest_line (cursor_body c)) in
+    ap₂ (λ r s. r && s) (passed begins_as_cursor b c h front refl) (le-leb (length b) max_text short)
 
 version-cursor_text : (b : Text) (c : Cursor) → IsTextOf b c → is_version_read b ≡ true
-version-cursor_text b c h = passed is_version_read b c h refl refl
+version-cursor_text b c h = passed is_version_read b c h (version_of_line c.further (cursor_lines c) (digest_line (cursor_body c))) refl
 
 sealed-cursor_text : (b : Text) (c : Cursor) → IsTextOf b c → is_sealed b ≡ true
 sealed-cursor_text b c h = passed is_sealed b c h (sealed (cursor_body c)) (sealed (version_one_body c))
@@ -124,7 +139,7 @@ too_long b l = and_right (starts_with nat_eq b (codes "ocfl-scrub cursor ")) (na
 
 -- the reason of a text that is not
 abbrev pub reason_of_short : Text → Refused
-reason_of_short b = reason_by kind.Cursor (codes "ocfl-scrub cursor ") (codes "12") (codes "digest ") b
+reason_of_short b = reason_by kind.Cursor (codes "ocfl-scrub cursor ") (codes "123") (codes "digest ") b
 
 short_reason : (b : Text) → length b ≤ max_text → reason_of_short b ≡ refusal b
 short_reason b few = ap (λ r. first_reason kind.Cursor r (is_version_read b) (is_sealed b)) (sym (ap (λ r. begins && r) (le-leb (length b) max_text few) ∙ and_true begins))

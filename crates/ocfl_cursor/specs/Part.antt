@@ -2,6 +2,8 @@
 use Rattle.std.specs.Prelude.{◌≡◌, [], ◌∷◌, ◌++◌, Option, Some, None, IfSome, if◌then◌else◌, codes}
 use Rattle.ocfl_tree.specs.{Place.{Text, text_eq, Place}, Name.{IsPlace}}
 use Rattle.ocfl_report.specs.Text.{place_text}
+use Rattle.ocfl_report.specs.declared.further.Further.{Further}
+use Rattle.ocfl_report.specs.declared.further.Further.TheVariants.{Nothing, Inventories}
 use Rattle.ocfl_cursor.specs.Cursor.{Cursor, IsCursor, cursor_lines, digest_line}
 use Rattle.ocfl_cursor.specs.declared.ends.PartEnds.{PartEnds}
 
@@ -29,9 +31,14 @@ ends_lines e = end_line (codes "from ") (codes "start") e.from ++ end_line (code
 abbrev pub part_lines : PartEnds → Cursor → Text
 part_lines e c = ends_lines e ++ cursor_lines c
 
+-- the first line, which names the version
+abbrev pub part_first_line : Further → Text
+part_first_line Nothing = codes "ocfl-scrub part cursor 1\n"
+part_first_line Inventories = codes "ocfl-scrub part cursor 2\n"
+
 -- the text before its last line
 abbrev pub part_body : PartEnds → Cursor → Text
-part_body e c = codes "ocfl-scrub part cursor 1\n" ++ ends_lines e ++ cursor_lines c
+part_body e c = part_first_line c.further ++ ends_lines e ++ cursor_lines c
 
 abbrev pub part_text : PartEnds → Cursor → Text
 part_text e c = part_body e c ++ digest_line (part_body e c)

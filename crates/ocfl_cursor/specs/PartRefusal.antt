@@ -1,16 +1,17 @@
 -- Why bytes are not the text of a cursor of a part: the first reason that applies.
-use Rattle.std.specs.{Prelude.{◌≢◌, nat_eq, Bool, true, codes}, List.{starts_with}}
+use Rattle.std.specs.{Prelude.{◌≢◌, ◌||◌, nat_eq, Bool, true, codes}, List.{starts_with}}
 use Rattle.ocfl_tree.specs.Place.{Text}
-use Rattle.ocfl_cursor.specs.{Cursor.{Cursor}, Part.{IsPartText}, Refusal.{is_sealed}}
+use Rattle.ocfl_report.specs.declared.further.Further.TheVariants.{Nothing, Inventories}
+use Rattle.ocfl_cursor.specs.{Cursor.{Cursor}, Part.{part_first_line, IsPartText}, Refusal.{is_sealed}}
 use Rattle.ocfl_cursor.specs.{Refused.{first_reason, IsRefused, refused_text}, declared.ends.PartEnds.{PartEnds}}
 use Rattle.ocfl_cursor.specs.declared.refused.PartRefused.{PartRefused}
 use Rattle.ocfl_cursor.specs.declared.refused.PartRefused.TheVariants as part
 use Rattle.ocfl_cursor.specs.declared.refused.Refused.{Refused}
 use Rattle.ocfl_cursor.specs.declared.refused.TextKind.TheVariants as kind
 
--- the first line is that of a part's cursor
+-- the first line is that of a part's cursor, in one of its two versions
 abbrev pub is_part_front : Text → Bool
-is_part_front b = starts_with nat_eq b (codes "ocfl-scrub part cursor 1\n")
+is_part_front b = starts_with nat_eq b (part_first_line Nothing) || starts_with nat_eq b (part_first_line Inventories)
 
 -- of bytes that are the text of no part's cursor; the version is in their first line
 abbrev pub part_refusal : Text → Refused

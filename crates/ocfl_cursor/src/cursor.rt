@@ -4,18 +4,20 @@ ghost use Rattle.ocfl_cursor.specs.{Cursor.{IsCursor, new_cursor}, State.{state_
 ghost use Rattle.ocfl_cursor.specs.Moves.{at_start, next_cycle, after_run};
 
 use crate::state::{State, is_short};
+use ocfl_report::Further;
 use std::marker::Model;
 use std::mem;
 
 /// What one run leaves for the next: the cycle (1 to 2^64 - 1), how many runs it has had, what they
-/// have spent, how many files they have started, and where the next run begins. A run spends at
-/// most 2^63, and each file costs at least 1.
+/// have spent, how many files they have started, what the audit checks further, and where the next
+/// run begins. A run spends at most 2^63, and each file costs at least 1.
 #[derive(Debug, Drop)]
 pub struct Cursor {
     cycle: u64,
     runs: u64,
     spent: u128,
     files: u128,
+    further: Further,
     state: State,
 }
 
@@ -24,29 +26,23 @@ impl Model for Cursor {
 
     ghost Value = { Cursor };
 
-    ghost view = { λ a. cursor_of a.cycle a.runs a.spent a.files a.state };
+    ghost view = { λ a. cursor_of a.cycle a.runs a.spent a.files a.further a.state };
 
-    ghost invariant = { λ a. ∥ IsCursor (cursor_of a.cycle a.runs a.spent a.files a.state) ∥₁ };
-}
-
-impl Default for Cursor {
-    ghost is_default = { λ cursor. cursor ≡ new_cursor };
-
-    fn default() -> Cursor {
-        Cursor::new()
-    }
+    ghost invariant = { λ a. ∥ IsCursor
+        (cursor_of a.cycle a.runs a.spent a.files a.further a.state) ∥₁ };
 }
 
 impl Cursor {
-    /// The cursor of the first cycle, before its first run.
-    pub fn new() -> Cursor
-        ensures { result ≡ new_cursor }
+    /// The cursor of the first cycle, before its first run, of an audit that checks this further.
+    pub fn new(further: Further) -> Cursor
+        ensures { result ≡ new_cursor further }
     {
         Cursor {
             cycle: 1,
             runs: 0,
             spent: 0,
             files: 0,
+            further,
             state: State::Start,
         }
     }
@@ -59,10 +55,13 @@ impl Cursor {
         runs: u64,
         spent: u128,
         files: u128,
+        further: Further,
         state: State,
     ) -> Option<Cursor>
-        ensures value { IfSome result (λ cursor. cursor ≡ cursor_of cycle runs spent files state) }
-        ensures keeps { IsSome result ↔ IsCursor (cursor_of cycle runs spent files state) }
+        ensures value { IfSome result
+            (λ cursor. cursor ≡ cursor_of cycle runs spent files further state) }
+        ensures keeps { IsSome result
+            ↔ IsCursor (cursor_of cycle runs spent files further state) }
     {
         let paid = spent <= u128::from(runs) * (1 << 63) && files <= spent;
         if 1 <= cycle && paid && is_short(&state) {
@@ -71,6 +70,7 @@ impl Cursor {
                 runs,
                 spent,
                 files,
+                further,
                 state,
             })
         } else {
@@ -78,12 +78,14 @@ impl Cursor {
         }
     }
 
-    /// The cursor at the beginning of the next cycle. `None` for the last cycle that there can be.
+    /// The cursor at the beginning of the next cycle, of the same audit. `None` for the last cycle
+    /// that there can be.
     pub fn next_cycle(&self) -> Option<Cursor>
         ensures value { IfSome result (λ next. next ≡ next_cycle self.now) }
         ensures last { IsNone result ↔ (self.now.cycle ≡ u64.MAX) }
     {
-        Cursor::from_parts(self.cycle.checked_add(1)?, 0, 0, 0, State::Start)
+        let cycle = self.cycle.checked_add(1)?;
+        Cursor::from_parts(cycle, 0, 0, 0, self.further, State::Start)
     }
 
     /// The cursor after one more run, which has spent `spent`, started `files` files, and ends in
@@ -98,7 +100,7 @@ impl Cursor {
         let runs = self.runs.checked_add(1)?;
         let spent = self.spent + u128::from(spent);
         let files = self.files + u128::from(files);
-        Cursor::from_parts(self.cycle, runs, spent, files, state)
+        Cursor::from_parts(self.cycle, runs, spent, files, self.further, state)
     }
 
     /// The number of the cycle, from 1.
@@ -127,6 +129,13 @@ impl Cursor {
         ensures { result ≡ self.now.files }
     {
         self.files
+    }
+
+    /// What the audit checks further.
+    pub fn further(&self) -> Further
+        ensures { result ≡ self.now.further }
+    {
+        self.further
     }
 
     /// Where the next run begins.

@@ -2,23 +2,23 @@
 ghost use Rattle.std.specs.Prelude.{◌≡◌, ◌≢◌, ◌≤◌, ℕ, List, ◌++◌, length, IfOk, IfErr, IfSome, IsNone};
 ghost use Rattle.ocfl_tree.specs.{Name.{IsPlace}, Place.{Place as ModelPlace}};
 ghost use Rattle.ocfl_report.specs.Text.{place_text};
-ghost use Rattle.ocfl_cursor.specs.Cursor.{State as ModelState, Cursor as ModelCursor};
+ghost use Rattle.ocfl_cursor.specs.Cursor.{State as ModelState, Cursor as ModelCursor, further_line};
 ghost use Rattle.ocfl_cursor.specs.State.{state_of};
-ghost use Rattle.ocfl_cursor.specs.Internal.Body.{version_line, files_line, FilesFit, CountsFit, counts_text, IsStateLine, AreLinesOf, IsBodyOf};
+ghost use Rattle.ocfl_cursor.specs.Internal.Body.{further_of, version_of, version_line, files_line, FilesFit, CountsFit, counts_text, IsStateLine, AreLinesOf, IsBodyOf};
 ghost use Rattle.ocfl_cursor.specs.Refusal.{IsTextOf, RefusedRightly};
 ghost use Rattle.ocfl_cursor.specs.declared.form.FormVersion.{FormVersion as ModelVersion};
 
 use crate::cursor::Cursor;
 use crate::form::{
-    AFTER, CYCLE, DIGEST, ENDED, FILES, FIRST_LINE_ONE, FIRST_LINE_TWO, FRONT, FormVersion,
-    MAX_TEXT, RUNS, SPENT, START, VERSIONS,
+    AFTER, CHECKS_INVENTORIES, CYCLE, DIGEST, ENDED, FILES, FIRST_LINE_ONE, FIRST_LINE_THREE,
+    FIRST_LINE_TWO, FRONT, FormVersion, MAX_TEXT, RUNS, SPENT, START, VERSIONS,
 };
 use crate::number::{read_number, read_small_number};
 use crate::pieces::{after_prefix, before_line_feed, count_slashes};
 use crate::refused::{Refused, TextKind};
 use crate::seal::body_of;
 use crate::state::{MAX_NAMES, State};
-use ocfl_report::{TextStop, read_place};
+use ocfl_report::{Further, TextStop, read_place};
 use ocfl_tree::{Place, is_bytes};
 use std::alloc::Global;
 
@@ -64,9 +64,31 @@ pub(crate) fn read_lines(
         return Err(TextStop::Bad);
     };
     let state = read_state(alloc, line)?;
-    match Cursor::from_parts(counts.cycle, counts.runs, counts.spent, counts.files, state) {
+    let (spent, files) = (counts.spent, counts.files);
+    let further = further_of(version);
+    match Cursor::from_parts(counts.cycle, counts.runs, spent, files, further, state) {
         Some(cursor) => Ok(cursor),
         None => Err(TextStop::Bad),
+    }
+}
+
+/// What the audits of a version check further.
+fn further_of(version: FormVersion) -> Further
+    ensures { result ≡ further_of version }
+{
+    match version {
+        FormVersion::One | FormVersion::Two => Further::Nothing,
+        FormVersion::Three => Further::Inventories,
+    }
+}
+
+/// The version that is written for an audit that checks this further.
+pub(crate) fn version_of(further: Further) -> FormVersion
+    ensures { result ≡ version_of further }
+{
+    match further {
+        Further::Nothing => FormVersion::Two,
+        Further::Inventories => FormVersion::Three,
     }
 }
 
@@ -79,7 +101,7 @@ struct Counts {
     files: u128,
 }
 
-/// Reads the lines of the numbers. Gives what follows them too.
+/// Reads the lines before that of the state. Gives what follows them too.
 fn read_counts(version: FormVersion, lines: &[u8]) -> Option<(Counts, &[u8])>
     ensures found { IfSome result (λ read. lines.now ≡ counts_text version
         read.0.cycle read.0.runs read.0.spent read.0.files ++ read.1.now) }
@@ -89,7 +111,8 @@ fn read_counts(version: FormVersion, lines: &[u8]) -> Option<(Counts, &[u8])>
         → CountsFit version cycle runs spent files
         → lines.now ≢ counts_text version cycle runs spent files ++ rest }
 {
-    let (cycle, rest) = read_small_number(CYCLE, lines)?;
+    let rest = after_further(version, lines)?;
+    let (cycle, rest) = read_small_number(CYCLE, rest)?;
     let (runs, rest) = read_small_number(RUNS, rest)?;
     let (spent, rest) = read_number(SPENT, rest)?;
     let (files, rest) = read_files(version, rest)?;
@@ -108,10 +131,26 @@ fn read_first_line(body: &[u8]) -> Option<(FormVersion, &[u8])>
     ensures missing { IsNone result
         → (v : ModelVersion) (rest : List ℕ) → body.now ≢ version_line v ++ rest }
 {
+    if let Some(rest) = after_prefix(FIRST_LINE_THREE, body) {
+        return Some((FormVersion::Three, rest));
+    }
     if let Some(rest) = after_prefix(FIRST_LINE_TWO, body) {
         return Some((FormVersion::Two, rest));
     }
     Some((FormVersion::One, after_prefix(FIRST_LINE_ONE, body)?))
+}
+
+/// What follows the line of what is checked further, which version 3 alone has.
+fn after_further(version: FormVersion, lines: &[u8]) -> Option<&[u8]>
+    ensures found { IfSome result
+        (λ rest. lines.now ≡ further_line (further_of version) ++ rest.now) }
+    ensures missing { IsNone result → (rest : List ℕ)
+        → lines.now ≢ further_line (further_of version) ++ rest }
+{
+    match version {
+        FormVersion::One | FormVersion::Two => Some(lines),
+        FormVersion::Three => after_prefix(CHECKS_INVENTORIES, lines),
+    }
 }
 
 /// Reads the line of the files, which version 1 has not.
@@ -123,7 +162,7 @@ fn read_files(version: FormVersion, text: &[u8]) -> Option<(u128, &[u8])>
 {
     match version {
         FormVersion::One => Some((0, text)),
-        FormVersion::Two => read_number(FILES, text),
+        FormVersion::Two | FormVersion::Three => read_number(FILES, text),
     }
 }
 

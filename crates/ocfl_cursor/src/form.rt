@@ -6,20 +6,27 @@ pub(crate) const MAX_TEXT: usize = 262_144;
 /// How the text of each version begins.
 pub(crate) const FRONT: &[u8] = b"ocfl-scrub cursor ";
 
-/// The versions that are read: the second, which is written, has a line of the files.
+/// The versions that are read: the second and the third have a line of the files. The third is
+/// written if the audit checks the inventories of versions, and has a line that says so.
 #[derive(Clone, Copy)]
 pub(crate) enum FormVersion {
     One,
     Two,
+    Three,
 }
 
 /// What follows the front in each, up to the first line feed.
-pub(crate) const VERSIONS: &[u8] = b"12";
+pub(crate) const VERSIONS: &[u8] = b"123";
 
 // The first line of each.
 pub(crate) const FIRST_LINE_ONE: &[u8] = b"ocfl-scrub cursor 1\n";
 
 pub(crate) const FIRST_LINE_TWO: &[u8] = b"ocfl-scrub cursor 2\n";
+
+pub(crate) const FIRST_LINE_THREE: &[u8] = b"ocfl-scrub cursor 3\n";
+
+/// The line of an audit that checks the inventories of versions.
+pub(crate) const CHECKS_INVENTORIES: &[u8] = b"checks inventories\n";
 
 // The names of the lines with numbers, in their order.
 pub(crate) const CYCLE: &str = "cycle";
@@ -40,8 +47,11 @@ pub(crate) const ENDED: &[u8] = b"ended";
 /// How many bytes of a part's cursor are read at most: its ends may be long.
 pub(crate) const MAX_PART_TEXT: usize = 67_108_864;
 
-// The first line of a part's cursor.
-pub(crate) const PART_FIRST_LINE: &[u8] = b"ocfl-scrub part cursor 1\n";
+// The first line of a part's cursor in each version. The second has the line of the audit that
+// checks the inventories of versions.
+pub(crate) const PART_FIRST_LINE_ONE: &[u8] = b"ocfl-scrub part cursor 1\n";
+
+pub(crate) const PART_FIRST_LINE_TWO: &[u8] = b"ocfl-scrub part cursor 2\n";
 
 // The lines of a part's ends: after each front comes the path of a place, or the word for no end.
 pub(crate) const FROM: &[u8] = b"from ";

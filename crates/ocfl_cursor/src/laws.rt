@@ -23,7 +23,7 @@ use crate::part_reading::PartCursorStop;
 use crate::refused::{PartRefused, Refused};
 use std::alloc::Global;
 
-/// A text determines the cursor whose text it is, in either version.
+/// A text determines the cursor whose text it is, in each version.
 pub fn text_determines_the_cursor()
     ensures { (b : List ℕ) (c d : ModelCursor) → IsTextOf b c → IsTextOf b d → c ≡ d }
 {}

@@ -4,11 +4,12 @@
 //! # What is proved
 //!
 //! - Every `Cursor` keeps its rule by its type.
-//! - `encode` writes exactly the seven lines of the definition, and `cursor_lines` those that are
-//!   shown of a cursor. A text determines the cursor whose text it is.
-//! - `decode` answers a cursor only for bytes that are its text in version 2 or, for a cursor
-//!   without files, in version 1. It refuses only bytes that are not the text of any cursor, for
-//!   the first reason that applies.
+//! - `encode` writes exactly the lines of the definition, seven or eight, and `cursor_lines` those
+//!   that are shown of a cursor. A text determines the cursor whose text it is, and so what its
+//!   audit checks further.
+//! - `decode` answers a cursor only for bytes that are its text as `encode` writes it or, if it has
+//!   no files and its audit checks nothing further, in version 1. It refuses only bytes that are
+//!   not the text of any cursor, for the first reason that applies.
 //! - `decode` asks for memory only after the front, the version and the digest line were found
 //!   right. `read_cursor` answers as `decode` of all the bytes of a reader that tells them.
 //! - A part's cursor has a text that names the part's two ends (`encode_part`). `decode_part`

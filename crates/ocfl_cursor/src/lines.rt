@@ -1,18 +1,18 @@
 //! The lines of a stored cursor, without its first line and its last.
-ghost use Rattle.std.specs.Prelude.{◌≡◌, Option, Err, IfOk, nat_eq, true, codes};
+ghost use Rattle.std.specs.Prelude.{◌≡◌, Option, None, Err, IfOk, nat_eq, true, codes};
 ghost use Rattle.std.specs.List.{starts_with};
-ghost use Rattle.ocfl_cursor.specs.Cursor.{Cursor as ModelCursor};
+ghost use Rattle.ocfl_cursor.specs.Cursor.{Cursor as ModelCursor, cursor_lines};
 ghost use Rattle.ocfl_cursor.specs.Lines.{AreStoredLines, stored_lines};
 ghost use Rattle.ocfl_cursor.specs.declared.ends.PartEnds.{PartEnds as ModelEnds};
 
 use crate::cursor::Cursor;
-use crate::decoding::read_lines;
+use crate::decoding::{read_lines, version_of};
 use crate::encoding::cursor_lines;
 use crate::ends::PartEnds;
-use crate::form::{FROM, FormVersion};
+use crate::form::{CHECKS_INVENTORIES, FROM};
 use crate::part_decoding::read_ends;
 use crate::part_encoding::part_lines;
-use ocfl_report::TextStop;
+use ocfl_report::{Further, TextStop};
 use std::alloc::{AllocError, Global};
 
 /// The lines of a cursor, of this part if there is one: its stored text without the first line and
@@ -43,7 +43,7 @@ pub fn read_stored_lines(
     if lines.starts_with(FROM) {
         return read_part_lines(alloc, lines);
     }
-    Ok((None, read_lines(alloc, FormVersion::Two, lines)?))
+    Ok((None, read_cursor_lines(alloc, lines)?))
 }
 
 /// The part and its cursor whose lines these are.
@@ -54,5 +54,25 @@ fn read_part_lines(alloc: Global, lines: &[u8]) -> Result<(Option<PartEnds>, Cur
         → (part : Option ModelEnds) (c : ModelCursor) → AreStoredLines part lines.now c → ⊥ }
 {
     let (ends, rest) = read_ends(alloc, lines)?;
-    Ok((Some(ends), read_lines(alloc, FormVersion::Two, rest)?))
+    Ok((Some(ends), read_cursor_lines(alloc, rest)?))
+}
+
+/// The cursor of a whole root whose lines these are.
+fn read_cursor_lines(alloc: Global, lines: &[u8]) -> Result<Cursor, TextStop>
+    ensures lines { IfOk result (λ cursor. AreStoredLines None lines.now cursor) }
+    ensures bad { result ≡ Err TextStop.Bad
+        → (c : ModelCursor) → AreStoredLines None lines.now c → ⊥ }
+{
+    read_lines(alloc, version_of(further_told(lines)), lines)
+}
+
+/// What the audit checks further by the lines of its cursor.
+fn further_told(lines: &[u8]) -> Further
+    ensures { (c : ModelCursor) → lines.now ≡ cursor_lines c → result ≡ c.further }
+{
+    if lines.starts_with(CHECKS_INVENTORIES) {
+        Further::Inventories
+    } else {
+        Further::Nothing
+    }
 }

@@ -1,20 +1,23 @@
 //! Reading a part's cursor from its text, and why other bytes are refused.
-ghost use Rattle.std.specs.Prelude.{◌≡◌, ◌≢◌, true, All, List, ℕ, ◌++◌, Option, IfOk, IfErr, IsTrue, ◌↔◌, codes};
+ghost use Rattle.std.specs.Prelude.{◌≡◌, ◌≢◌, true, All, List, ℕ, ◌++◌, Option, IfOk, IfErr, IfSome, IsNone, IsTrue, ◌↔◌, codes};
 ghost use Rattle.ocfl_tree.specs.Place.{Place as ModelPlace};
+ghost use Rattle.ocfl_report.specs.declared.further.Further.{Further as ModelFurther};
 ghost use Rattle.ocfl_cursor.specs.Cursor.{Cursor as ModelCursor};
-ghost use Rattle.ocfl_cursor.specs.Part.{HasNames, AreEnds, end_text, end_line, ends_lines, IsPartText};
-ghost use Rattle.ocfl_cursor.specs.PartRefusal.{AnyPartRefusedRightly, PartRefusedRightly};
+ghost use Rattle.ocfl_cursor.specs.Part.{HasNames, AreEnds, end_text, end_line, ends_lines, part_first_line, IsPartText};
+ghost use Rattle.ocfl_cursor.specs.PartRefusal.{is_part_front, AnyPartRefusedRightly, PartRefusedRightly};
 ghost use Rattle.ocfl_cursor.specs.Internal.Part.{IsPartBody};
 ghost use Rattle.ocfl_cursor.specs.declared.ends.PartEnds.{PartEnds as ModelEnds};
 
 use crate::cursor::Cursor;
-use crate::decoding::read_lines;
+use crate::decoding::{read_lines, version_of};
 use crate::ends::{PartEnds, is_same_part};
-use crate::form::{BELOW, DIGEST, END, FROM, FormVersion, NO_WORD, PART_FIRST_LINE, START};
+use crate::form::{
+    BELOW, DIGEST, END, FROM, NO_WORD, PART_FIRST_LINE_ONE, PART_FIRST_LINE_TWO, START,
+};
 use crate::pieces::after_prefix;
 use crate::refused::{PartRefused, Refused, TextKind};
 use crate::seal::sealed_body;
-use ocfl_report::{TextStop, read_place, split_once};
+use ocfl_report::{Further, TextStop, read_place, split_once};
 use ocfl_tree::{Place, is_bytes};
 use std::alloc::Global;
 
@@ -39,7 +42,7 @@ pub(crate) fn read_part_text(alloc: Global, text: &[u8]) -> Result<(PartEnds, Cu
     ensures part { IfOk result (λ read. IsPartText read.0 text.now read.1) }
     ensures refused { IfErr result (λ refused. AnyPartRefusedRightly text.now refused) }
 {
-    if !text.starts_with(PART_FIRST_LINE) {
+    if !is_part_front(text) {
         return Err(Refused::NotA(TextKind::Cursor));
     }
     let Some(body) = sealed_body(DIGEST, text) else {
@@ -48,17 +51,36 @@ pub(crate) fn read_part_text(alloc: Global, text: &[u8]) -> Result<(PartEnds, Cu
     Ok(read_part_body(alloc, body)?)
 }
 
+/// Whether the first line is that of a part's cursor.
+pub(crate) fn is_part_front(text: &[u8]) -> bool
+    ensures { result ≡ is_part_front text.now }
+{
+    text.starts_with(PART_FIRST_LINE_ONE) || text.starts_with(PART_FIRST_LINE_TWO)
+}
+
 /// The part and its cursor of which this is the text before its digest line.
 fn read_part_body(alloc: Global, body: &[u8]) -> Result<(PartEnds, Cursor), TextStop>
     ensures part { IfOk result (λ read. IsPartBody read.0 body.now read.1) }
     ensures bad { result ≡ Err TextStop.Bad
         → (e : ModelEnds) (c : ModelCursor) → IsPartBody e body.now c → ⊥ }
 {
-    let Some(lines) = after_prefix(PART_FIRST_LINE, body) else {
+    let Some((further, lines)) = read_part_first_line(body) else {
         return Err(TextStop::Bad);
     };
     let (ends, lines) = read_ends(alloc, lines)?;
-    Ok((ends, read_lines(alloc, FormVersion::Two, lines)?))
+    Ok((ends, read_lines(alloc, version_of(further), lines)?))
+}
+
+/// Reads the first line, which tells what the audit checks further.
+fn read_part_first_line(body: &[u8]) -> Option<(Further, &[u8])>
+    ensures found { IfSome result (λ read. body.now ≡ part_first_line read.0 ++ read.1.now) }
+    ensures missing { IsNone result → (further : ModelFurther) (rest : List ℕ)
+        → body.now ≢ part_first_line further ++ rest }
+{
+    if let Some(rest) = after_prefix(PART_FIRST_LINE_TWO, body) {
+        return Some((Further::Inventories, rest));
+    }
+    Some((Further::Nothing, after_prefix(PART_FIRST_LINE_ONE, body)?))
 }
 
 /// Reads the lines of both ends. Gives what follows them too.

@@ -1,19 +1,22 @@
 //! Writing the text of a part's cursor, and the lines that are shown of it.
 ghost use Rattle.std.specs.Prelude.{◌≡◌, ◌++◌, Some, IfOk, OnOk};
 ghost use Rattle.ocfl_cursor.specs.Cursor.{IsCursor};
-ghost use Rattle.ocfl_cursor.specs.Part.{AreEnds, end_text, end_line, ends_lines, part_lines, part_text};
+ghost use Rattle.ocfl_cursor.specs.Part.{AreEnds, end_text, end_line, ends_lines, part_first_line, part_lines, part_text};
 
 use crate::cursor::Cursor;
 use crate::encoding::cursor_lines;
 use crate::ends::{PartEnds, every_part_has_ends};
-use crate::form::{BELOW, DIGEST, END, FROM, NO_WORD, PART_FIRST_LINE, START};
+use crate::form::{
+    BELOW, DIGEST, END, FROM, NO_WORD, PART_FIRST_LINE_ONE, PART_FIRST_LINE_TWO, START,
+};
 use crate::seal::sealed_text;
-use ocfl_report::put_place;
+use ocfl_report::{Further, put_place};
 use ocfl_tree::{Place, is_bytes};
 use std::alloc::{AllocError, Global};
 
 /// The text of a cursor of this part: nine lines, the second and third of which name the part, and
-/// the last of which seals the others by their SHA-256.
+/// the last of which seals the others by their SHA-256. There is one more if the audit checks the
+/// inventories of versions.
 ///
 /// An end that has no place is `start` or `end`. The place whose text is that word is written with
 /// `./` before it, so that the text determines the part.
@@ -24,10 +27,21 @@ pub fn encode_part(alloc: Global, ends: &PartEnds, cursor: &Cursor) -> Result<Ve
 {
     every_part_has_ends(ends);
     let lines = part_lines(alloc, ends, cursor)?;
-    sealed_text(alloc, DIGEST, PART_FIRST_LINE, &lines)
+    sealed_text(alloc, DIGEST, part_first_line(cursor.further()), &lines)
 }
 
-/// The text of a part's cursor without its first line and its last: seven lines, to be shown.
+/// The first line of the text of such an audit's cursor of a part.
+fn part_first_line(further: Further) -> &'static [u8]
+    ensures { result.now ≡ part_first_line further }
+{
+    match further {
+        Further::Nothing => PART_FIRST_LINE_ONE,
+        Further::Inventories => PART_FIRST_LINE_TWO,
+    }
+}
+
+/// The text of a part's cursor without its first line and its last: seven or eight lines, to be
+/// shown.
 pub fn part_lines(alloc: Global, ends: &PartEnds, cursor: &Cursor) -> Result<Vec<u8>, AllocError>
     ensures lines { IfOk result (λ lines. lines.items ≡ part_lines ends.now cursor.now) }
     ensures keeps { IsCursor cursor.now }

@@ -6,8 +6,8 @@ ghost use Rattle.ocfl_cursor.specs.{Internal.Part.{ArePartTextLines}, Stop.{max_
 
 use crate::decoding::decode;
 use crate::encoding::cursor_lines;
-use crate::form::{MAX_PART_TEXT, PART_FIRST_LINE};
-use crate::part_decoding::read_part_text;
+use crate::form::MAX_PART_TEXT;
+use crate::part_decoding::{is_part_front, read_part_text};
 use crate::part_encoding::part_lines;
 use crate::reading::{CursorStop, cursor_stop};
 use crate::refused::{Refused, TextKind};
@@ -27,7 +27,7 @@ pub enum ShowStop {
 
 /// Reads a stored cursor, of a whole root or of any part, from all the bytes of a reader. Gives the
 /// lines to be shown: its text without the first line and the last. So the lines of a part's cursor
-/// begin with those of its ends. A whole root's cursor is shown as version 2.
+/// begin with those of its ends. A whole root's cursor of version 1 is shown as version 2.
 ///
 /// At most 67,108,865 bytes are read.
 pub fn read_shown<R: Read>(alloc: Global, reader: &mut R) -> Result<Vec<u8>, ShowStop>
@@ -51,7 +51,7 @@ fn shown_lines(alloc: Global, text: &[u8]) -> Result<Vec<u8>, ShowStop>
     ensures lines { IfOk result (λ lines. AreShown text.now lines.items) }
     ensures refused { IfErr result (λ stop. UnshownRightly text.now stop) }
 {
-    if text.starts_with(PART_FIRST_LINE) {
+    if is_part_front(text) {
         match lines_of_part(alloc, text) {
             Ok(lines) => Ok(lines),
             Err(refused) => Err(ShowStop::Part(refused)),

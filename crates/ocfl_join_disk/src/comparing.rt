@@ -13,9 +13,9 @@ use ocfl_tree::is_bytes;
 use std::alloc::Global;
 use std::io::{self, Read};
 
-/// The closed reports of parts in a cycle, and the joined one that was made of them before: they are
-/// compared with it, and nothing is made. It tells what it shows if its disk does, and not what a
-/// crash leaves, since it changes nothing.
+/// The closed reports of parts in a cycle, and the joined one that was made of them before: they
+/// are compared with it, and nothing is made. It tells what it shows if its disk does, and not what
+/// a crash leaves, since it changes nothing.
 #[derive(Drop)]
 pub struct ComparedReports<D: JoinDisk + Drop> {
     parts: Parts<D>,
@@ -54,7 +54,8 @@ fn has_ended<R: Read>(report: &mut R) -> io::Result<bool>
 }
 
 impl<D: JoinDisk + Drop> ComparedReports<D> {
-    /// Those of a cycle on a disk, whose joined report is there, whole or not. Nothing was compared.
+    /// Those of a cycle on a disk, whose joined report is there, whole or not. Nothing was
+    /// compared.
     pub fn over(alloc: Global, disk: D, cycle: u64, whole: bool) -> ComparedReports<D>
         ensures disk { result.parts.disk ≡ disk }
         ensures cycle { result.cycle ≡ cycle }

@@ -17,9 +17,9 @@ use ocfl_say::Say;
 use ocfl_separators::Separators;
 use std::alloc::{AllocError, Global};
 
-/// The cycles of the parts that separators make, on a disk: the closed reports of each are joined by
-/// `join`, and the words on joined reports are said on an output. It tells what it shows if its disk
-/// does.
+/// The cycles of the parts that separators make, on a disk: the closed reports of each are joined
+/// by `join`, and the words on joined reports are said on an output. It tells what it shows if its
+/// disk does.
 #[derive(Drop)]
 pub struct DiskCycles<'a, D: JoinDisk + Drop, S: Say + Drop> {
     alloc: Global,
@@ -76,8 +76,8 @@ fn note_made<D: JoinDisk>(disk: &mut D, text: Result<String, AllocError>) -> boo
     }
 }
 
-/// Says why the joining of a cycle stopped, with what the system said of a call that failed. Whether
-/// that was taken.
+/// Says why the joining of a cycle stopped, with what the system said of a call that failed.
+/// Whether that was taken.
 fn note_why<D: JoinDisk>(
     alloc: Global,
     disk: &mut D,

@@ -20,8 +20,8 @@ pub struct OpenPart<R> {
 }
 
 /// What a joining asks of the system: what there is in the state folders of the parts, the closed
-/// reports among it, and the joined reports, each by its cycle. The joined report is made beside its place, as what
-/// `ocfl_disk` calls the report, and gets its name by a rename.
+/// reports among it, and the joined reports, each by its cycle. The joined report is made beside
+/// its place, as what `ocfl_disk` calls the report, and gets its name by a rename.
 ///
 /// One that states nothing of what is on the disk does not tell it.
 pub trait JoinDisk {
@@ -72,7 +72,8 @@ pub trait JoinDisk {
         ensures there { IsTrue told → OnOk result
             (IsSome (text_in cycle whole (state self.old).seen)) };
 
-    /// Keeps that what is there in place of the joined report is not it, or why it could not be read.
+    /// Keeps that what is there in place of the joined report is not it, or why it could not be
+    /// read.
     fn refuse_joined(&mut self, cycle: u64, whole: bool, error: Option<io::Error>) -> ReportTrouble
         ensures calm { IsTrue told → Calm (state self.old) (state self.new) }
         ensures parts { IsTrue told → parts self.new ≡ parts self.old };
@@ -186,8 +187,8 @@ pub trait JoinDisk {
         ensures silent { IsTrue told → OnErr result (parts self.new ≡ parts self.old) }
         ensures calm { IsTrue told → Calm (state self.old) (state self.new) };
 
-    /// What the system said of the last call that failed, and then it is forgotten. `None` if that was
-    /// not kept.
+    /// What the system said of the last call that failed, and then it is forgotten. `None` if that
+    /// was not kept.
     fn take_failure(&mut self) -> Option<FailedCall>
         ensures parts { IsTrue told → parts self.new ≡ parts self.old }
         ensures calm { IsTrue told → Calm (state self.old) (state self.new) };

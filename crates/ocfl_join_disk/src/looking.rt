@@ -110,7 +110,8 @@ pub(crate) fn stop_at(part: usize, why: ReportTrouble) -> JoinStop
     }
 }
 
-/// What is known of the reports that all parts closed in a cycle, whose checkpoints say these facts.
+/// What is known of the reports that all parts closed in a cycle, whose checkpoints say these
+/// facts.
 #[tactic(auto, using(ocfl_joining::proofs::Stopping::at_one))]
 pub(crate) fn find_parts<D: JoinDisk>(
     alloc: Global,

@@ -66,8 +66,8 @@ impl<D: JoinDisk + Drop> MakingReports<D> {
         ensures others { IsTrue D.told
             → others_in self.old.cycle (D.state self.new.parts.disk).seen
             ≡ others_in self.old.cycle (D.state self.old.parts.disk).seen }
-        ensures empty { IsTrue D.told → OnOk result
-            (made_of (D.state self.new.parts.disk).seen.bytes (option_map D.number self.new.made) ≡ []) }
+        ensures empty { IsTrue D.told → OnOk result (made_of
+            (D.state self.new.parts.disk).seen.bytes (option_map D.number self.new.made) ≡ []) }
         ensures crash { IsTrue D.told → PutsPass self.old.cycle Same
             (D.state self.old.parts.disk) (D.state self.new.parts.disk) }
         ensures parts { IsTrue D.told → D.parts self.new.parts.disk ≡ D.parts self.old.parts.disk }
@@ -135,8 +135,8 @@ impl<D: JoinDisk + Drop> MakingReports<D> {
         }
     }
 
-    /// Gives the file, whose bytes are on the disk, the name of the joined report, and brings that to
-    /// the disk.
+    /// Gives the file, whose bytes are on the disk, the name of the joined report, and brings that
+    /// to the disk.
     fn name_made(&mut self, whole: bool) -> Result<(), ReportTrouble>
         ensures put { IsTrue D.told → OnOk result (IsNamed self.old.cycle whole
             (D.state self.old.parts.disk).seen (option_map D.number self.old.made)

@@ -233,8 +233,8 @@ fn copy_as_closed<R: PartReports>(
     }
 }
 
-/// Copies the report of the part with this number. Whether it is right: the one that was closed, with
-/// the lines of a report that are all in the part.
+/// Copies the report of the part with this number. Whether it is right: the one that was closed,
+/// with the lines of a report that are all in the part.
 pub(crate) fn copy_part<R: PartReports>(
     alloc: Global,
     separators: &Separators,

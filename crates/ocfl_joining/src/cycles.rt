@@ -88,15 +88,15 @@ pub trait PartCycles {
             × (seen self.new ≡ with_said text (seen self.old))) };
 }
 
-/// Joins the reports of so many parts, of each cycle up to the last one that all of them have closed,
-/// the oldest first. Gives the greatest status, and whether it was said of each cycle that stopped why
-/// it did.
+/// Joins the reports of so many parts, of each cycle up to the last one that all of them have
+/// closed, the oldest first. Gives the greatest status, and whether it was said of each cycle that
+/// stopped why it did.
 ///
-/// Of the 1,000 cycles before the last one each is joined that is not joined yet, and that all parts
-/// have closed and said: no part is named then, since one that keeps a cycle from being joined was
-/// named when that was the last. The last one is compared with its joined report if that is there,
-/// else it is joined, or the parts are named that keep it from it. A call that fails, or a report that
-/// is not right, stops its own cycle alone.
+/// Of the 1,000 cycles before the last one each is joined that is not joined yet, and that all
+/// parts have closed and said: no part is named then, since one that keeps a cycle from being
+/// joined was named when that was the last. The last one is compared with its joined report if that
+/// is there, else it is joined, or the parts are named that keep it from it. A call that fails, or
+/// a report that is not right, stops its own cycle alone.
 pub fn join_cycles<C: PartCycles>(cycles: &mut C, parts: usize, last: u64) -> JoinEnd
     ensures joined { IsTrue C.told
         → AreJoined (C.seen cycles.old) (C.seen cycles.new) parts last result }
@@ -229,8 +229,8 @@ fn join_over<C: PartCycles>(
     Ok(join_status(end_of(names, whole)))
 }
 
-/// How a joining ended: the joined report is whole or not, or parts keep the cycle from being joined,
-/// and were named or not.
+/// How a joining ended: the joined report is whole or not, or parts keep the cycle from being
+/// joined, and were named or not.
 pub fn end_of(names: bool, whole: Option<bool>) -> CycleEnd
     ensures { result ≡ end_by names whole }
 {

@@ -52,7 +52,7 @@ impl Drop for Facts {
 pub struct FoundReport {
     /// Whether nothing of it was lost, and nothing left out.
     pub whole: bool,
-    /// The checkpoint with which it was closed. `None` where none was kept, and `Some(None)` where what
+    /// The checkpoint with which it was closed. `None` if none was kept, and `Some(None)` if what
     /// was kept is no checkpoint any more.
     pub kept: Option<Option<Checkpoint>>,
 }
@@ -199,8 +199,8 @@ fn kept_mark(kept: &Option<Option<Checkpoint>>) -> KeptMark
     }
 }
 
-/// With what a report was closed, by what was kept then: `None` where nothing was, and `Some(None)`
-/// where that is no checkpoint any more. One that lost all its lines is damaged.
+/// With what a report was closed, by what was kept then: `None` if nothing was, and `Some(None)` if
+/// that is no checkpoint any more. One that lost all its lines is damaged.
 pub fn mark_of(emptied: bool, kept: &Option<Option<Checkpoint>>) -> KeptMark
     ensures { result ≡ mark_of_these emptied kept.now }
 {
@@ -222,9 +222,9 @@ fn is_lost(facts: Option<&Facts>, cycle: u64, bytes: u64) -> bool
 }
 
 /// With what the report of a cycle was closed by the part with this number, from 1, of which the
-/// checkpoints say these facts: the report has so many bytes now, and this was kept when it was closed,
-/// `None` where nothing was, and `Some(None)` where that is no checkpoint any more. One that lost all
-/// its lines is damaged.
+/// checkpoints say these facts: the report has so many bytes now, and this was kept when it was
+/// closed, `None` if nothing was, and `Some(None)` if that is no checkpoint any more. One
+/// that lost all its lines is damaged.
 pub fn mark_with(
     all: &[Option<Facts>],
     number: usize,
@@ -278,8 +278,8 @@ fn runs_of(kept: &Option<Option<Checkpoint>>) -> Option<u64>
     }
 }
 
-/// How many runs parts had in a cycle, with one more part, of which this was kept. `None` if that is not
-/// known of each.
+/// How many runs parts had in a cycle, with one more part, of which this was kept. `None` if that
+/// is not known of each.
 pub fn add_runs(sum: Option<u64>, kept: &Option<Option<Checkpoint>>) -> Option<u64>
     ensures { result ≡ sum_runs sum kept.now }
 {
@@ -308,8 +308,8 @@ impl RunCount {
         }
     }
 
-    /// With one more report, of which this was kept when it was closed. The first one of another cycle
-    /// than that of the last one is counted anew.
+    /// With one more report, of which this was kept when it was closed. The first one of another
+    /// cycle than that of the last one is counted anew.
     pub fn with(self, cycle: u64, kept: &Option<Option<Checkpoint>>) -> RunCount
         ensures { result ≡ counted_with self cycle kept.now }
     {

@@ -46,7 +46,8 @@ fn call_status(call: &Option<FailedCall>) -> u8
     }
 }
 
-/// The exit status of a joining that stopped: 3, or a greater one that goes with the call that failed.
+/// The exit status of a joining that stopped: 3, or a greater one that goes with the call that
+/// failed.
 pub fn failed_status(stop: &JoinStop, call: &Option<FailedCall>) -> u8
     ensures { result ≡ failed_status_by stop.now call.now }
 {

@@ -36,11 +36,11 @@ pub struct Joined {
 pub enum JoinStop {
     /// These parts cannot be joined. No report was opened.
     Missing(Vec<MissingPart>),
-    /// The reports of just these parts, by their numbers from 1, are not the ones that were closed, or
-    /// cannot be those of their parts.
+    /// The reports of just these parts, by their numbers from 1, are not the ones that were closed,
+    /// or cannot be those of their parts.
     Changed(Vec<usize>),
-    /// The report of the part with this number could not be read, or what was read of it could not be
-    /// taken into the joined report.
+    /// The report of the part with this number could not be read, or what was read of it could not
+    /// be taken into the joined report.
     Part {
         /// The number of the part, from 1.
         part: usize,
@@ -127,10 +127,11 @@ fn copy_all<R: PartReports>(
 ///
 /// The joined report has the bytes of all of them in their order, each once, and is put once each
 /// was found to be as it was closed, with lines of its part alone; else each part is named of whose
-/// report that is not so. Each is opened once, and read and checked while it is copied. If the report of a part is not whole, the joined one is put as one
-/// that is not whole, and the places that parts left out are given. Before it is put, the word on it
-/// is said, if there is one. After `Ok` a crash leaves it; at any moment one leaves all of it or none,
-/// and all of it only if its word was said.
+/// report that is not so. Each is opened once, and read and checked while it is copied. If the
+/// report of a part is not whole, the joined one is put as one that is not whole, and the places
+/// that parts left out are given. Before it is put, the word on it is said, if there is one. After
+/// `Ok` a crash leaves it; at any moment one leaves all of it or none, and all of it only if its
+/// word was said.
 pub fn join<R: PartReports, S: Say>(
     alloc: Global,
     separators: &Separators,

@@ -2,7 +2,7 @@
 ghost use Rattle.std.specs.Prelude.{◌≡◌, ℕ, List, None, Some, map, true};
 ghost use Rattle.ocfl_tree.specs.{Ascending.{IsAscending}, Place.{Place, Text, place_cmp}};
 ghost use Rattle.ocfl_tree.specs.StorageRoot.{StorageRoot};
-ghost use Rattle.ocfl_report.specs.Text.{text};
+ghost use Rattle.ocfl_report.specs.{Text.{text}, declared.further.Further.{Further}};
 ghost use Rattle.ocfl_rules.specs.{Audit.{Unread, audit}, Parts.{Part, parts_of, together, within}};
 ghost use Rattle.ocfl_separators.specs.Separators.{end_of_part, start_of_part};
 ghost use Rattle.ocfl_joining.specs.{Joined.{all_parts, joined_text}, Missing.{KnownPart, fault_of}};
@@ -19,15 +19,15 @@ pub fn a_part_without_fault_is_right()
         × ((part.cycle ≡ cycle) × ((part.told ≡ true) × (part.whole ≡ true))))) }
 {}
 
-/// If the closed report of each part is what the audit has there, with the files that its own runs
+/// If the closed report of each part is what one audit has there, with the files that its own runs
 /// could not read, the joined report is the audit of the whole root, in which just those files are
 /// called unreadable. So if every file could be read, it is exactly the audit.
 #[tactic(auto, using(crate::proofs::ClosedLaws::closed_join))]
 pub fn closed_reports_join_to_the_audit()
-    ensures { (root : StorageRoot) (separators : List Place) (s : Seen)
+    ensures { (further : Further) (root : StorageRoot) (separators : List Place) (s : Seen)
         (parts : List (Part × Unread)) → IsAscending place_cmp separators
         → map (λ e. e.0) parts ≡ parts_of separators
         → map s.bytes (all_parts separators)
-        ≡ map (λ e. text (within e.0 (audit None root e.1))) parts
-        → joined_text separators s ≡ text (audit None root (together parts)) }
+        ≡ map (λ e. text (within e.0 (audit further root e.1))) parts
+        → joined_text separators s ≡ text (audit further root (together parts)) }
 {}

@@ -22,7 +22,8 @@ pub struct MemoryJoined {
     pub bytes: Vec<u8>,
 }
 
-/// The closed reports of parts in memory, in their order, and the joined ones that were made of them.
+/// The closed reports of parts in memory, in their order, and the joined ones that were made of
+/// them.
 #[derive(Debug)]
 pub struct MemoryReports {
     alloc: Global,

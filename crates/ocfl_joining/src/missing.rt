@@ -131,8 +131,9 @@ pub fn find_root(parts: &[Option<ClosedPart>]) -> &[u8]
     }
 }
 
-/// Names each part of a storage root with whose report something is wrong, in their order, and what.
-/// None is named exactly if all can be joined and are whole. `parts` has what is known of each part.
+/// Names each part of a storage root with whose report something is wrong, in their order, and
+/// what. None is named exactly if all can be joined and are whole. `parts` has what is known of
+/// each part.
 ///
 /// The only error is running out of memory.
 pub fn find_missing(

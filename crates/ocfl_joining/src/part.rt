@@ -21,7 +21,8 @@ pub struct ClosedPart {
     pub whole: bool,
     /// What the report has new and gone was said.
     pub told: bool,
-    /// How many names the top folder of the storage root had when the cycle began, if that is known.
+    /// How many names the top folder of the storage root had when the cycle began, if that is
+    /// known.
     pub names: Option<u64>,
     /// The places that were left out, as far as they are known.
     pub left: Vec<Place>,

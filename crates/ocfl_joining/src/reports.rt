@@ -36,8 +36,8 @@ impl From<AllocError> for ReportTrouble {
 
 /// The closed reports of all parts, in one cycle, and the joined report that is made of them.
 ///
-/// A crash may come at any moment, in a call or between two. One that states none of these clauses is
-/// not told.
+/// A crash may come at any moment, in a call or between two. One that states none of these clauses
+/// is not told.
 pub trait PartReports {
     /// Whether the reports are as the clauses say. Of those that are not told they say nothing.
     ghost told: { Bool } = { false };
@@ -91,8 +91,8 @@ pub trait PartReports {
         ensures reports { IsTrue told → SameReports (seen self.old) (seen self.new) }
         ensures crash { IsTrue lasts → Passes may_leave moment left_since Same self.old self.new };
 
-    /// The word on the joined report, whole or not, of which all bytes were given. `None` if nothing
-    /// is said of it before it is put.
+    /// The word on the joined report, whole or not, of which all bytes were given. `None` if
+    /// nothing is said of it before it is put.
     fn find_word(&mut self, whole: bool) -> Result<Option<Vec<u8>>, ReportTrouble>
         ensures word { IsTrue told → IfOk result (λ word. option_map (λ w. w.items) word
             ≡ (seen self.old).word whole (seen self.old).made) }

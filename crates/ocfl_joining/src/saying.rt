@@ -1,5 +1,5 @@
-//! What is said of parts that keep a cycle from being joined, of what parts left out, and of a joining
-//! that stopped.
+//! What is said of parts that keep a cycle from being joined, of what parts left out, and of a
+//! joining that stopped.
 ghost use Rattle.std.specs.Prelude.{◌≡◌, ◌++◌, [], IfOk, IsOkAnd, OnOk, Some, flat_map};
 ghost use Rattle.std.specs.Prelude.{codes, decimal, option_map, string_bytes};
 ghost use Rattle.ocfl_joining.specs.Missing.{names_of};
@@ -104,8 +104,8 @@ fn add(made: Result<String, AllocError>, text: &mut String) -> Result<(), AllocE
     text.push_str(made?.as_str())
 }
 
-/// What is said of parts that keep a cycle from being joined: a line for each, which says why. Of all
-/// parts this is known.
+/// What is said of parts that keep a cycle from being joined: a line for each, which says why. Of
+/// all parts this is known.
 ///
 /// The only error is running out of memory.
 pub fn say_missing(
@@ -301,8 +301,8 @@ fn undone_one(
     }
 }
 
-/// Why the joining of a cycle stopped: a line for each part whose report was changed, or one for the
-/// part, or for the cycle, at which a call failed, with what the system said of that call.
+/// Why the joining of a cycle stopped: a line for each part whose report was changed, or one for
+/// the part, or for the cycle, at which a call failed, with what the system said of that call.
 ///
 /// The only error is running out of memory.
 pub fn say_stop(

@@ -95,8 +95,8 @@ fn kept_by(alloc: Global, bytes: Option<Vec<u8>>) -> Result<Option<Option<Checkp
     Ok(Some(checkpoint_of(alloc, &bytes)?))
 }
 
-/// The checkpoint with which the report of a cycle was closed. `None` where it was not kept, and
-/// `Some(None)` where what was kept is no checkpoint any more.
+/// The checkpoint with which the report of a cycle was closed. `None` if it was not kept, and
+/// `Some(None)` if what was kept is no checkpoint any more.
 pub fn read_kept<F: Folder>(
     alloc: Global,
     folder: &mut F,
@@ -120,8 +120,8 @@ pub struct ClosedIn {
     pub report: OpenReport,
     /// How many bytes the report has.
     pub bytes: u64,
-    /// The checkpoint with which it was closed. `None` where it was not kept, and `Some(None)` where
-    /// what was kept is no checkpoint any more.
+    /// The checkpoint with which it was closed. `None` if it was not kept, and `Some(None)`
+    /// if what was kept is no checkpoint any more.
     pub kept: Option<Option<Checkpoint>>,
 }
 

@@ -25,8 +25,8 @@ pub struct MemClosed {
     pub told: bool,
 }
 
-/// Closed reports of parts in memory, with the same bytes in each cycle, and a disk in memory on which
-/// they are joined.
+/// Closed reports of parts in memory, with the same bytes in each cycle, and a disk in memory on
+/// which they are joined.
 #[derive(Debug)]
 pub struct MemJoinDisk {
     alloc: Global,
@@ -82,8 +82,8 @@ fn part_with(parts: &[MemoryReport], number: usize) -> Option<&MemoryReport>
 }
 
 impl MemJoinDisk {
-    /// These closed reports, of which none was opened, and a disk. No cycle is closed, none compressed,
-    /// and nothing was said.
+    /// These closed reports, of which none was opened, and a disk. No cycle is closed, none
+    /// compressed, and nothing was said.
     pub fn new(alloc: Global, disk: MemDisk, parts: Vec<MemoryReport>) -> MemJoinDisk
         ensures disk { result.disk ≡ disk }
         ensures parts { result.parts ≡ parts }

@@ -31,8 +31,8 @@ lacks e broken = e.lost || nat_lt 0 broken || not (length e.left.items == 0)
 abbrev pub night_status : NightEnd → ℕ → ℕ → ℕ → ℕ
 night_status e broken findings told = max (max (halt_status e.end) (found_status (lacks e broken) findings)) told
 
--- whether a folder that was refused is one of these nights: one of another root, part or program is left
--- as it is
+-- whether a folder that was refused is one of these nights: one of another root, part, audit or program
+-- is left as it is
 abbrev pub is_own : Refusal → Bool
 is_own refusal.NoRoot = true
 is_own refusal.OtherDeclaration = true

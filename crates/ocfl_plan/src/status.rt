@@ -45,8 +45,8 @@ pub fn night_status(end: &NightEnd, broken: u64, findings: u64, told: u8) -> u8
     status_of(&end.end).max(found).max(told)
 }
 
-/// Whether a folder that was refused is one of these nights: one of another root, part or program
-/// is left as it is, its log too.
+/// Whether a folder that was refused is one of these nights: one of another root, part, audit or
+/// program is left as it is, its log too.
 fn is_own(refusal: &Refusal) -> bool
     ensures { result ≡ is_own refusal.now }
 {
@@ -54,7 +54,7 @@ fn is_own(refusal: &Refusal) -> bool
         Refusal::NoRoot | Refusal::OtherDeclaration | Refusal::NamesGone { .. } => true,
         Refusal::Older(_) => true,
         Refusal::NoCheckpoint | Refusal::HasReports | Refusal::Unread(_) => false,
-        Refusal::OtherRoot(_) | Refusal::OtherPart => false,
+        Refusal::OtherRoot(_) | Refusal::OtherPart | Refusal::OtherAudit(_) => false,
     }
 }
 

@@ -1,15 +1,18 @@
 -- The text of a checkpoint determines the checkpoint.
-use Rattle.std.proofs.Common.{◌≡◌, ℕ, ◌^◌, ◌<◌, ◌≤◌, List, [], ◌∷◌, ◌++◌, IfSome, All, length, codes, decimal, flat_map, refl, sym, ap, ◌∙◌, append-nil, append_assoc, arith}
+use Rattle.std.proofs.Common.{◌≡◌, ℕ, ◌^◌, ◌<◌, ◌≤◌, List, [], ◌∷◌, ◌++◌, get_or, IfSome, All, length, codes, decimal, flat_map, refl, sym, ap, ◌∙◌, append-nil, append_assoc, arith}
+use Rattle.std.proofs.lemmas.Bool.{eqb-false}
 use Rattle.std.proofs.{lemmas.Grind.{flat_map-append}, lemmas.List.{append_cancel_left}}
 use Rattle.std.proofs.lemmas.List.Elements.{All-head, All-tail}
 use Rattle.hex.specs.Hex.{encode_lower}
 use Rattle.ocfl_tree.specs.Place.{Text}
 use Rattle.ocfl_report.specs.Text.{place_text}
+use Rattle.ocfl_report.specs.declared.further.Further.{Further}
+use Rattle.ocfl_report.specs.declared.further.Further.TheVariants.{Nothing, Inventories}
 use Rattle.ocfl_report.proofs.PlaceTexts.{place_text_determines}
 use Rattle.ocfl_cursor.specs.{Cursor.{IsCursor}, Part.{AreEnds}, Sealed.{with_seal}}
 use Rattle.ocfl_cursor.specs.Lines.{stored_lines}
 use Rattle.ocfl_cursor.proofs.{Seals.{sealed_determines}, StoredLines.{stored_lines_determine}}
-use Rattle.ocfl_state.specs.Checkpoint.{Checkpoint, IsDigest, IsRoot, AreNames, IsMark, IsLeft, IsCheckpoint, path_text, names_text, phase_text, yes_or_no, stood_text, left_text, checkpoint_body, IsCheckpointText}
+use Rattle.ocfl_state.specs.Checkpoint.{Checkpoint, IsDigest, IsRoot, AreNames, IsMark, IsLeft, IsCheckpoint, path_text, names_text, phase_text, yes_or_no, stood_text, left_text, checkpoint_first_line, checkpoint_body, IsCheckpointText}
 use Rattle.ocfl_state.specs.CheckpointLines.{field_line, sizes_text, standing_text, IsStanding, mark_text, account_text, IsAccount, body_text, OneLine, left_fields, standing_of, account_of, ArePartsOf, IsBodyOf}
 use Rattle.ocfl_state.specs.declared.checkpoint_account.Standing.{Standing}
 use Rattle.ocfl_state.specs.declared.checkpoint_account.Account.{Account}
@@ -42,6 +45,40 @@ sizes_line_determines front m n m' n' r s h k h' k' e =
     let same = sizes_determine m n m' n' h k h' k' parts.0 in
     record { bytes = same.0; lines = same.1; rest = parts.1 }
 
+-- ---- the first line
+
+-- the digit of a version is the byte after the front
+abbrev version_digit : Further → ℕ
+version_digit Nothing = 49
+version_digit Inventories = 50
+
+digit_of_line : (f : Further) (r : Text) → get_or (checkpoint_first_line f ++ r) 22 0 ≡ version_digit f
+digit_of_line Nothing r = refl
+digit_of_line Inventories r = refl
+
+same_digits : (f g : Further) → version_digit f ≡ version_digit g → f ≡ g
+same_digits Nothing Nothing e = refl
+same_digits Nothing Inventories e = absurd (eqb-false 49 50 refl e)
+same_digits Inventories Nothing e = absurd (eqb-false 50 49 refl e)
+same_digits Inventories Inventories e = refl
+
+-- what it tells is the same if texts begin with it, and so is what follows
+pub first_line_determines : (f g : Further) (r s : Text) → checkpoint_first_line f ++ r ≡ checkpoint_first_line g ++ s → (f ≡ g) × (r ≡ s)
+first_line_determines f g r s e =
+    let same : f ≡ g = same_digits f g (sym (digit_of_line f r) ∙ ap (λ t. get_or t 22 0) e ∙ digit_of_line g s) in
+    (same, append_cancel_left (checkpoint_first_line g) r s (ap (λ h. checkpoint_first_line h ++ r) (sym same) ∙ e))
+
+-- a text without either line has none
+pub no_first_line : (body : Text) → ((r : Text) → body ≡ checkpoint_first_line Inventories ++ r → ⊥) → ((r : Text) → body ≡ checkpoint_first_line Nothing ++ r → ⊥)
+    → (f : Further) (r : Text) → body ≡ checkpoint_first_line f ++ r → ⊥
+no_first_line body two one Nothing r e = one r e
+no_first_line body two one Inventories r e = two r e
+
+-- what follows it in a body
+pub after_first_line : (f g : Further) (p : Text) (s : Standing) (a : Account) (u body lines : Text) → body ≡ checkpoint_first_line f ++ lines → body ≡ body_text g p s a u
+    → lines ≡ field_line (codes "root ") p (standing_text s (account_text a u))
+after_first_line f g p s a u body lines e h = (first_line_determines f g lines _ (sym e ∙ h)).1
+
 -- ---- the lines with a fixed number
 
 pub standing_determines : (s t : Standing) (q r : Text) → IsStanding s → IsStanding t → standing_text s q ≡ standing_text t r → (s ≡ t) × (q ≡ r)
@@ -70,19 +107,21 @@ account_determines a b r s h k e =
     ((λ i. record { report = first.0 i; told = second.0 i; left = third.0 i }), third.1)
 
 -- the parts of the text before the last line
-pub record SameParts (p q : Text) (s t : Standing) (a b : Account) (u v : Text) : Type 0 where
+pub record SameParts (f g : Further) (p q : Text) (s t : Standing) (a b : Account) (u v : Text) : Type 0 where
+  pub further : f ≡ g
   pub path : p ≡ q
   pub standing : s ≡ t
   pub account : a ≡ b
   pub rest : u ≡ v
 
-pub parts_determine : (p q : Text) (s t : Standing) (a b : Account) (u v : Text) → OneLine p → OneLine q → IsStanding s → IsStanding t → IsAccount a → IsAccount b
-    → body_text p s a u ≡ body_text q t b v → SameParts p q s t a b u v
-parts_determine p q s t a b u v op oq hs ht ha hb e =
-    let root = field_determines (codes "root ") p q _ _ op oq (append_cancel_left (codes "ocfl-scrub checkpoint 1\n") _ _ e) in
+pub parts_determine : (f g : Further) (p q : Text) (s t : Standing) (a b : Account) (u v : Text) → OneLine p → OneLine q → IsStanding s → IsStanding t → IsAccount a → IsAccount b
+    → body_text f p s a u ≡ body_text g q t b v → SameParts f g p q s t a b u v
+parts_determine f g p q s t a b u v op oq hs ht ha hb e =
+    let first = first_line_determines f g _ _ e in
+    let root = field_determines (codes "root ") p q _ _ op oq first.1 in
     let standing = standing_determines s t _ _ hs ht root.1 in
     let account = account_determines a b u v ha hb standing.1 in
-    record { path = root.0; standing = standing.0; account = account.0; rest = account.1 }
+    record { further = first.0; path = root.0; standing = standing.0; account = account.0; rest = account.1 }
 
 -- ---- the branches that were left out
 
@@ -161,7 +200,7 @@ lefts_determine (n ∷ ls) (m ∷ ms) r s h k l e =
 abbrev pub rest_of : Checkpoint → Text
 rest_of c = flat_map left_text c.left ++ stored_lines c.part c.cursor
 
-pub body_parts : (c : Checkpoint) → checkpoint_body c ≡ body_text (path_text c.root.path) (standing_of c) (account_of c) (rest_of c)
+pub body_parts : (c : Checkpoint) → checkpoint_body c ≡ body_text c.cursor.further (path_text c.root.path) (standing_of c) (account_of c) (rest_of c)
 body_parts c = refl
 
 pub IsStanding-of : (c : Checkpoint) → IsCheckpoint c → IsStanding (standing_of c)
@@ -171,28 +210,29 @@ pub IsAccount-of : (c : Checkpoint) → IsCheckpoint c → IsAccount (account_of
 IsAccount-of c h = record { report = h.report; told = omega (arith, h.told, h.report.bytes); left = h.count }
 
 -- the parts of a body that was taken apart are those of its checkpoint
-pub parts_of_body : (path : Text) (s : Standing) (a : Account) (rest body : Text) (c : Checkpoint) → OneLine path → IsStanding s → IsAccount a
-    → body ≡ body_text path s a rest → IsBodyOf body c → ArePartsOf path s a rest c
-parts_of_body path s a rest body c one hs ha e h =
-    let same = parts_determine path (path_text c.root.path) s (standing_of c) a (account_of c) rest (rest_of c) one (path_one_line c.root.path h.keeps.root.path)
+pub parts_of_body : (f : Further) (path : Text) (s : Standing) (a : Account) (rest body : Text) (c : Checkpoint) → OneLine path → IsStanding s → IsAccount a
+    → body ≡ body_text f path s a rest → IsBodyOf body c → ArePartsOf f path s a rest c
+parts_of_body f path s a rest body c one hs ha e h =
+    let same = parts_determine f c.cursor.further path (path_text c.root.path) s (standing_of c) a (account_of c) rest (rest_of c) one (path_one_line c.root.path h.keeps.root.path)
     hs (IsStanding-of c h.keeps) ha (IsAccount-of c h.keeps) (sym e ∙ h.is ∙ body_parts c) in
-    record { keeps = h.keeps; path = same.path; standing = same.standing; account = same.account; rest = same.rest }
+    record { keeps = h.keeps; further = same.further; path = same.path; standing = same.standing; account = same.account; rest = same.rest }
 
 -- and with such parts it is the body of the checkpoint
-pub body_of_parts : (path : Text) (s : Standing) (a : Account) (rest body : Text) (c : Checkpoint) → body ≡ body_text path s a rest → ArePartsOf path s a rest c → IsBodyOf body c
-body_of_parts path s a rest body c e h =
-    record { keeps = h.keeps; is = e ∙ (λ i. body_text (h.path i) (h.standing i) (h.account i) (h.rest i)) ∙ sym (body_parts c) }
+pub body_of_parts : (f : Further) (path : Text) (s : Standing) (a : Account) (rest body : Text) (c : Checkpoint) → body ≡ body_text f path s a rest → ArePartsOf f path s a rest c
+    → IsBodyOf body c
+body_of_parts f path s a rest body c e h =
+    record { keeps = h.keeps; is = e ∙ (λ i. body_text (h.further i) (h.path i) (h.standing i) (h.account i) (h.rest i)) ∙ sym (body_parts c) }
 
 -- without such parts no text is a body
-pub no_body : (body : Text) → ((path : Text) (s : Standing) (a : Account) (rest : Text) → OneLine path → IsStanding s → IsAccount a → body ≡ body_text path s a rest → ⊥)
-    → (c : Checkpoint) → IsBodyOf body c → ⊥
+pub no_body : (body : Text)
+    → ((f : Further) (path : Text) (s : Standing) (a : Account) (rest : Text) → OneLine path → IsStanding s → IsAccount a → body ≡ body_text f path s a rest → ⊥) → (c : Checkpoint) → IsBodyOf body c → ⊥
 no_body body none c h =
-    none (path_text c.root.path) (standing_of c) (account_of c) (rest_of c) (path_one_line c.root.path h.keeps.root.path) (IsStanding-of c h.keeps)
+    none c.cursor.further (path_text c.root.path) (standing_of c) (account_of c) (rest_of c) (path_one_line c.root.path h.keeps.root.path) (IsStanding-of c h.keeps)
     (IsAccount-of c h.keeps) (h.is ∙ body_parts c)
 
 -- checkpoints with the same parts are the same
-pub parts_are_of_one : (path : Text) (s : Standing) (a : Account) (rest : Text) (c d : Checkpoint) → ArePartsOf path s a rest c → ArePartsOf path s a rest d → c ≡ d
-parts_are_of_one path s a rest c d h k =
+pub parts_are_of_one : (f : Further) (path : Text) (s : Standing) (a : Account) (rest : Text) (c d : Checkpoint) → ArePartsOf f path s a rest c → ArePartsOf f path s a rest d → c ≡ d
+parts_are_of_one f path s a rest c d h k =
     let at = path_determines c.root.path d.root.path h.keeps.root.path k.keeps.root.path (sym h.path ∙ k.path) in
     let standing : standing_of c ≡ standing_of d = sym h.standing ∙ k.standing in
     let account : account_of c ≡ account_of d = sym h.account ∙ k.account in
@@ -213,9 +253,9 @@ parts_are_of_one path s a rest c d h k =
 body_determines : (body : Text) (c d : Checkpoint) → IsBodyOf body c → IsBodyOf body d → c ≡ d
 body_determines body c d h k =
     let path = path_text c.root.path in
-    let parts = λ (x : Checkpoint) (hx : IsBodyOf body x). parts_of_body path (standing_of c) (account_of c) (rest_of c) body x
+    let parts = λ (x : Checkpoint) (hx : IsBodyOf body x). parts_of_body c.cursor.further path (standing_of c) (account_of c) (rest_of c) body x
     (path_one_line c.root.path h.keeps.root.path) (IsStanding-of c h.keeps) (IsAccount-of c h.keeps) (h.is ∙ body_parts c) hx in
-    parts_are_of_one path (standing_of c) (account_of c) (rest_of c) c d (parts c h) (parts d k)
+    parts_are_of_one c.cursor.further path (standing_of c) (account_of c) (rest_of c) c d (parts c h) (parts d k)
 
 -- ---- the last line
 

@@ -3,6 +3,8 @@ use Rattle.std.specs.Prelude.{◌≡◌, ℕ, ◌^◌, ◌<◌, ◌≤◌, List,
 use Rattle.hex.specs.Hex.{encode_lower, IsBytes}
 use Rattle.ocfl_tree.specs.{Place.{Text, Place}, Name.{IsPlace}}
 use Rattle.ocfl_report.specs.Text.{place_text}
+use Rattle.ocfl_report.specs.declared.further.Further.{Further}
+use Rattle.ocfl_report.specs.declared.further.Further.TheVariants.{Nothing, Inventories}
 use Rattle.ocfl_cursor.specs.{Cursor.{Cursor, IsCursor}, Lines.{stored_lines}, Sealed.{with_seal}}
 use Rattle.ocfl_cursor.specs.{Part.{AreEnds}, declared.ends.PartEnds.{PartEnds}}
 use Rattle.ocfl_state.specs.declared.checkpoint_parts.RootIdentity.{RootIdentity}
@@ -115,9 +117,14 @@ checkpoint_lines c =
 abbrev pub shown_text : Checkpoint → Text
 shown_text c = lines_then (checkpoint_lines c) (flat_map left_text c.left ++ stored_lines c.part c.cursor)
 
--- the text before its last line
+-- the first line, which names the version
+abbrev pub checkpoint_first_line : Further → Text
+checkpoint_first_line Nothing = codes "ocfl-scrub checkpoint 1\n"
+checkpoint_first_line Inventories = codes "ocfl-scrub checkpoint 2\n"
+
+-- the text before its last line: the audit of the cursor decides on the version
 abbrev pub checkpoint_body : Checkpoint → Text
-checkpoint_body c = codes "ocfl-scrub checkpoint 1\n" ++ shown_text c
+checkpoint_body c = checkpoint_first_line c.cursor.further ++ shown_text c
 
 abbrev pub checkpoint_text : Checkpoint → Text
 checkpoint_text c = with_seal (codes "sha256 ") (checkpoint_body c)

@@ -3,8 +3,9 @@
 use Rattle.std.specs.Prelude.{◌≡◌, ◌≢◌, ℕ, ◌^◌, ◌<◌, List, [], ◌∷◌, ◌++◌, All, Bool, codes, decimal, length, flat_map}
 use Rattle.hex.specs.Hex.{encode_lower}
 use Rattle.ocfl_tree.specs.Place.{Text}
+use Rattle.ocfl_report.specs.declared.further.Further.{Further}
 use Rattle.ocfl_cursor.specs.Lines.{stored_lines}
-use Rattle.ocfl_state.specs.Checkpoint.{Checkpoint, IsDigest, AreNames, IsMark, IsCheckpoint, path_text, names_text, phase_text, yes_or_no, size_text, left_text, checkpoint_body, lines_then}
+use Rattle.ocfl_state.specs.Checkpoint.{Checkpoint, IsDigest, AreNames, IsMark, IsCheckpoint, path_text, names_text, phase_text, yes_or_no, size_text, left_text, checkpoint_first_line, checkpoint_body, lines_then}
 use Rattle.ocfl_state.specs.declared.checkpoint_parts.RootIdentity.{RootIdentity}
 use Rattle.ocfl_state.specs.declared.checkpoint_parts.TopNames.{TopNames}
 use Rattle.ocfl_state.specs.declared.checkpoint_parts.Phase.{Phase}
@@ -64,9 +65,10 @@ pub record IsAccount (a : Account) : Type 0 where
   pub told : a.told < 2 ^ 64
   pub left : a.left < 2 ^ 64
 
--- the text before the last line, by the path of the root, the lines after it, and what follows them
-abbrev pub body_text : Text → Standing → Account → Text → Text
-body_text path s a rest = codes "ocfl-scrub checkpoint 1\n" ++ field_line (codes "root ") path (standing_text s (account_text a rest))
+-- the text before the last line, by what the first line tells, the path of the root, the lines
+-- after it, and what follows them
+abbrev pub body_text : Further → Text → Standing → Account → Text → Text
+body_text f path s a rest = checkpoint_first_line f ++ field_line (codes "root ") path (standing_text s (account_text a rest))
 
 -- the path of the root is within its line
 abbrev pub OneLine : Text → Type 0
@@ -84,8 +86,9 @@ abbrev pub account_of : Checkpoint → Account
 account_of c = record { report = c.report; told = c.told; left = length c.left }
 
 -- what is read is that of this checkpoint
-pub record ArePartsOf (front : Text) (s : Standing) (a : Account) (back : Text) (c : Checkpoint) : Type 0 where
+pub record ArePartsOf (f : Further) (front : Text) (s : Standing) (a : Account) (back : Text) (c : Checkpoint) : Type 0 where
   pub keeps : IsCheckpoint c
+  pub further : f ≡ c.cursor.further
   pub path : front ≡ path_text c.root.path
   pub standing : s ≡ standing_of c
   pub account : a ≡ account_of c

@@ -1,7 +1,8 @@
 //! Reading the lines of a checkpoint that have a fixed number.
 ghost use Rattle.std.specs.Prelude.{◌≡◌, ◌≢◌, ◌^◌, ◌<◌, ◌++◌, ℕ, All, List, IfSome, IsNone, decimal, codes};
 ghost use Rattle.hex.specs.Hex.{encode_lower};
-ghost use Rattle.ocfl_state.specs.Checkpoint.{IsDigest, IsMark};
+ghost use Rattle.ocfl_report.specs.declared.further.Further.{Further as ModelFurther};
+ghost use Rattle.ocfl_state.specs.Checkpoint.{IsDigest, IsMark, checkpoint_first_line};
 ghost use Rattle.ocfl_state.specs.CheckpointLines.{field_line, sizes_text, standing_text, IsStanding, mark_text, account_text, IsAccount, body_text, OneLine};
 ghost use Rattle.ocfl_state.specs.declared.checkpoint_account.Standing.{Standing as ModelStanding};
 ghost use Rattle.ocfl_state.specs.declared.checkpoint_account.Account.{Account as ModelAccount};
@@ -11,10 +12,12 @@ use crate::checkpoint_fields::{
     read_count, read_digest, read_names, read_phase, read_sizes, read_whole, split_line,
 };
 use crate::checkpoint_form::{
-    DECLARED, FIRST_LINE, LEFT, NAMES, PHASE, PIECES, REPORT, ROOT, TAIL, TOLD, WHOLE,
+    DECLARED, FIRST_LINE_ONE, FIRST_LINE_TWO, LEFT, NAMES, PHASE, PIECES, REPORT, ROOT, TAIL, TOLD,
+    WHOLE,
 };
 use crate::checkpoint_parts::{Phase, ReportMark, TopNames};
 use ocfl_cursor::after_prefix;
+use ocfl_report::Further;
 
 /// What the lines from that of the declaration to that of the whole tell.
 #[derive(Clone, Copy)]
@@ -124,9 +127,11 @@ pub(crate) fn read_account(text: &[u8]) -> Option<(Account, &[u8])>
     Some((account, rest))
 }
 
-/// What the lines with a fixed number tell, and what follows them.
+/// What the first line and all others with a fixed number tell, and what follows them.
 #[derive(Clone, Copy)]
 pub(crate) struct Parts<'a> {
+    /// What the audit checks further, as the first line tells.
+    pub(crate) further: Further,
     /// The path of the root, as its line has it.
     pub(crate) path: &'a [u8],
     pub(crate) standing: Standing,
@@ -136,22 +141,37 @@ pub(crate) struct Parts<'a> {
 
 /// Reads the first line, and all others that have a fixed number.
 pub(crate) fn split_body(body: &[u8]) -> Option<Parts<'_>>
-    ensures found { IfSome result
-        (λ parts. body.now ≡ body_text parts.path.now parts.standing parts.account parts.rest.now) }
+    ensures found { IfSome result (λ parts. body.now ≡ body_text parts.further parts.path.now
+        parts.standing parts.account parts.rest.now) }
     ensures path { IfSome result (λ parts. OneLine parts.path.now) }
     ensures fits { IfSome result (λ parts. IsStanding parts.standing × IsAccount parts.account) }
-    ensures missing { IsNone result → (path : List ℕ) (standing : ModelStanding)
-        (account : ModelAccount) (rest : List ℕ) → OneLine path → IsStanding standing
-        → IsAccount account → body.now ≢ body_text path standing account rest }
+    ensures missing { IsNone result → (further : ModelFurther) (path : List ℕ)
+        (standing : ModelStanding) (account : ModelAccount) (rest : List ℕ) → OneLine path
+        → IsStanding standing → IsAccount account
+        → body.now ≢ body_text further path standing account rest }
 {
-    let lines = after_prefix(FIRST_LINE, body)?;
+    let (further, lines) = read_first_line(body)?;
     let (path, rest) = split_line(ROOT, lines)?;
     let (standing, rest) = read_standing(rest)?;
     let (account, rest) = read_account(rest)?;
     Some(Parts {
+        further,
         path,
         standing,
         account,
         rest,
     })
+}
+
+/// Reads the first line, which tells what the audit checks further.
+fn read_first_line(body: &[u8]) -> Option<(Further, &[u8])>
+    ensures found { IfSome result
+        (λ read. body.now ≡ checkpoint_first_line read.0 ++ read.1.now) }
+    ensures missing { IsNone result → (further : ModelFurther) (rest : List ℕ)
+        → body.now ≢ checkpoint_first_line further ++ rest }
+{
+    if let Some(rest) = after_prefix(FIRST_LINE_TWO, body) {
+        return Some((Further::Inventories, rest));
+    }
+    Some((Further::Nothing, after_prefix(FIRST_LINE_ONE, body)?))
 }

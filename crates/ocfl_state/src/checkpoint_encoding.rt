@@ -1,18 +1,18 @@
 //! Writing a checkpoint's text, and the lines that are shown of it.
 ghost use Rattle.std.specs.Prelude.{◌≡◌, ◌++◌, [], ◌∷◌, IfOk, OnOk, flat_map, decimal, codes};
 ghost use Rattle.hex.specs.Hex.{encode_lower};
-ghost use Rattle.ocfl_state.specs.Checkpoint.{shown_text, checkpoint_text, path_text, left_text, stood_text, phase_text, yes_or_no};
+ghost use Rattle.ocfl_state.specs.Checkpoint.{checkpoint_first_line, shown_text, checkpoint_text, path_text, left_text, stood_text, phase_text, yes_or_no};
 ghost use Rattle.ocfl_state.specs.CheckpointLines.{root_lines, names_line, standing_lines, mark_lines, told_line, all_left, field_line, sizes_text};
 
 use crate::checkpoint::Checkpoint;
 use crate::checkpoint_fields::hex_digits;
 use crate::checkpoint_form::{
-    AFTER, CLOSING, DECLARED, FIRST_LINE, LEFT, NAMES, NO, OPEN, PHASE, PIECES, REPORT, ROOT,
-    SHA256, START, TAIL, TOLD, WHOLE, YES,
+    AFTER, CLOSING, DECLARED, FIRST_LINE_ONE, FIRST_LINE_TWO, LEFT, NAMES, NO, OPEN, PHASE, PIECES,
+    REPORT, ROOT, SHA256, START, TAIL, TOLD, WHOLE, YES,
 };
 use crate::checkpoint_parts::{Left, Phase, ReportMark, RootIdentity, TopNames};
 use ocfl_cursor::{sealed_text, stored_lines};
-use ocfl_report::put_place;
+use ocfl_report::{Further, put_place};
 use ocfl_tree::Place;
 use std::alloc::{AllocError, Global};
 
@@ -22,7 +22,18 @@ pub fn encode_checkpoint(alloc: Global, checkpoint: &Checkpoint) -> Result<Vec<u
     ensures { IfOk result (λ text. text.items ≡ checkpoint_text checkpoint.now) }
 {
     let lines = checkpoint_lines(alloc, checkpoint)?;
-    sealed_text(alloc, SHA256, FIRST_LINE, &lines)
+    let further = checkpoint.cursor.further();
+    sealed_text(alloc, SHA256, first_line(further), &lines)
+}
+
+/// The first line of the text of such an audit's checkpoint.
+fn first_line(further: Further) -> &'static [u8]
+    ensures { result.now ≡ checkpoint_first_line further }
+{
+    match further {
+        Further::Nothing => FIRST_LINE_ONE,
+        Further::Inventories => FIRST_LINE_TWO,
+    }
 }
 
 /// The text of the checkpoint without its first line and its last, to be shown.

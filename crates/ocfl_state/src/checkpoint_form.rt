@@ -3,11 +3,14 @@
 /// How the text of each version begins.
 pub(crate) const FRONT: &[u8] = b"ocfl-scrub checkpoint ";
 
-/// What follows the front, up to the first line feed, in the version that is read and written.
-pub(crate) const VERSIONS: &[u8] = b"1";
+/// What follows the front in each, up to the first line feed. The second is written if the audit
+/// checks the inventories of versions.
+pub(crate) const VERSIONS: &[u8] = b"12";
 
-// The first line.
-pub(crate) const FIRST_LINE: &[u8] = b"ocfl-scrub checkpoint 1\n";
+// The first line of each.
+pub(crate) const FIRST_LINE_ONE: &[u8] = b"ocfl-scrub checkpoint 1\n";
+
+pub(crate) const FIRST_LINE_TWO: &[u8] = b"ocfl-scrub checkpoint 2\n";
 
 /// How the last line begins, which seals the others.
 pub(crate) const SHA256: [u8; 7] = *b"sha256 ";

@@ -1,6 +1,7 @@
 //! Why a night is refused.
 
 use ocfl_cursor::Refused;
+use ocfl_report::Further;
 use ocfl_tree::Place;
 
 /// Why a night is refused: nothing was run, and nothing in the folder was changed.
@@ -19,6 +20,9 @@ pub enum Refusal {
     OtherRoot(Place),
     /// The folder belongs to another part of the root, or to all of it.
     OtherPart,
+    /// The nights of the folder are of an audit that checks this further, and not of the one that
+    /// is asked for.
+    OtherAudit(Further),
     /// The root's declaration is not the one of before.
     OtherDeclaration,
     /// The checkpoint is older than the reports: that of this cycle is closed already, which is the

@@ -25,8 +25,8 @@ fn status_of_refusal(refusal: &Refusal) -> u8
     match refusal {
         Refusal::Unread(_) => 4,
         Refusal::NoCheckpoint | Refusal::HasReports | Refusal::NoRoot => 3,
-        Refusal::OtherRoot(_) | Refusal::OtherPart | Refusal::OtherDeclaration => 3,
-        Refusal::NamesGone { .. } | Refusal::Older(_) => 3,
+        Refusal::OtherRoot(_) | Refusal::OtherPart | Refusal::OtherAudit(_) => 3,
+        Refusal::OtherDeclaration | Refusal::NamesGone { .. } | Refusal::Older(_) => 3,
     }
 }
 

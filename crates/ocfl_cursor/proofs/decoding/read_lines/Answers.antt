@@ -19,11 +19,11 @@ pub returns-in-Some-from_parts-clause-cursor : goal.returns-in-Some-from_parts-c
 returns-in-Some-from_parts-clause-cursor c =
     let counts = c.in-Some.counts in
     subst (AreLinesOf c.args.version c.args.lines.now) (sym c.in-Some-from_parts.ensures.value)
-    (lines_of-parts c.args.lines.now c.in-Some.line.now c.args.version counts.cycle counts.runs counts.spent counts.files _ c.in-Some.ensures.fits
-    c.in-Some.ensures.found c.in_ok-state.ensures.state (c.in-Some-from_parts.ensures.keeps.0 refl))
+    (lines_of-parts c.args.lines.now c.in-Some.line.now c.args.version counts.cycle counts.runs counts.spent counts.files _ _ c.in-Some.ensures.fits
+    c.in-Some.ensures.found c.further_of-further.ensures c.in_ok-state.ensures.state (c.in-Some-from_parts.ensures.keeps.0 refl))
 
 pub returns-in-None-clause-bad : goal.returns-in-None-clause-bad
 returns-in-None-clause-bad c = λ e d h.
     let counts = c.in-Some.counts in
-    no_cursor_of-parts c.args.lines.now c.in-Some.line.now c.args.version counts.cycle counts.runs counts.spent counts.files _ c.in-Some.ensures.fits
-    c.in-Some.ensures.found c.in_ok-state.ensures.state (λ k. false≢true (c.in-None.ensures.keeps.1 k)) d h
+    no_cursor_of-parts c.args.lines.now c.in-Some.line.now c.args.version counts.cycle counts.runs counts.spent counts.files _ _ c.in-Some.ensures.fits
+    c.in-Some.ensures.found c.further_of-further.ensures c.in_ok-state.ensures.state (λ k. false≢true (c.in-None.ensures.keeps.1 k)) d h

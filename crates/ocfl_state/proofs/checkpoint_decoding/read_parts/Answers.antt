@@ -22,4 +22,4 @@ returns-in_err-part-clause-bad c = λ e d h.
     let read = c.in_ok-left in
     let same = lefts_determine read.left.items d.left read.lines.now (stored_lines d.part d.cursor) read.ensures.names h.keeps.left
     (read.ensures.count ∙ ap (λ (x : Account). x.left) h.account) (sym read.ensures.found ∙ h.rest) in
-    c.in_err-part.ensures.bad (passed_on result.result c.in_err-part.field-0.0 Bad result.ensures.1 e) d.part d.cursor (record { ends = h.keeps.part; keeps = h.keeps.cursor; are = same.1 })
+    c.in_err-part.ensures.bad (passed_on result.result c.in_err-part.field-0.0 Bad result.ensures.1 e) d.part d.cursor (record { ends = h.keeps.part; keeps = h.keeps.cursor; are = same.1 }) (sym h.further)

@@ -1,0 +1,6 @@
+use Rattle.std.proofs.Common.{refl}
+use Rattle.ocfl_state.proofs.CheckpointTexts.{no_first_line}
+use Rattle.ocfl_state.proofs.checkpoint_account.read_first_line.Goals as goal
+
+pub returns-in_err-after_prefix-clause-missing : goal.returns-in_err-after_prefix-clause-missing
+returns-in_err-after_prefix-clause-missing c = λ e. no_first_line c.args.body.now (c.in_default.ensures.missing refl) (c.in_err-after_prefix.ensures.missing refl)

@@ -47,6 +47,7 @@ message_of (refusal.Unread why) bound = message_on why
 message_of refusal.NoRoot bound = Some message.NoRoot
 message_of (refusal.OtherRoot place) bound = Some (message.OtherRoot bound)
 message_of refusal.OtherPart bound = Some message.OtherPart
+message_of (refusal.OtherAudit further) bound = Some (message.OtherAudit further)
 message_of refusal.OtherDeclaration bound = Some message.OtherDeclaration
 message_of (refusal.Older cycle) bound = Some (message.Older cycle)
 message_of (refusal.NamesGone gone before) bound = Some (message.NamesGone gone before)

@@ -75,6 +75,7 @@ fn message_of<'a>(refusal: &Refusal, bound: &'a str) -> Option<RefusalMessage<'a
         Refusal::NoRoot => Some(RefusalMessage::NoRoot),
         Refusal::OtherRoot(_) => Some(RefusalMessage::OtherRoot(bound)),
         Refusal::OtherPart => Some(RefusalMessage::OtherPart),
+        Refusal::OtherAudit(further) => Some(RefusalMessage::OtherAudit(*further)),
         Refusal::Older(cycle) => Some(RefusalMessage::Older { cycle: *cycle }),
         Refusal::OtherDeclaration => Some(RefusalMessage::OtherDeclaration),
         Refusal::NamesGone { gone, before } => Some(RefusalMessage::NamesGone {

@@ -27,7 +27,7 @@ use Rattle.ocfl_scrub.specs.Joining.{PartRun, reports_of}
 use Rattle.ocfl_scrub.specs.Noting.{IsPartRefusedNote, IsRunNote, IsStopNote, IsStoredNote}
 use Rattle.ocfl_scrub.specs.Performing.{RunMade, RunUnmade}
 use Rattle.ocfl_scrub.specs.Running.{limits_of, place_in, state_after}
-use Rattle.ocfl_scrub.specs.Scoping.{BeginsPartWith, IsPartUnreadNote, WhyNoPartRun}
+use Rattle.ocfl_scrub.specs.Scoping.{BeginsPartWith, IsPartFirst, IsPartUnreadNote, WhyNoPartRun}
 use Rattle.ocfl_scrub.specs.declared.note.Note.{Note}
 use Rattle.ocfl_scrub.specs.declared.running.RunEnd.{RunEnd}
 use Rattle.ocfl_scrub.specs.declared.running.RunStatus.{RunStatus}
@@ -35,6 +35,7 @@ use Rattle.ocfl_scrub.specs.declared.note.Note.TheVariants as note
 use Rattle.ocfl_scrub.specs.declared.running.RunStatus.TheVariants as run
 use Rattle.ocfl_laws.specs.Joined.{AreRuns, RanWell, opened_by}
 use Rattle.ocfl_laws.proofs.JoinLaws.{part_opened, part_reports, part_runs}
+use Rattle.ocfl_report.specs.declared.further.Further.{Further}
 
 -- how a run ended that left items, or none
 abbrev pub end_by : Bool → RunStatus
@@ -63,10 +64,11 @@ unread_says : (whole : Bool) (why : PartCursorStop) (status : ℕ) (n : Note) �
 unread_says whole stop.Read status n h says = unmade_says whole n note.CursorFileFailed h.1 (λ x. x) says
 unread_says whole (stop.Refused why) status n h says = refused_says whole why status n h says
 
-none_made : (whole : Bool) (e : PartEnds) (known : Option (Option Text)) (status : ℕ) (n : Note) → WhyNoPartRun e known status n → SaysMade whole n → ⊥
-none_made whole e known status n (inl h) says = unread_says whole h.why status n h.says says
-none_made whole e known status n (inr (inl h)) says = unmade_says whole n note.CursorWorn h.says (λ x. x) says
-none_made whole e known status n (inr (inr h)) says = unmade_says whole n note.OutOfMemory h.1 (λ x. x) says
+none_made : (whole : Bool) (further : Further) (e : PartEnds) (known : Option (Option Text)) (status : ℕ) (n : Note) → WhyNoPartRun further e known status n → SaysMade whole n → ⊥
+none_made whole further e known status n (inl h) says = unread_says whole h.why status n h.says says
+none_made whole further e known status n (inr (inl h)) says = unmade_says whole n (note.OtherAudit h.why) h.says.1 (λ x. x) says
+none_made whole further e known status n (inr (inr (inl h))) says = unmade_says whole n note.CursorWorn h.says (λ x. x) says
+none_made whole further e known status n (inr (inr (inr h))) says = unmade_says whole n note.OutOfMemory h.1 (λ x. x) says
 
 -- ---- and of one that was
 
@@ -95,24 +97,24 @@ stored_says e whole c spent finding how status n (Some bytes) h says = record {
 
 -- ---- one call is a run
 
-module _ (root : StorageRoot) (e : PartEnds) where
+module _ (further : Further) (root : StorageRoot) (e : PartEnds) where
   abbrev run_of : PartCall → RunEnd → PartRun
   run_of c ran = record { limits = limits_of c.limits; report = c.report; opened = c.opened; ran = ran }
 
   -- a call that says that a run was made made one, and handed its cursor back
   record IsRun (stored : Option Text) (whole : Bool) (c : PartCall) : Type 0 where
     from : Cursor
-    begins : BeginsPartWith e (bytes_stored stored) from
+    begins : BeginsPartWith further e (bytes_stored stored) from
     ran : RunEnd
-    well : RanWell root (part_between e) from (run_of c ran)
+    well : RanWell further root (part_between e) from (run_of c ran)
     keeps : IsCursor ran.cursor
     back : Handed e whole ran.cursor ran.end c.said.cursor
 
-  is_run : (stored : Option Text) (whole : Bool) (c : PartCall) → CalledWell root e stored c → SaysMade whole c.said.note → IsRun stored whole c
+  is_run : (stored : Option Text) (whole : Bool) (c : PartCall) → CalledWell further root e stored c → SaysMade whole c.said.note → IsRun stored whole c
   is_run stored whole c h says = by h.performs
     where
-      by : RunMade (BeginsPartWith e (bytes_stored stored)) (part_text e) (known_call root h.before h.behind h.old (h.old ++ c.report)) (part_between e) (limits_of c.limits) c.said.status c.said.note c.said.cursor
-          ⊎ RunUnmade (WhyNoPartRun e (bytes_stored stored) c.said.status c.said.note) (known_call root h.before h.behind h.old (h.old ++ c.report)) c.said.cursor
+      by : RunMade (BeginsPartWith further e (bytes_stored stored)) (part_text e) (known_call further root h.before h.behind h.old (h.old ++ c.report)) (part_between e) (limits_of c.limits) c.said.status c.said.note c.said.cursor
+          ⊎ RunUnmade (WhyNoPartRun further e (bytes_stored stored) c.said.status c.said.note) (known_call further root h.before h.behind h.old (h.old ++ c.report)) c.said.cursor
           → IsRun stored whole c
       by (inl m) =
           let r = m.runs in
@@ -124,32 +126,32 @@ module _ (root : StorageRoot) (e : PartEnds) where
             keeps = r.keeps;
             back = stored_says e whole r.ran.cursor r.ran.spent r.ran.found r.ran.end c.said.status c.said.note c.said.cursor r.says says;
           }
-      by (inr u) = absurd (none_made whole e (bytes_stored stored) c.said.status c.said.note u.why says)
+      by (inr u) = absurd (none_made whole further e (bytes_stored stored) c.said.status c.said.note u.why says)
 
   -- what reads the bytes that it handed back begins with the cursor that it answered
-  read_back : (stored : Option Text) (whole : Bool) (c : PartCall) (k : IsRun stored whole c) (d : Cursor) → BeginsPartWith e (bytes_stored (handed_by c)) d → d ≡ k.ran.cursor
+  read_back : (stored : Option Text) (whole : Bool) (c : PartCall) (k : IsRun stored whole c) (d : Cursor) → IsPartFirst further e (bytes_stored (handed_by c)) d → d ≡ k.ran.cursor
   read_back stored whole c k d begins =
-      let there : IsPartText e k.back.handed d = subst (λ x. BeginsPartWith e (bytes_stored x) d) k.back.handed_is begins in
+      let there : IsPartText e k.back.handed d = subst (λ x. IsPartFirst further e (bytes_stored x) d) k.back.handed_is begins in
       (part_text_determines k.back.handed e e d k.ran.cursor there (record { ends = there.ends; keeps = k.keeps; is = k.back.text_is })).1
 
   -- ---- the calls of a cycle are its runs
 
   record AreMade (stored : Option Text) (calls : List PartCall) : Type 0 where
     from : Cursor
-    begins : BeginsPartWith e (bytes_stored stored) from
+    begins : BeginsPartWith further e (bytes_stored stored) from
     runs : List PartRun
-    are : AreRuns root (part_between e) from runs
+    are : AreRuns further root (part_between e) from runs
     reports : reports_of runs ≡ written_by calls
-    opened : opened_by root runs ≡ content_opened root calls
+    opened : opened_by further root runs ≡ content_opened further root calls
     limits : map (λ r. r.limits) runs ≡ limits_given calls
     count : length runs ≡ length calls
 
-  one_more : (c : Cursor) (r : PartRun) (runs : List PartRun) → RanWell root (part_between e) c r → r.ran.end ≡ run.Spent → AreRuns root (part_between e) r.ran.cursor runs
-      → AreRuns root (part_between e) c (r ∷ runs)
+  one_more : (c : Cursor) (r : PartRun) (runs : List PartRun) → RanWell further root (part_between e) c r → r.ran.end ≡ run.Spent → AreRuns further root (part_between e) r.ran.cursor runs
+      → AreRuns further root (part_between e) c (r ∷ runs)
   one_more c r [] well spent are = absurd are
   one_more c r (q ∷ runs) well spent are = (well, (spent, are))
 
-  are_made : (stored : Option Text) (calls : List PartCall) → AreCalls root e stored calls → AreMade stored calls
+  are_made : (stored : Option Text) (calls : List PartCall) → AreCalls further root e stored calls → AreMade stored calls
   are_made stored [] h = absurd h
   are_made stored (c ∷ []) h =
       let k = is_run stored true c h.0 h.1 in
@@ -166,20 +168,20 @@ module _ (root : StorageRoot) (e : PartEnds) where
   are_made stored (c ∷ d ∷ calls) h =
       let k = is_run stored false c h.0 h.1.0 in
       let later = are_made (handed_by c) (d ∷ calls) h.1.1 in
-      let same : later.from ≡ k.ran.cursor = read_back stored false c k later.from later.begins in
+      let same : later.from ≡ k.ran.cursor = read_back stored false c k later.from later.begins.1 in
       record {
         from = k.from;
         begins = k.begins;
         runs = run_of c k.ran ∷ later.runs;
-        are = one_more k.from (run_of c k.ran) later.runs k.well k.back.ended (subst (λ x. AreRuns root (part_between e) x later.runs) same later.are);
+        are = one_more k.from (run_of c k.ran) later.runs k.well k.back.ended (subst (λ x. AreRuns further root (part_between e) x later.runs) same later.are);
         reports = ap (λ x. c.report ++ x) later.reports;
-        opened = ap (λ x. content_trail None root c.opened ++ x) later.opened;
+        opened = ap (λ x. content_trail further root c.opened ++ x) later.opened;
         limits = ap (λ x. limits_of c.limits ∷ x) later.limits;
         count = ap suc later.count;
       }
 
   -- it begins with the part's first item
-  pub fresh : (stored : Option Text) (c : Cursor) → BeginsCycle e stored → BeginsPartWith e (bytes_stored stored) c → place_in c.state ≡ None
+  pub fresh : (stored : Option Text) (c : Cursor) → BeginsCycle e stored → IsPartFirst further e (bytes_stored stored) c → place_in c.state ≡ None
   fresh None c begins h = ap (λ x. place_in x.state) h
   fresh (Some bytes) c begins h = begins c h
 
@@ -190,53 +192,53 @@ module _ (root : StorageRoot) (e : PartEnds) where
       let same : d ≡ k.ran.cursor = (part_text_determines k.back.handed e e d k.ran.cursor there (record { ends = there.ends; keeps = k.keeps; is = k.back.text_is })).1 in
       ap (λ x. place_in x.state) (same ∙ k.well.runs.cursor_is) ∙ ap (λ x. place_in (state_after x k.well.runs.last)) k.back.ended)
 
-  pub next_cycle : (stored : Option Text) (calls : List PartCall) → AreCalls root e stored calls → BeginsCycle e (stored_after stored calls)
+  pub next_cycle : (stored : Option Text) (calls : List PartCall) → AreCalls further root e stored calls → BeginsCycle e (stored_after stored calls)
   next_cycle stored [] h = absurd h
   next_cycle stored (c ∷ []) h = ended_anew stored c (is_run stored true c h.0 h.1)
   next_cycle stored (c ∷ d ∷ calls) h = next_cycle (handed_by c) (d ∷ calls) h.1.1
 
-  module _ (stored : Option Text) (calls : List PartCall) (begins : BeginsCycle e stored) (h : AreCalls root e stored calls) where
+  module _ (stored : Option Text) (calls : List PartCall) (begins : BeginsCycle e stored) (h : AreCalls further root e stored calls) where
     made : AreMade stored calls
     made = are_made stored calls h
 
     anew : place_in made.from.state ≡ None
-    anew = fresh stored made.from begins made.begins
+    anew = fresh stored made.from begins made.begins.1
 
-    pub calls_report : written_by calls ≡ text (within (part_between e) (audit None root []))
-    calls_report = sym made.reports ∙ part_reports root (part_between e) made.from made.runs anew made.are
+    pub calls_report : written_by calls ≡ text (within (part_between e) (audit further root []))
+    calls_report = sym made.reports ∙ part_reports further root (part_between e) made.from made.runs anew made.are
 
-    pub calls_open : content_opened root calls ≡ hashed_among None root (places_within (part_between e) (item_places None root))
-    calls_open = sym made.opened ∙ part_opened root (part_between e) made.from made.runs anew made.are
+    pub calls_open : content_opened further root calls ≡ hashed_among further root (places_within (part_between e) (item_places further root))
+    calls_open = sym made.opened ∙ part_opened further root (part_between e) made.from made.runs anew made.are
 
     pub calls_few : (b n : ℕ) → 1 ≤ b → 1 ≤ n → All (IsAtLeast b n) (limits_given calls)
-        → length calls ≤ total_cost (within (part_between e) (audit None root [])) / b + total_files (within (part_between e) (audit None root [])) / n + 1
+        → length calls ≤ total_cost (within (part_between e) (audit further root [])) / b + total_files (within (part_between e) (audit further root [])) / n + 1
     calls_few b n p q large =
-        let few = part_runs root (part_between e) made.from made.runs anew made.are b n p q (subst (All (IsAtLeast b n)) (sym made.limits) large) in
+        let few = part_runs further root (part_between e) made.from made.runs anew made.are b n p q (subst (All (IsAtLeast b n)) (sym made.limits) large) in
         let count = made.count in
         omega (arith, few, count)
 
 -- ---- all parts
 
-module _ (root : StorageRoot) where
-  reports_each : (ds : List CalledCycle) → AllByRecursion (IsCalledCycle root) ds
-      → flat_map (λ d. written_by d.calls) ds ≡ flat_map (λ part. text (within part (audit None root []))) (map part_between (map (λ d. d.ends) ds))
+module _ (further : Further) (root : StorageRoot) where
+  reports_each : (ds : List CalledCycle) → AllByRecursion (IsCalledCycle further root) ds
+      → flat_map (λ d. written_by d.calls) ds ≡ flat_map (λ part. text (within part (audit further root []))) (map part_between (map (λ d. d.ends) ds))
   reports_each [] h = refl
-  reports_each (d ∷ ds) h = ap (λ x. x ++ flat_map (λ d. written_by d.calls) ds) (calls_report root d.ends d.stored d.calls h.0.begins h.0.are)
-      ∙ ap (λ x. text (within (part_between d.ends) (audit None root [])) ++ x) (reports_each ds h.1)
+  reports_each (d ∷ ds) h = ap (λ x. x ++ flat_map (λ d. written_by d.calls) ds) (calls_report further root d.ends d.stored d.calls h.0.begins h.0.are)
+      ∙ ap (λ x. text (within (part_between d.ends) (audit further root [])) ++ x) (reports_each ds h.1)
 
-  opened_each : (ds : List CalledCycle) → AllByRecursion (IsCalledCycle root) ds
-      → flat_map (λ d. content_opened root d.calls) ds ≡ flat_map (λ part. hashed_among None root (places_within part (item_places None root))) (map part_between (map (λ d. d.ends) ds))
+  opened_each : (ds : List CalledCycle) → AllByRecursion (IsCalledCycle further root) ds
+      → flat_map (λ d. content_opened further root d.calls) ds ≡ flat_map (λ part. hashed_among further root (places_within part (item_places further root))) (map part_between (map (λ d. d.ends) ds))
   opened_each [] h = refl
-  opened_each (d ∷ ds) h = ap (λ x. x ++ flat_map (λ d. content_opened root d.calls) ds) (calls_open root d.ends d.stored d.calls h.0.begins h.0.are)
-      ∙ ap (λ x. hashed_among None root (places_within (part_between d.ends) (item_places None root)) ++ x) (opened_each ds h.1)
+  opened_each (d ∷ ds) h = ap (λ x. x ++ flat_map (λ d. content_opened further root d.calls) ds) (calls_open further root d.ends d.stored d.calls h.0.begins h.0.are)
+      ∙ ap (λ x. hashed_among further root (places_within (part_between d.ends) (item_places further root)) ++ x) (opened_each ds h.1)
 
-  module _ (b : Text) (ds : List CalledCycle) (all : AreAllFrom b 1 (map (λ d. d.ends) ds)) (done : AllByRecursion (IsCalledCycle root) ds) where
-    pub called_reports : flat_map (λ d. written_by d.calls) ds ≡ text (audit None root [])
+  module _ (b : Text) (ds : List CalledCycle) (all : AreAllFrom b 1 (map (λ d. d.ends) ds)) (done : AllByRecursion (IsCalledCycle further root) ds) where
+    pub called_reports : flat_map (λ d. written_by d.calls) ds ≡ text (audit further root [])
     called_reports =
         let parts = all_parts b (map (λ d. d.ends) ds) all in
-        reports_each ds done ∙ ap (flat_map (λ part. text (within part (audit None root [])))) parts.1.1 ∙ texts_join None root parts.0 parts.1.0.separators.ascend []
+        reports_each ds done ∙ ap (flat_map (λ part. text (within part (audit further root [])))) parts.1.1 ∙ texts_join further root parts.0 parts.1.0.separators.ascend []
 
-    pub called_opened : flat_map (λ d. content_opened root d.calls) ds ≡ hashed_among None root (item_places None root)
+    pub called_opened : flat_map (λ d. content_opened further root d.calls) ds ≡ hashed_among further root (item_places further root)
     called_opened =
         let parts = all_parts b (map (λ d. d.ends) ds) all in
-        opened_each ds done ∙ ap (flat_map (λ part. hashed_among None root (places_within part (item_places None root)))) parts.1.1 ∙ hashed_join None root parts.0 parts.1.0.separators.ascend
+        opened_each ds done ∙ ap (flat_map (λ part. hashed_among further root (places_within part (item_places further root)))) parts.1.1 ∙ hashed_join further root parts.0 parts.1.0.separators.ascend

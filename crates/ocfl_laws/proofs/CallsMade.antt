@@ -22,13 +22,14 @@ use Rattle.ocfl_laws.specs.Handing.{SaysMade, BeginsCycle, bytes_stored, handed_
 use Rattle.ocfl_scrub.specs.Joining.{AreOneCycle, IsWholeCycle, PartCycle, Ran, cursor_after, items_out, left_by, reports_of, unread_together, unstopped}
 use Rattle.ocfl_scrub.specs.{Noting.{IsRunNote, IsStoredNote}, Performing.{RunMade, RunUnmade}}
 use Rattle.ocfl_scrub.specs.Running.{limits_of, place_in, state_after}
-use Rattle.ocfl_scrub.specs.Scoping.{BeginsPartWith, PartRunPerformed, PerformsIn, WhyNoPartRun}
+use Rattle.ocfl_scrub.specs.Scoping.{BeginsPartWith, IsPartFirst, PartRunPerformed, PerformsIn, WhyNoPartRun}
 use Rattle.ocfl_scrub.specs.{declared.note.Note.{Note}, declared.performing.Performed.{Performed}}
 use Rattle.ocfl_scrub.specs.declared.running.RunEnd.{RunEnd}
 use Rattle.ocfl_scrub.specs.declared.running.RunStatus.{RunStatus}
 use Rattle.ocfl_scrub.specs.declared.note.Note.TheVariants as note
 use Rattle.ocfl_scrub.specs.declared.running.RunStatus.TheVariants as run
 use Rattle.ocfl_laws.proofs.CallsJoined.{fresh, ran_says}
+use Rattle.ocfl_report.specs.declared.further.Further.{Further}
 use Rattle.ocfl_scrub.proofs.CycleRuns.{parts_reports, report_at, reports_and_rest, reports_whole, runs_few}
 
 -- ---- what is handed back, and what is said
@@ -59,45 +60,45 @@ output_says : (c : Cursor) (spent : ℕ) (finding : Bool) (how : RunStatus) (sta
 output_says c spent finding how status n h e = (subst (λ x. IsRunNote c spent finding x status n) e h).1
 
 -- a part's cycle begins with what is stored, if each cursor that is read there is at its first item
-begins_if : (e : PartEnds) (stored : Option Text) → ((c : Cursor) → BeginsPartWith e (bytes_stored stored) c → place_in c.state ≡ None) → BeginsCycle e stored
-begins_if e None h = tt
-begins_if e (Some bytes) h = h
+begins_if : (further : Further) (e : PartEnds) (stored : Option Text) → ((c : Cursor) → IsPartFirst further e (bytes_stored stored) c → place_in c.state ≡ None) → BeginsCycle e stored
+begins_if further e None h = tt
+begins_if further e (Some bytes) h = h
 
 -- ---- a call that handed a cursor back has a run
 
 -- a call and what its run answered, of what a call said and wrote
-abbrev pub IsMadeOfCall : StorageRoot → Store → Store → PartEnds → Option Text → MadeLimits → Text → Text → Performed → MadeCall → Type 0
-IsMadeOfCall root s t e stored limits old new said c =
+abbrev pub IsMadeOfCall : Further → StorageRoot → Store → Store → PartEnds → Option Text → MadeLimits → Text → Text → Performed → MadeCall → Type 0
+IsMadeOfCall further root s t e stored limits old new said c =
     (c.call.limits ≡ limits) × ((c.call.said ≡ said) × ((t.openings ≡ s.openings ++ c.call.opened)
-    × ((cut : Text) × ((new ≡ old ++ (c.call.report ++ cut)) × ((said.note ≢ note.OutputFailed → cut ≡ []) × MadeFrom root e stored c)))))
+    × ((cut : Text) × ((new ≡ old ++ (c.call.report ++ cut)) × ((said.note ≢ note.OutputFailed → cut ≡ []) × MadeFrom further root e stored c)))))
 
-module _ (root : StorageRoot) (s t : Store) (e : PartEnds) (stored : Option Text) (limits : MadeLimits) (old : Text) (said : Performed) where
+module _ (further : Further) (root : StorageRoot) (s t : Store) (e : PartEnds) (stored : Option Text) (limits : MadeLimits) (old : Text) (said : Performed) where
   abbrev call_made : Text → List Opening → RunEnd → MadeCall
   call_made report opened ran = record { call = record { limits = limits; report = report; opened = opened; said = said }; ran = ran }
 
   made_from : (report cut : Text) (opened : List Opening) (ran : RunEnd) (new : Text) → old ++ (report ++ cut) ≡ new → IsSome said.cursor → t.openings ≡ s.openings ++ opened
-      → (p : PartRunPerformed (known_call root s t old new) e (bytes_stored stored) (limits_of limits) said.status said.note said.cursor)
-      → HasRun (known_call root s t old new) e (bytes_stored stored) (limits_of limits) said.status said.note said.cursor p ran report
-      → MadeFrom root e stored (call_made report opened ran)
+      → (p : PartRunPerformed (known_call further root s t old new) e (bytes_stored stored) (limits_of limits) said.status said.note said.cursor)
+      → HasRun (known_call further root s t old new) e (bytes_stored stored) (limits_of limits) said.status said.note said.cursor p ran report
+      → MadeFrom further root e stored (call_made report opened ran)
   made_from report cut opened ran new wrote handed openings =
-      subst (λ x. (p : PartRunPerformed (known_call root s t old x) e (bytes_stored stored) (limits_of limits) said.status said.note said.cursor)
-      → HasRun (known_call root s t old x) e (bytes_stored stored) (limits_of limits) said.status said.note said.cursor p ran report
-      → MadeFrom root e stored (call_made report opened ran)) wrote
+      subst (λ x. (p : PartRunPerformed (known_call further root s t old x) e (bytes_stored stored) (limits_of limits) said.status said.note said.cursor)
+      → HasRun (known_call further root s t old x) e (bytes_stored stored) (limits_of limits) said.status said.note said.cursor p ran report
+      → MadeFrom further root e stored (call_made report opened ran)) wrote
       (λ p has. record { before = s; behind = t; old = old; cut = cut; performs = p; has_run = has; handed = handed; opened_is = openings })
 
   pub call_has_run : (new : Text) → IsSome said.cursor
-      → PerformsIn (known_call root s t old new) (deed.Run limits) (scope.Part e) (bytes_stored stored) said.status said.note said.cursor
-      → (c : MadeCall) × IsMadeOfCall root s t e stored limits old new said c
+      → PerformsIn (known_call further root s t old new) (deed.Run further limits) (scope.Part e) (bytes_stored stored) said.status said.note said.cursor
+      → (c : MadeCall) × IsMadeOfCall further root s t e stored limits old new said c
   call_has_run new handed performs = by performs
     where
-      by : RunMade (BeginsPartWith e (bytes_stored stored)) (part_text e) (known_call root s t old new) (part_between e) (limits_of limits) said.status said.note said.cursor
-          ⊎ RunUnmade (WhyNoPartRun e (bytes_stored stored) said.status said.note) (known_call root s t old new) said.cursor
-          → (c : MadeCall) × IsMadeOfCall root s t e stored limits old new said c
+      by : RunMade (BeginsPartWith further e (bytes_stored stored)) (part_text e) (known_call further root s t old new) (part_between e) (limits_of limits) said.status said.note said.cursor
+          ⊎ RunUnmade (WhyNoPartRun further e (bytes_stored stored) said.status said.note) (known_call further root s t old new) said.cursor
+          → (c : MadeCall) × IsMadeOfCall further root s t e stored limits old new said c
       by (inl m) =
           let ran : RunEnd = m.runs.ran in
-          let r = report_at root s t old new (part_between e) m.from (limits_of limits) ran.cursor ran.spent ran.files ran.found ran.end m.runs.runs in
+          let r = report_at further root s t old new (part_between e) m.from (limits_of limits) ran.cursor ran.spent ran.files ran.found ran.end m.runs.runs in
           let back = back_of e ran.cursor ran.spent ran.found ran.end said.status said.note said.cursor handed m.runs.says in
-          let report : Text = text (items_out (known_call root s t old new) (part_between e) (place_in m.from.state) m.runs.runs.last (limits_of limits) ran.spent ran.files ran.found ran.end m.runs.runs.run) in
+          let report : Text = text (items_out (known_call further root s t old new) (part_between e) (place_in m.from.state) m.runs.runs.last (limits_of limits) ran.spent ran.files ran.found ran.end m.runs.runs.run) in
           let no_output : said.note ≢ note.OutputFailed → ran.end ≢ run.Stopped Output = λ f x. f (output_says ran.cursor ran.spent ran.found ran.end said.status said.note back.says x) in (
             call_made report r.opened ran,
             (
@@ -109,21 +110,21 @@ module _ (root : StorageRoot) (s t : Store) (e : PartEnds) (stored : Option Text
 
 -- ---- such calls are runs
 
-module _ (root : StorageRoot) (e : PartEnds) where
+module _ (further : Further) (root : StorageRoot) (e : PartEnds) where
   -- the run of a call, and what it handed back
   record IsRun (stored : Option Text) (c : MadeCall) : Type 0 where
     from : Cursor
-    begins : BeginsPartWith e (bytes_stored stored) from
-    ran : Ran root (part_between e) from (run_in c)
+    begins : BeginsPartWith further e (bytes_stored stored) from
+    ran : Ran further root (part_between e) from (run_in c)
     keeps : IsCursor c.ran.cursor
     back : Back e c.ran.cursor c.ran.spent c.ran.found c.ran.end c.call.said.status c.call.said.note c.call.said.cursor
 
-  is_run : (stored : Option Text) (c : MadeCall) → MadeFrom root e stored c → IsRun stored c
+  is_run : (stored : Option Text) (c : MadeCall) → MadeFrom further root e stored c → IsRun stored c
   is_run stored c h = by h.performs h.has_run
     where
-      by : (p : RunMade (BeginsPartWith e (bytes_stored stored)) (part_text e) (known_call root h.before h.behind h.old (h.old ++ (c.call.report ++ h.cut))) (part_between e) (limits_of c.call.limits) c.call.said.status c.call.said.note c.call.said.cursor
-          ⊎ RunUnmade (WhyNoPartRun e (bytes_stored stored) c.call.said.status c.call.said.note) (known_call root h.before h.behind h.old (h.old ++ (c.call.report ++ h.cut))) c.call.said.cursor)
-          → HasRun (known_call root h.before h.behind h.old (h.old ++ (c.call.report ++ h.cut))) e (bytes_stored stored) (limits_of c.call.limits) c.call.said.status c.call.said.note c.call.said.cursor p c.ran c.call.report
+      by : (p : RunMade (BeginsPartWith further e (bytes_stored stored)) (part_text e) (known_call further root h.before h.behind h.old (h.old ++ (c.call.report ++ h.cut))) (part_between e) (limits_of c.call.limits) c.call.said.status c.call.said.note c.call.said.cursor
+          ⊎ RunUnmade (WhyNoPartRun further e (bytes_stored stored) c.call.said.status c.call.said.note) (known_call further root h.before h.behind h.old (h.old ++ (c.call.report ++ h.cut))) c.call.said.cursor)
+          → HasRun (known_call further root h.before h.behind h.old (h.old ++ (c.call.report ++ h.cut))) e (bytes_stored stored) (limits_of c.call.limits) c.call.said.status c.call.said.note c.call.said.cursor p c.ran c.call.report
           → IsRun stored c
       by (inl m) has = subst (λ x. IsRun stored (record { call = c.call; ran = x })) has.0 (record {
         from = m.from;
@@ -135,9 +136,9 @@ module _ (root : StorageRoot) (e : PartEnds) where
       by (inr u) has = absurd has
 
   -- what reads the bytes that it handed back begins with the cursor that it answered
-  read_back : (stored : Option Text) (c : MadeCall) → IsRun stored c → (d : Cursor) → BeginsPartWith e (bytes_stored (handed_by c.call)) d → d ≡ c.ran.cursor
+  read_back : (stored : Option Text) (c : MadeCall) → IsRun stored c → (d : Cursor) → IsPartFirst further e (bytes_stored (handed_by c.call)) d → d ≡ c.ran.cursor
   read_back stored c k d begins =
-      let there : IsPartText e k.back.handed d = subst (λ x. BeginsPartWith e (bytes_stored x) d) k.back.handed_is begins in
+      let there : IsPartText e k.back.handed d = subst (λ x. IsPartFirst further e (bytes_stored x) d) k.back.handed_is begins in
       (part_text_determines k.back.handed e e d c.ran.cursor there (record { ends = there.ends; keeps = k.keeps; is = k.back.text_is })).1
 
   not_ended : (stored : Option Text) (c : MadeCall) → IsRun stored c → (SaysMade true c.call.said.note → ⊥) → c.ran.end ≢ run.Ended
@@ -150,12 +151,12 @@ module _ (root : StorageRoot) (e : PartEnds) where
 
   record AreRuns (stored : Option Text) (calls : List MadeCall) : Type 0 where
     from : Cursor
-    begins : BeginsPartWith e (bytes_stored stored) from
-    are : AreOneCycle root (part_between e) from (runs_made calls)
-    last_is : (last : Cursor) → BeginsPartWith e (bytes_stored (stored_last stored calls)) last → last ≡ cursor_after from (runs_made calls)
+    begins : BeginsPartWith further e (bytes_stored stored) from
+    are : AreOneCycle further root (part_between e) from (runs_made calls)
+    last_is : (last : Cursor) → IsPartFirst further e (bytes_stored (stored_last stored calls)) last → last ≡ cursor_after from (runs_made calls)
     ends : SayEnded calls → (cursor_after from (runs_made calls)).state ≡ ended
 
-  are_runs : (stored : Option Text) (calls : List MadeCall) → AreMadeCalls root e stored calls → AreRuns stored calls
+  are_runs : (stored : Option Text) (calls : List MadeCall) → AreMadeCalls further root e stored calls → AreRuns stored calls
   are_runs stored [] h = absurd h
   are_runs stored (c ∷ []) h =
       let k = is_run stored c h in
@@ -163,70 +164,70 @@ module _ (root : StorageRoot) (e : PartEnds) where
   are_runs stored (c ∷ d ∷ calls) h =
       let k = is_run stored c h.0 in
       let later = are_runs (handed_by c.call) (d ∷ calls) h.1.1 in
-      let same : later.from ≡ c.ran.cursor = read_back stored c k later.from later.begins in
+      let same : later.from ≡ c.ran.cursor = read_back stored c k later.from later.begins.1 in
       record {
         from = k.from;
         begins = k.begins;
-        are = (k.ran, (not_ended stored c k h.1.0, subst (λ x. AreOneCycle root (part_between e) x (runs_made (d ∷ calls))) same later.are));
+        are = (k.ran, (not_ended stored c k h.1.0, subst (λ x. AreOneCycle further root (part_between e) x (runs_made (d ∷ calls))) same later.are));
         last_is = later.last_is;
         ends = later.ends;
       }
 
-  pub calls_next : (stored : Option Text) (calls : List MadeCall) → AreMadeCalls root e stored calls → SayEnded calls → BeginsCycle e (stored_last stored calls)
+  pub calls_next : (stored : Option Text) (calls : List MadeCall) → AreMadeCalls further root e stored calls → SayEnded calls → BeginsCycle e (stored_last stored calls)
   calls_next stored calls h says =
       let m = are_runs stored calls h in
-      begins_if e (stored_last stored calls) (λ c there. ap (λ x. place_in x.state) (m.last_is c there) ∙ ap place_in (m.ends says))
+      begins_if further e (stored_last stored calls) (λ c there. ap (λ x. place_in x.state) (m.last_is c there) ∙ ap place_in (m.ends says))
 
-  module _ (stored : Option Text) (calls : List MadeCall) (begins : BeginsCycle e stored) (h : AreMadeCalls root e stored calls) where
+  module _ (stored : Option Text) (calls : List MadeCall) (begins : BeginsCycle e stored) (h : AreMadeCalls further root e stored calls) where
     abbrev unread_all : Unread
-    unread_all = unread_together root (runs_made calls)
+    unread_all = unread_together further root (runs_made calls)
 
     made : AreRuns stored calls
     made = are_runs stored calls h
 
     anew : place_in made.from.state ≡ None
-    anew = fresh root e stored made.from begins made.begins
+    anew = fresh further root e stored made.from begins made.begins.1
 
-    pub made_reports : (last : Cursor) → BeginsPartWith e (bytes_stored (stored_last stored calls)) last
-        → reports_of (runs_made calls) ++ text (left_by last.state (within (part_between e) (audit None root unread_all))) ≡ text (within (part_between e) (audit None root unread_all))
+    pub made_reports : (last : Cursor) → IsPartFirst further e (bytes_stored (stored_last stored calls)) last
+        → reports_of (runs_made calls) ++ text (left_by last.state (within (part_between e) (audit further root unread_all))) ≡ text (within (part_between e) (audit further root unread_all))
     made_reports last there =
-        ap (λ x. reports_of (runs_made calls) ++ text (left_by x.state (within (part_between e) (audit None root unread_all)))) (made.last_is last there)
-        ∙ reports_and_rest root (part_between e) made.from (runs_made calls) anew made.are
+        ap (λ x. reports_of (runs_made calls) ++ text (left_by x.state (within (part_between e) (audit further root unread_all)))) (made.last_is last there)
+        ∙ reports_and_rest further root (part_between e) made.from (runs_made calls) anew made.are
 
-    pub made_whole : SayEnded calls → reports_of (runs_made calls) ≡ text (within (part_between e) (audit None root unread_all))
-    made_whole says = reports_whole root (part_between e) made.from (runs_made calls) anew made.are (made.ends says)
+    pub made_whole : SayEnded calls → reports_of (runs_made calls) ≡ text (within (part_between e) (audit further root unread_all))
+    made_whole says = reports_whole further root (part_between e) made.from (runs_made calls) anew made.are (made.ends says)
 
     pub made_few : (b n : ℕ) → 1 ≤ b → 1 ≤ n → All (IsAtLeast b n) (map (λ r. r.limits) (runs_made calls))
-        → unstopped (runs_made calls) ≤ total_cost (within (part_between e) (audit None root unread_all)) / b + total_files (within (part_between e) (audit None root unread_all)) / n + 1
-    made_few = runs_few root (part_between e) made.from (runs_made calls) anew made.are
+        → unstopped (runs_made calls) ≤ total_cost (within (part_between e) (audit further root unread_all)) / b + total_files (within (part_between e) (audit further root unread_all)) / n + 1
+    made_few = runs_few further root (part_between e) made.from (runs_made calls) anew made.are
 
 -- ---- all parts
 
-module _ (root : StorageRoot) where
+module _ (further : Further) (root : StorageRoot) where
   -- the cycles of parts that calls made
   record Cycles (ds : List MadeCycle) : Type 0 where
     cycles : List PartCycle
     parts : map (λ d. d.part) cycles ≡ map part_between (map (λ d. d.ends) ds)
-    are : AllByRecursion (IsWholeCycle root) cycles
+    are : AllByRecursion (IsWholeCycle further root) cycles
     reports : flat_map (λ d. reports_of d.runs) cycles ≡ flat_map (λ d. reports_of (runs_made d.calls)) ds
-    unread : flat_map (λ d. unread_together root d.runs) cycles ≡ flat_map (λ d. unread_together root (runs_made d.calls)) ds
+    unread : flat_map (λ d. unread_together further root d.runs) cycles ≡ flat_map (λ d. unread_together further root (runs_made d.calls)) ds
 
-  cycles_of : (ds : List MadeCycle) → AllByRecursion (IsMadeCycle root) ds → Cycles ds
+  cycles_of : (ds : List MadeCycle) → AllByRecursion (IsMadeCycle further root) ds → Cycles ds
   cycles_of [] h = record { cycles = []; parts = refl; are = tt; reports = refl; unread = refl }
   cycles_of (d ∷ ds) h =
-      let m = are_runs root d.ends d.stored d.calls h.0.are in
+      let m = are_runs further root d.ends d.stored d.calls h.0.are in
       let later = cycles_of ds h.1 in
       record {
         cycles = record { part = part_between d.ends; first = m.from; runs = runs_made d.calls } ∷ later.cycles;
         parts = ap (λ x. part_between d.ends ∷ x) later.parts;
-        are = (record { starts = fresh root d.ends d.stored m.from h.0.starts m.begins; are = m.are; ends = m.ends h.0.says }, later.are);
+        are = (record { starts = fresh further root d.ends d.stored m.from h.0.starts m.begins.1; are = m.are; ends = m.ends h.0.says }, later.are);
         reports = ap (λ x. reports_of (runs_made d.calls) ++ x) later.reports;
-        unread = ap (λ x. unread_together root (runs_made d.calls) ++ x) later.unread;
+        unread = ap (λ x. unread_together further root (runs_made d.calls) ++ x) later.unread;
       }
 
-  pub made_parts : (b : Text) (ds : List MadeCycle) → AreAllFrom b 1 (map (λ d. d.ends) ds) → AllByRecursion (IsMadeCycle root) ds
-      → flat_map (λ d. reports_of (runs_made d.calls)) ds ≡ text (audit None root (flat_map (λ d. unread_together root (runs_made d.calls)) ds))
+  pub made_parts : (b : Text) (ds : List MadeCycle) → AreAllFrom b 1 (map (λ d. d.ends) ds) → AllByRecursion (IsMadeCycle further root) ds
+      → flat_map (λ d. reports_of (runs_made d.calls)) ds ≡ text (audit further root (flat_map (λ d. unread_together further root (runs_made d.calls)) ds))
   made_parts b ds all done =
       let there = all_parts b (map (λ d. d.ends) ds) all in
       let m = cycles_of ds done in
-      sym m.reports ∙ parts_reports root there.0 m.cycles there.1.0.separators.ascend (m.parts ∙ there.1.1) m.are ∙ ap (λ u. text (audit None root u)) m.unread
+      sym m.reports ∙ parts_reports further root there.0 m.cycles there.1.0.separators.ascend (m.parts ∙ there.1.1) m.are ∙ ap (λ u. text (audit further root u)) m.unread

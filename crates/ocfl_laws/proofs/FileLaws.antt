@@ -3,6 +3,7 @@ use Rattle.std.proofs.Common.{◌≡◌, refl, subst, arith, sym, ◌∙◌, ap,
 use Rattle.std.proofs.lemmas.Bool.{true≢false}
 use Rattle.std.specs.{Prelude.{◌≢◌, ◌↔◌, if◌then◌else◌}, declared.alloc.Global.{Global}}
 use Rattle.ocfl_tree.specs.Place.{Text, Place}
+use Rattle.ocfl_report.specs.declared.further.Further.{Further}
 use Rattle.ocfl_cursor.specs.Cursor.{Cursor, new_cursor, cursor_lines, cursor_text}
 use Rattle.ocfl_cursor.specs.{Moves.{after_run}, Part.{IsPartText, part_lines}}
 use Rattle.ocfl_cursor.specs.{Refusal.{refusal, IsTextOf}, Shown.{AreShown, IsShownFrom}}
@@ -15,6 +16,7 @@ use Rattle.ocfl_cursor.proofs.{PartRefusals.{front-part_text}, Refusals.{only_me
 use Rattle.ocfl_rules.specs.Runs.{Limits}
 use Rattle.ocfl_cursor.specs.declared.refused.PartRefused.TheVariants as part
 use Rattle.ocfl_cursor.specs.declared.refused.Refused.TheVariants as refused
+use Rattle.ocfl_deed.specs.declared.deed.Deed.{Deed}
 use Rattle.ocfl_deed.specs.declared.deed.Deed.TheVariants as deed
 use Rattle.ocfl_scrub.specs.declared.stop.ReportStop.{ReportStop}
 use Rattle.ocfl_item.specs.declared.fault.Fault.TheVariants as fault
@@ -31,13 +33,13 @@ use Rattle.ocfl_scrub.specs.declared.running.RunStatus.TheVariants as run
 refused_so : (bytes : Text) (why : Refused) → ((why ≡ refusal bytes) × (((c : Cursor) × IsTextOf bytes c) → ⊥)) ↔ (((c : Cursor) → IsTextOf bytes c → ⊥) × (why ≡ refusal bytes))
 refused_so bytes why = (λ h. (λ c is. h.1 (c, is), h.0), λ k. (k.1, λ one. k.0 one.0 one.1))
 
-pub refused_for : (bytes : Text) (why : Refused) → why ≢ refused.Memory
-    → RefusesRightly (Some (Some bytes)) (note.CursorRefused why) ↔ (((c : Cursor) → IsTextOf bytes c → ⊥) × (why ≡ refusal bytes))
-refused_for bytes refused.Memory some = absurd (some refl)
-refused_for bytes (refused.NotA t) some = refused_so bytes (refused.NotA t)
-refused_for bytes refused.Version some = refused_so bytes refused.Version
-refused_for bytes refused.Damaged some = refused_so bytes refused.Damaged
-refused_for bytes refused.Malformed some = refused_so bytes refused.Malformed
+pub refused_for : (d : Deed) (bytes : Text) (why : Refused) → why ≢ refused.Memory
+    → RefusesRightly d (Some (Some bytes)) (note.CursorRefused why) ↔ (((c : Cursor) → IsTextOf bytes c → ⊥) × (why ≡ refusal bytes))
+refused_for d bytes refused.Memory some = absurd (some refl)
+refused_for d bytes (refused.NotA t) some = refused_so bytes (refused.NotA t)
+refused_for d bytes refused.Version some = refused_so bytes refused.Version
+refused_for d bytes refused.Damaged some = refused_so bytes refused.Damaged
+refused_for d bytes refused.Malformed some = refused_so bytes refused.Malformed
 
 -- a part's cursor that is to be shown is not refused as that of a whole root
 pub no_whole_refused : (e : PartEnds) (bytes : Text) (c : Cursor) (why : Refused) → IsPartText e bytes c → length bytes ≤ max_part_text → why ≢ refused.Memory
@@ -49,18 +51,18 @@ no_whole_refused e bytes c refused.Damaged is few some h = true≢false (sym (re
 no_whole_refused e bytes c refused.Malformed is few some h = true≢false (sym (read_as_part bytes (front-part_text e bytes c is) few) ∙ h.0)
 
 -- nor as that of a part
-pub no_part_refused : (e : PartEnds) (bytes : Text) (c : Cursor) (why : PartRefused) → IsPartText e bytes c → why ≢ part.Text refused.Memory
-    → RefusesRightly (Some (Some bytes)) (note.PartCursorRefused why) → ⊥
-no_part_refused e bytes c (part.Text why) is some h = some (ap part.Text (only_memory _ _ why (e, (c, is)) h.1))
-no_part_refused e bytes c part.OtherPart is some h = h
+pub no_part_refused : (d : Deed) (e : PartEnds) (bytes : Text) (c : Cursor) (why : PartRefused) → IsPartText e bytes c → why ≢ part.Text refused.Memory
+    → RefusesRightly d (Some (Some bytes)) (note.PartCursorRefused why) → ⊥
+no_part_refused d e bytes c (part.Text why) is some h = some (ap part.Text (only_memory _ _ why (e, (c, is)) h.1))
+no_part_refused d e bytes c part.OtherPart is some h = h
 
 -- ---- without a file
 
 pub none_shown : (n : Note) → IsWithoutFile None deed.Show n ↔ (n ≡ note.CursorFileFailed)
 none_shown n = (λ h. h, λ h. h)
 
-pub none_needed : (limits : MadeLimits) (n : Note) → IsWithoutFile None (deed.Run limits) n ↔ (n ≢ note.CursorFileFailed)
-none_needed limits n = (λ h. h, λ h. h)
+pub none_needed : (further : Further) (limits : MadeLimits) (n : Note) → IsWithoutFile None (deed.Run further limits) n ↔ (n ≢ note.CursorFileFailed)
+none_needed further limits n = (λ h. h, λ h. h)
 
 -- ---- what is shown
 
@@ -141,9 +143,9 @@ abbrev LedFrom : Cursor → Limits → ℕ → ℕ → ℕ → Bool → Text →
 LedFrom c limits cycle runs cost whole text = (files : ℕ) × ((last : Option Place) × (IsPaid limits cost files × ((cycle ≡ (begun c).cycle) × ((runs ≡ (begun c).runs + 1)
     × (text ≡ cursor_text (after_run (begun c) cost files (state_after (ended_as whole) last)))))))
 
-led_from : (known : Option (Option Text)) (limits : Limits) (status cycle runs cost : ℕ) (whole : Bool) (text : Text) (c : Cursor)
-    → (h : HandedBack (BeginsWith known) cursor_text limits status (note.RunMade cycle runs cost whole) text) → h.from ≡ c → LedFrom c limits cycle runs cost whole text
-led_from known limits status cycle runs cost whole text c h same =
+led_from : (further : Further) (known : Option (Option Text)) (limits : Limits) (status cycle runs cost : ℕ) (whole : Bool) (text : Text) (c : Cursor)
+    → (h : HandedBack (BeginsWith further known) cursor_text limits status (note.RunMade cycle runs cost whole) text) → h.from ≡ c → LedFrom c limits cycle runs cost whole text
+led_from further known limits status cycle runs cost whole text c h same =
     let u = summed_up h.ran.cursor h.ran.spent h.ran.found h.ran.end status cycle runs cost whole h.says in
     let paid : IsPaid limits cost h.ran.files = subst (λ k. IsPaid limits k h.ran.files) u.cost_is h.paid in
     let led : h.ran.cursor ≡ after_run (begun c) cost h.ran.files (state_after (ended_as whole) h.last) =
@@ -152,12 +154,17 @@ led_from known limits status cycle runs cost whole text c h same =
     ∙ ap (λ e. after_run (begun c) cost h.ran.files (state_after e h.last)) u.how_is in
     (h.ran.files, (h.last, (paid, (u.cycle_is ∙ ap (λ d. d.cycle) led, (u.runs_are ∙ ap (λ d. d.runs) led, h.handed_is ∙ ap cursor_text led)))))
 
-pub led_from_the_first : (limits : MadeLimits) (status cycle runs cost : ℕ) (whole : Bool) (stored : Vec ℕ Global)
-    → HandsBack None (deed.Run limits) status (note.RunMade cycle runs cost whole) (Some stored) → LedFrom new_cursor (limits_of limits) cycle runs cost whole stored.items
-led_from_the_first limits status cycle runs cost whole stored h = led_from None (limits_of limits) status cycle runs cost whole stored.items new_cursor h h.begins
+pub led_from_the_first : (further : Further) (limits : MadeLimits) (status cycle runs cost : ℕ) (whole : Bool) (stored : Vec ℕ Global)
+    → HandsBack None (deed.Run further limits) status (note.RunMade cycle runs cost whole) (Some stored) → LedFrom (new_cursor further) (limits_of limits) cycle runs cost whole stored.items
+led_from_the_first further limits status cycle runs cost whole stored h = led_from further None (limits_of limits) status cycle runs cost whole stored.items (new_cursor further) h h.begins.1
 
 module _ (one : (b : Text) (c d : Cursor) → IsTextOf b c → IsTextOf b d → c ≡ d) where
-  pub led_from_the_stored : (bytes : Text) (c : Cursor) (limits : MadeLimits) (status cycle runs cost : ℕ) (whole : Bool) (stored : Vec ℕ Global) → IsTextOf bytes c
-      → HandsBack (Some (Some bytes)) (deed.Run limits) status (note.RunMade cycle runs cost whole) (Some stored) → LedFrom c (limits_of limits) cycle runs cost whole stored.items
-  led_from_the_stored bytes c limits status cycle runs cost whole stored is h =
-      led_from (Some (Some bytes)) (limits_of limits) status cycle runs cost whole stored.items c h (one bytes h.from c h.begins is)
+  pub led_from_the_stored : (further : Further) (bytes : Text) (c : Cursor) (limits : MadeLimits) (status cycle runs cost : ℕ) (whole : Bool) (stored : Vec ℕ Global) → IsTextOf bytes c
+      → HandsBack (Some (Some bytes)) (deed.Run further limits) status (note.RunMade cycle runs cost whole) (Some stored) → LedFrom c (limits_of limits) cycle runs cost whole stored.items
+  led_from_the_stored further bytes c limits status cycle runs cost whole stored is h =
+      led_from further (Some (Some bytes)) (limits_of limits) status cycle runs cost whole stored.items c h (one bytes h.from c h.begins.1 is)
+
+  -- it is of an audit with the option of the run
+  pub of_the_audit : (further : Further) (bytes : Text) (c : Cursor) (limits : MadeLimits) (status : ℕ) (n : Note) (stored : Vec ℕ Global) → IsTextOf bytes c
+      → HandsBack (Some (Some bytes)) (deed.Run further limits) status n (Some stored) → c.further ≡ further
+  of_the_audit further bytes c limits status n stored is h = sym (ap (λ (x : Cursor). x.further) (one bytes h.from c h.begins.1 is)) ∙ h.begins.0

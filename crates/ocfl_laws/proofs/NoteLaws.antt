@@ -2,6 +2,8 @@
 use Rattle.std.proofs.Common.{◌≡◌, refl, sym, ◌∙◌, ℕ, ◌≤◌, suc, [], Option, Some, None, Vec, inl, inr, Bool, true, false, arith}
 use Rattle.std.specs.{Prelude.{◌≢◌, ◌⊎◌, ◌↔◌}, declared.alloc.Global.{Global}}
 use Rattle.ocfl_tree.specs.Place.{Place}
+use Rattle.ocfl_report.specs.declared.further.Further.{Further}
+use Rattle.ocfl_report.specs.declared.further.Further.TheVariants.{Nothing}
 use Rattle.ocfl_cursor.specs.{Cursor.{Cursor, start, new_cursor}, declared.limits.Limits.{Limits}}
 use Rattle.ocfl_cursor.specs.declared.reading.CursorStop.{CursorStop}
 use Rattle.ocfl_cursor.specs.declared.part_reading.PartCursorStop.{PartCursorStop}
@@ -18,7 +20,7 @@ use Rattle.ocfl_item.specs.declared.fault.Fault.TheVariants as fault
 use Rattle.ocfl_scrub.specs.declared.stop.ReportStop.TheVariants as halt
 use Rattle.ocfl_deed.specs.declared.deed.Deed.{Deed}
 use Rattle.ocfl_deed.specs.declared.deed.Deed.TheVariants as deed
-use Rattle.ocfl_scrub.specs.Noting.{IsStatus, IsStopSaid, IsRunSaid, IsStopNote, IsAuditSaid, IsCheckSaid, IsCycleSaid, IsShowSaid, IsCheckNote, IsAuditNote, IsRunNote, IsCycleNote, IsUnreadNote, IsPartRefusedNote, IsUnshownNote, IsRanSaid}
+use Rattle.ocfl_scrub.specs.Noting.{IsStatus, IsStopSaid, IsRunSaid, IsStopNote, IsAuditSaid, IsCheckSaid, IsCycleSaid, IsShowSaid, IsCheckNote, IsAuditNote, IsRunNote, IsCycleNote, IsUnreadNote, IsOtherNote, IsPartRefusedNote, IsUnshownNote, IsRanSaid}
 use Rattle.ocfl_scrub.specs.Performing.{IsKept, IsKeptBy, IsSilent, IsWhole}
 use Rattle.ocfl_scrub.specs.Scoping.{IsBranchNote, IsBranchSaid, IsPartRunSaid, IsPartUnreadNote}
 use Rattle.ocfl_scrub.specs.declared.checking.AuditStatus.{AuditStatus}
@@ -66,6 +68,7 @@ without_finding note.CursorWorn = neither (λ e. omega (arith, e)) (none_of neve
 without_finding note.CursorFileFailed = neither (λ e. omega (arith, e)) (none_of never (λ e. cc))
 without_finding (note.CursorRefused why) = neither (λ h. let e = h.0 in omega (arith, e)) (none_of never (λ e. cc))
 without_finding (note.PartCursorRefused why) = neither (λ h. let e = h.0 in omega (arith, e)) (none_of never (λ e. cc))
+without_finding (note.OtherAudit other) = neither (λ e. omega (arith, e)) (none_of never (λ e. cc))
 
 pub with_finding : (n : Note) → IsStatus 1 n ↔ IsWhole n
 with_finding note.Nothing = agree (inr refl) tt
@@ -81,6 +84,7 @@ with_finding note.CursorWorn = neither (λ e. omega (arith, e)) never
 with_finding note.CursorFileFailed = neither (λ e. omega (arith, e)) never
 with_finding (note.CursorRefused why) = neither (λ h. let e = h.0 in omega (arith, e)) never
 with_finding (note.PartCursorRefused why) = neither (λ h. let e = h.0 in omega (arith, e)) never
+with_finding (note.OtherAudit other) = neither (λ e. omega (arith, e)) never
 
 pub of_nothing_there : (n : Note) → IsStatus 2 n ↔ ((n ≡ note.BadPath) ⊎ (n ≡ note.EmptyBranch))
 of_nothing_there note.Nothing = neither (not_small 0) (none_of (λ e. cc) (λ e. cc))
@@ -96,6 +100,7 @@ of_nothing_there note.CursorWorn = neither (λ e. omega (arith, e)) (none_of (λ
 of_nothing_there note.CursorFileFailed = neither (λ e. omega (arith, e)) (none_of (λ e. cc) (λ e. cc))
 of_nothing_there (note.CursorRefused why) = neither (λ h. let e = h.0 in omega (arith, e)) (none_of (λ e. cc) (λ e. cc))
 of_nothing_there (note.PartCursorRefused why) = neither (λ h. let e = h.0 in omega (arith, e)) (none_of (λ e. cc) (λ e. cc))
+of_nothing_there (note.OtherAudit other) = neither (λ e. omega (arith, e)) (none_of (λ e. cc) (λ e. cc))
 
 pub after_failures : (n : Note) → IsStatus 3 n ↔ (IsStopSaid n ⊎ ((n ≡ note.CursorWorn) ⊎ (n ≡ note.CursorFileFailed)))
 after_failures note.Nothing = neither (not_small 1) (none_of never (none_of (λ e. cc) (λ e. cc)))
@@ -111,34 +116,38 @@ after_failures note.CursorWorn = agree refl (inr (inl refl))
 after_failures note.CursorFileFailed = agree refl (inr (inr refl))
 after_failures (note.CursorRefused why) = neither (λ h. let e = h.0 in omega (arith, e)) (none_of never (none_of (λ e. cc) (λ e. cc)))
 after_failures (note.PartCursorRefused why) = neither (λ h. let e = h.0 in omega (arith, e)) (none_of never (none_of (λ e. cc) (λ e. cc)))
+after_failures (note.OtherAudit other) = neither (λ e. omega (arith, e)) (none_of never (none_of (λ e. cc) (λ e. cc)))
 
 -- a cursor is refused, and not for want of memory
 abbrev IsRefusedCursor : Note → Type 0
-IsRefusedCursor n = ((why : Refused) × ((n ≡ note.CursorRefused why) × (why ≢ refused.Memory))) ⊎ ((why : PartRefused) × ((n ≡ note.PartCursorRefused why) × (why ≢ part.Text refused.Memory)))
+IsRefusedCursor n = ((why : Refused) × ((n ≡ note.CursorRefused why) × (why ≢ refused.Memory))) ⊎ (((why : PartRefused) × ((n ≡ note.PartCursorRefused why) × (why ≢ part.Text refused.Memory))) ⊎ ((other : Further) × (n ≡ note.OtherAudit other)))
 
 pub of_refused_cursors : (n : Note)
-    → IsStatus 4 n ↔ (((why : Refused) × ((n ≡ note.CursorRefused why) × (why ≢ refused.Memory))) ⊎ ((why : PartRefused) × ((n ≡ note.PartCursorRefused why) × (why ≢ part.Text refused.Memory))))
-of_refused_cursors note.Nothing = neither (not_small 2) (none_of (λ h. let e = h.1.0 in cc) (λ h. let e = h.1.0 in cc))
-of_refused_cursors note.NoItem = neither (λ e. omega (arith, e)) (none_of (λ h. let e = h.1.0 in cc) (λ h. let e = h.1.0 in cc))
-of_refused_cursors note.EmptyBranch = neither (λ e. omega (arith, e)) (none_of (λ h. let e = h.1.0 in cc) (λ h. let e = h.1.0 in cc))
-of_refused_cursors note.BadPath = neither (λ e. omega (arith, e)) (none_of (λ h. let e = h.1.0 in cc) (λ h. let e = h.1.0 in cc))
-of_refused_cursors (note.StoppedAt p) = neither (λ e. omega (arith, e)) (none_of (λ h. let e = h.1.0 in cc) (λ h. let e = h.1.0 in cc))
-of_refused_cursors note.OutOfMemory = neither (λ e. omega (arith, e)) (none_of (λ h. let e = h.1.0 in cc) (λ h. let e = h.1.0 in cc))
-of_refused_cursors note.OutputFailed = neither (λ e. omega (arith, e)) (none_of (λ h. let e = h.1.0 in cc) (λ h. let e = h.1.0 in cc))
-of_refused_cursors (note.RunMade cycle runs cost ended) = neither (not_small 2) (none_of (λ h. let e = h.1.0 in cc) (λ h. let e = h.1.0 in cc))
-of_refused_cursors (note.CycleMade runs cost ended) = neither (not_small 2) (none_of (λ h. let e = h.1.0 in cc) (λ h. let e = h.1.0 in cc))
-of_refused_cursors note.CursorWorn = neither (λ e. omega (arith, e)) (none_of (λ h. let e = h.1.0 in cc) (λ h. let e = h.1.0 in cc))
-of_refused_cursors note.CursorFileFailed = neither (λ e. omega (arith, e)) (none_of (λ h. let e = h.1.0 in cc) (λ h. let e = h.1.0 in cc))
+    → IsStatus 4 n ↔ (((why : Refused) × ((n ≡ note.CursorRefused why) × (why ≢ refused.Memory))) ⊎ (((why : PartRefused) × ((n ≡ note.PartCursorRefused why) × (why ≢ part.Text refused.Memory))) ⊎ ((other : Further) × (n ≡ note.OtherAudit other))))
+of_refused_cursors note.Nothing = neither (not_small 2) (none_of (λ h. let e = h.1.0 in cc) (none_of (λ h. let e = h.1.0 in cc) (λ h. let e = h.1 in cc)))
+of_refused_cursors note.NoItem = neither (λ e. omega (arith, e)) (none_of (λ h. let e = h.1.0 in cc) (none_of (λ h. let e = h.1.0 in cc) (λ h. let e = h.1 in cc)))
+of_refused_cursors note.EmptyBranch = neither (λ e. omega (arith, e)) (none_of (λ h. let e = h.1.0 in cc) (none_of (λ h. let e = h.1.0 in cc) (λ h. let e = h.1 in cc)))
+of_refused_cursors note.BadPath = neither (λ e. omega (arith, e)) (none_of (λ h. let e = h.1.0 in cc) (none_of (λ h. let e = h.1.0 in cc) (λ h. let e = h.1 in cc)))
+of_refused_cursors (note.StoppedAt p) = neither (λ e. omega (arith, e)) (none_of (λ h. let e = h.1.0 in cc) (none_of (λ h. let e = h.1.0 in cc) (λ h. let e = h.1 in cc)))
+of_refused_cursors note.OutOfMemory = neither (λ e. omega (arith, e)) (none_of (λ h. let e = h.1.0 in cc) (none_of (λ h. let e = h.1.0 in cc) (λ h. let e = h.1 in cc)))
+of_refused_cursors note.OutputFailed = neither (λ e. omega (arith, e)) (none_of (λ h. let e = h.1.0 in cc) (none_of (λ h. let e = h.1.0 in cc) (λ h. let e = h.1 in cc)))
+of_refused_cursors (note.RunMade cycle runs cost ended) = neither (not_small 2) (none_of (λ h. let e = h.1.0 in cc) (none_of (λ h. let e = h.1.0 in cc) (λ h. let e = h.1 in cc)))
+of_refused_cursors (note.CycleMade runs cost ended) = neither (not_small 2) (none_of (λ h. let e = h.1.0 in cc) (none_of (λ h. let e = h.1.0 in cc) (λ h. let e = h.1 in cc)))
+of_refused_cursors note.CursorWorn = neither (λ e. omega (arith, e)) (none_of (λ h. let e = h.1.0 in cc) (none_of (λ h. let e = h.1.0 in cc) (λ h. let e = h.1 in cc)))
+of_refused_cursors note.CursorFileFailed = neither (λ e. omega (arith, e)) (none_of (λ h. let e = h.1.0 in cc) (none_of (λ h. let e = h.1.0 in cc) (λ h. let e = h.1 in cc)))
 of_refused_cursors (note.CursorRefused why) = (λ h. inl (why, (refl, h.1)), by)
   where
     by : IsRefusedCursor (note.CursorRefused why) → IsStatus 4 (note.CursorRefused why)
     by (inl k) = (refl, λ f. let e = k.1.0 in let same : k.0 ≡ why = cc in k.1.1 (same ∙ f))
-    by (inr k) = absurd (let e = k.1.0 in cc)
-of_refused_cursors (note.PartCursorRefused why) = (λ h. inr (why, (refl, h.1)), by)
+    by (inr (inl k)) = absurd (let e = k.1.0 in cc)
+    by (inr (inr k)) = absurd (let e = k.1 in cc)
+of_refused_cursors (note.OtherAudit other) = agree refl (inr (inr (other, refl)))
+of_refused_cursors (note.PartCursorRefused why) = (λ h. inr (inl (why, (refl, h.1))), by)
   where
     by : IsRefusedCursor (note.PartCursorRefused why) → IsStatus 4 (note.PartCursorRefused why)
     by (inl k) = absurd (let e = k.1.0 in cc)
-    by (inr k) = (refl, λ f. let e = k.1.0 in let same : k.0 ≡ why = cc in k.1.1 (same ∙ f))
+    by (inr (inl k)) = (refl, λ f. let e = k.1.0 in let same : k.0 ≡ why = cc in k.1.1 (same ∙ f))
+    by (inr (inr k)) = absurd (let e = k.1 in cc)
 
 pub no_other_status : (status : ℕ) (n : Note) → IsStatus status n → status ≤ 4
 no_other_status status note.Nothing h = let m = small status h in omega (arith, m)
@@ -154,6 +163,7 @@ no_other_status status note.CursorWorn h = omega (arith, h)
 no_other_status status note.CursorFileFailed h = omega (arith, h)
 no_other_status status (note.CursorRefused why) h = let e = h.0 in omega (arith, e)
 no_other_status status (note.PartCursorRefused why) h = let e = h.0 in omega (arith, e)
+no_other_status status (note.OtherAudit other) h = omega (arith, h)
 
 -- ---- if nothing was done
 
@@ -177,6 +187,7 @@ nothing_done status note.CursorWorn h = agree tt (inr (inr (inl refl)))
 nothing_done status note.CursorFileFailed h = agree tt (inr (inr (inr refl)))
 nothing_done status (note.CursorRefused why) h = agree tt (inr (inl h.0))
 nothing_done status (note.PartCursorRefused why) h = agree tt (inr (inl h.0))
+nothing_done status (note.OtherAudit other) h = agree tt (inr (inl h))
 
 -- ---- the cursor that a run hands back
 
@@ -198,6 +209,7 @@ cursor_kept note.CursorWorn stored h = neither (λ e. cc) (none_of never never)
 cursor_kept note.CursorFileFailed stored h = neither (λ e. cc) (none_of never never)
 cursor_kept (note.CursorRefused why) stored h = neither (λ e. cc) (none_of never never)
 cursor_kept (note.PartCursorRefused why) stored h = neither (λ e. cc) (none_of never never)
+cursor_kept (note.OtherAudit other) stored h = neither (λ e. cc) (none_of never never)
 
 pub no_cursor_kept : (n : Note) → IsRunSaid n ⊎ IsPartRunSaid n → IsKept n None ↔ (IsSilent n ⊎ (n ≡ note.OutOfMemory))
 no_cursor_kept note.Nothing h = unsaid h
@@ -213,12 +225,13 @@ no_cursor_kept note.CursorWorn h = agree refl (inl tt)
 no_cursor_kept note.CursorFileFailed h = agree refl (inl tt)
 no_cursor_kept (note.CursorRefused why) h = agree refl (inl tt)
 no_cursor_kept (note.PartCursorRefused why) h = agree refl (inl tt)
+no_cursor_kept (note.OtherAudit other) h = agree refl (inl tt)
 
-pub of_a_run_alone : (d : Deed) (n : Note) (stored : Vec ℕ Global) → IsKeptBy d n (Some stored) → (limits : Limits) × (d ≡ deed.Run limits)
-of_a_run_alone deed.Audit n stored h = absurd cc
-of_a_run_alone (deed.Run limits) n stored h = (limits, refl)
-of_a_run_alone (deed.Cycle limits count) n stored h = absurd cc
-of_a_run_alone (deed.Check path) n stored h = absurd cc
+pub of_a_run_alone : (d : Deed) (n : Note) (stored : Vec ℕ Global) → IsKeptBy d n (Some stored) → (further : Further) × ((limits : Limits) × (d ≡ deed.Run further limits))
+of_a_run_alone (deed.Audit further) n stored h = absurd cc
+of_a_run_alone (deed.Run further limits) n stored h = (further, (limits, refl))
+of_a_run_alone (deed.Cycle further limits count) n stored h = absurd cc
+of_a_run_alone (deed.Check further path) n stored h = absurd cc
 of_a_run_alone deed.Show n stored h = absurd cc
 
 -- ---- what is said is said by how it ended
@@ -277,6 +290,9 @@ module _ (a b : ℕ) (m n : Note) where
   part_unread_says_one stops.Read h k = (h.0 ∙ sym k.0, h.1 ∙ sym k.1)
   part_unread_says_one (stops.Refused why) h k = part_refused_says_one why h k
 
+  pub other_says_one : (other : Further) → IsOtherNote other a m → IsOtherNote other b n → (a ≡ b) × (m ≡ n)
+  other_says_one other h k = (h.0 ∙ sym k.0, h.1 ∙ sym k.1)
+
 -- ---- what a command says is said of one of its ends
 
 pub audit_said : (status : ℕ) (n : Note) → IsStatus status n → IsAuditSaid n → (finding : Bool) × ((how : AuditStatus) × IsAuditNote finding how status n)
@@ -317,7 +333,7 @@ unread_said status refused.Memory e = absurd (e.1 refl)
 
 -- a cursor of this cycle and this number of runs
 abbrev counted : ℕ → ℕ → Cursor
-counted cycle runs = record { cycle = cycle; runs = runs; spent = 0; files = 0; state = start }
+counted cycle runs = record { cycle = cycle; runs = runs; spent = 0; files = 0; further = Nothing; state = start }
 
 -- a run was made
 ran_said : (status : ℕ) (n : Note) → IsStatus status n → IsRanSaid n → (c : Cursor) × ((spent : ℕ) × ((finding : Bool) × ((how : RunStatus) × IsRunNote c spent finding how status n)))
@@ -325,16 +341,17 @@ ran_said status (note.RunMade cycle runs cost true) (inl e) h = (counted cycle r
 ran_said status (note.RunMade cycle runs cost true) (inr e) h = (counted cycle runs, (cost, (true, (run.Ended, (e, refl)))))
 ran_said status (note.RunMade cycle runs cost false) (inl e) h = (counted cycle runs, (cost, (false, (run.Spent, (e, refl)))))
 ran_said status (note.RunMade cycle runs cost false) (inr e) h = (counted cycle runs, (cost, (true, (run.Spent, (e, refl)))))
-ran_said status (note.StoppedAt p) e h = (new_cursor, (0, (false, (run.Stopped (halt.Fault (fault.Store p)), (e, refl)))))
-ran_said status note.OutOfMemory e h = (new_cursor, (0, (false, (run.Stopped (halt.Fault fault.Memory), (e, refl)))))
-ran_said status note.OutputFailed e h = (new_cursor, (0, (false, (run.Stopped halt.Output, (e, refl)))))
-ran_said status note.CursorWorn e h = (new_cursor, (0, (false, (run.Worn, (e, refl)))))
+ran_said status (note.StoppedAt p) e h = (new_cursor Nothing, (0, (false, (run.Stopped (halt.Fault (fault.Store p)), (e, refl)))))
+ran_said status note.OutOfMemory e h = (new_cursor Nothing, (0, (false, (run.Stopped (halt.Fault fault.Memory), (e, refl)))))
+ran_said status note.OutputFailed e h = (new_cursor Nothing, (0, (false, (run.Stopped halt.Output, (e, refl)))))
+ran_said status note.CursorWorn e h = (new_cursor Nothing, (0, (false, (run.Worn, (e, refl)))))
 ran_said status n e h = absurd h
 
 pub run_said : (status : ℕ) (n : Note) → IsStatus status n → IsRunSaid n
-    → ((c : Cursor) × ((spent : ℕ) × ((finding : Bool) × ((how : RunStatus) × IsRunNote c spent finding how status n)))) ⊎ ((how : CursorStop) × IsUnreadNote how status n)
-run_said status note.CursorFileFailed e h = inr (stop.Read, (e, refl))
-run_said status (note.CursorRefused why) e h = inr (unread_said status why e)
+    → ((c : Cursor) × ((spent : ℕ) × ((finding : Bool) × ((how : RunStatus) × IsRunNote c spent finding how status n)))) ⊎ (((how : CursorStop) × IsUnreadNote how status n) ⊎ ((other : Further) × IsOtherNote other status n))
+run_said status note.CursorFileFailed e h = inr (inl (stop.Read, (e, refl)))
+run_said status (note.CursorRefused why) e h = inr (inl (unread_said status why e))
+run_said status (note.OtherAudit other) e h = inr (inr (other, (e, refl)))
 run_said status n e h = inl (ran_said status n e h)
 
 -- why a part's cursor is refused, as its text says
@@ -366,7 +383,8 @@ branch_said status note.OutputFailed e h = (false, (end.Stopped halt.Output, (No
 branch_said status n e h = absurd h
 
 pub part_run_said : (status : ℕ) (n : Note) → IsStatus status n → IsPartRunSaid n
-    → ((c : Cursor) × ((spent : ℕ) × ((finding : Bool) × ((how : RunStatus) × IsRunNote c spent finding how status n)))) ⊎ ((how : PartCursorStop) × IsPartUnreadNote how status n)
-part_run_said status note.CursorFileFailed e h = inr (stops.Read, (e, refl))
-part_run_said status (note.PartCursorRefused why) e h = inr (stops.Refused why, part_refused_said status why e)
+    → ((c : Cursor) × ((spent : ℕ) × ((finding : Bool) × ((how : RunStatus) × IsRunNote c spent finding how status n)))) ⊎ (((how : PartCursorStop) × IsPartUnreadNote how status n) ⊎ ((other : Further) × IsOtherNote other status n))
+part_run_said status note.CursorFileFailed e h = inr (inl (stops.Read, (e, refl)))
+part_run_said status (note.PartCursorRefused why) e h = inr (inl (stops.Refused why, part_refused_said status why e))
+part_run_said status (note.OtherAudit other) e h = inr (inr (other, (e, refl)))
 part_run_said status n e h = inl (ran_said status n e h)

@@ -23,9 +23,9 @@ last_is (i ∷ front) last behind h k = ap (λ n. cond (n == 0) i.cost n) (last_
 
 pub less_than_the_last : (call : Call) (part : Part) (from to next : Option Place) (limits : Limits) (spent files : ℕ) (finding : Bool)
     (run : RunsWithin call part from to limits spent files finding next) (front behind : List Item) (last : Item)
-    → taken_in call.root run.trail part from limits ≡ front ++ last ∷ behind → 0 < last.cost → total_cost behind ≡ 0 → spent < limits.budget + last.cost
+    → taken_in call.further call.root run.trail part from limits ≡ front ++ last ∷ behind → 0 < last.cost → total_cost behind ≡ 0 → spent < limits.budget + last.cost
 less_than_the_last call part from to next limits spent files finding run front behind last are h k =
-    let items : List Item = items_in call.root run.trail part from in
+    let items : List Item = items_in call.further call.root run.trail part from in
     let a : spent ≡ total_cost (cut items limits) = run.figures.spent_is in
     let e : total_cost (cut items limits) ≡ total_cost (front ++ last ∷ behind) = ap total_cost are in
     let f = cost_append front (last ∷ behind) in

@@ -11,6 +11,7 @@ use Rattle.ocfl_rules.specs.{Runs.{Limits}, Trail.{content_trail}}
 use Rattle.ocfl_cursor.specs.{Cursor.{Cursor}, Part.{IsPartText}, declared.ends.PartEnds.{PartEnds}}
 use Rattle.ocfl_cursor.specs.declared.limits.Limits.{Limits as MadeLimits}
 use Rattle.ocfl_deed.specs.declared.deed.Deed.TheVariants as deed
+use Rattle.ocfl_report.specs.declared.further.Further.{Further}
 use Rattle.ocfl_scope.specs.declared.scope.Scope.TheVariants as scope
 use Rattle.ocfl_scope.specs.Numbered.{part_between}
 use Rattle.ocfl_scrub.specs.{Call.{Call, known_call}, Joining.{PartRun, items_out}}
@@ -40,11 +41,11 @@ bytes_stored (Some bytes) = Some (Some bytes)
 
 -- it was asked for a run of the part with these ends, was given these bytes as the stored cursor and
 -- a store that tells this tree, and no failure was counted
-pub record CalledWell (root : StorageRoot) (e : PartEnds) (stored : Option Text) (c : PartCall) : Type 0 where
+pub record CalledWell (further : Further) (root : StorageRoot) (e : PartEnds) (stored : Option Text) (c : PartCall) : Type 0 where
   pub before : Store
   pub behind : Store
   pub old : Text
-  pub performs : PerformsIn (known_call root before behind old (old ++ c.report)) (deed.Run c.limits) (scope.Part e) (bytes_stored stored) c.said.status c.said.note c.said.cursor
+  pub performs : PerformsIn (known_call further root before behind old (old ++ c.report)) (deed.Run further c.limits) (scope.Part e) (bytes_stored stored) c.said.status c.said.note c.said.cursor
   pub opened_is : behind.openings ≡ before.openings ++ c.opened
   pub unfailing : behind.failures ≡ before.failures
 
@@ -57,10 +58,10 @@ SaysMade whole n = ⊥
 
 -- the first was given the bytes that are stored, and each other the bytes that the one before handed
 -- back. Each but the last left items, and the last left none
-abbrev pub AreCalls : StorageRoot → PartEnds → Option Text → List PartCall → Type 0
-AreCalls root e stored [] = ⊥
-AreCalls root e stored (c ∷ []) = CalledWell root e stored c × SaysMade true c.said.note
-AreCalls root e stored (c ∷ d ∷ calls) = CalledWell root e stored c × (SaysMade false c.said.note × AreCalls root e (handed_by c) (d ∷ calls))
+abbrev pub AreCalls : Further → StorageRoot → PartEnds → Option Text → List PartCall → Type 0
+AreCalls further root e stored [] = ⊥
+AreCalls further root e stored (c ∷ []) = CalledWell further root e stored c × SaysMade true c.said.note
+AreCalls further root e stored (c ∷ d ∷ calls) = CalledWell further root e stored c × (SaysMade false c.said.note × AreCalls further root e (handed_by c) (d ∷ calls))
 
 -- nothing is stored, or a cursor with which the part's first item is next
 abbrev pub BeginsCycle : PartEnds → Option Text → Type 0
@@ -76,8 +77,8 @@ stored_after stored (c ∷ calls) = stored_after (handed_by c) calls
 abbrev pub written_by : List PartCall → Text
 written_by calls = flat_map (λ c. c.report) calls
 
-abbrev pub content_opened : StorageRoot → List PartCall → List Place
-content_opened root calls = flat_map (λ c. content_trail None root c.opened) calls
+abbrev pub content_opened : Further → StorageRoot → List PartCall → List Place
+content_opened further root calls = flat_map (λ c. content_trail further root c.opened) calls
 
 abbrev pub limits_given : List PartCall → List Limits
 limits_given calls = map (λ c. limits_of c.limits) calls
@@ -93,9 +94,9 @@ pub record CycleOf (A : Type 0) : Type 0 where
 abbrev pub CalledCycle : Type 0
 CalledCycle = CycleOf PartCall
 
-pub record IsCalledCycle (root : StorageRoot) (d : CalledCycle) : Type 0 where
+pub record IsCalledCycle (further : Further) (root : StorageRoot) (d : CalledCycle) : Type 0 where
   pub begins : BeginsCycle d.ends d.stored
-  pub are : AreCalls root d.ends d.stored d.calls
+  pub are : AreCalls further root d.ends d.stored d.calls
 
 -- ---- the same if any call may stop, and may meet files that it cannot read
 
@@ -119,23 +120,23 @@ HasRun call e known limits status n stored (inr unmade) ran report = ⊥
 -- it was asked for a run of the part with these ends, was given these bytes as the stored cursor and
 -- a store that tells this tree, and handed a cursor back, whatever failed in it. After its report
 -- comes what went out of the next item's lines, if the output failed
-pub record MadeFrom (root : StorageRoot) (e : PartEnds) (stored : Option Text) (c : MadeCall) : Type 0 where
+pub record MadeFrom (further : Further) (root : StorageRoot) (e : PartEnds) (stored : Option Text) (c : MadeCall) : Type 0 where
   pub before : Store
   pub behind : Store
   pub old : Text
   pub cut : Text
-  pub performs : PerformsIn (known_call root before behind old (old ++ (c.call.report ++ cut))) (deed.Run c.call.limits) (scope.Part e) (bytes_stored stored) c.call.said.status c.call.said.note c.call.said.cursor
-  pub has_run : HasRun (known_call root before behind old (old ++ (c.call.report ++ cut))) e (bytes_stored stored) (limits_of c.call.limits) c.call.said.status c.call.said.note c.call.said.cursor performs c.ran c.call.report
+  pub performs : PerformsIn (known_call further root before behind old (old ++ (c.call.report ++ cut))) (deed.Run further c.call.limits) (scope.Part e) (bytes_stored stored) c.call.said.status c.call.said.note c.call.said.cursor
+  pub has_run : HasRun (known_call further root before behind old (old ++ (c.call.report ++ cut))) e (bytes_stored stored) (limits_of c.call.limits) c.call.said.status c.call.said.note c.call.said.cursor performs c.ran c.call.report
   pub handed : IsSome c.call.said.cursor
   pub opened_is : behind.openings ≡ before.openings ++ c.call.opened
 
 -- the first was given the bytes that are stored, and each other the bytes that the one before handed
 -- back, and none but the last says that no item is left. A call whose bytes were not stored, or that
 -- handed none back, is not among them: what is stored stays, and the next one takes the same items
-abbrev pub AreMadeCalls : StorageRoot → PartEnds → Option Text → List MadeCall → Type 0
-AreMadeCalls root e stored [] = ⊥
-AreMadeCalls root e stored (c ∷ []) = MadeFrom root e stored c
-AreMadeCalls root e stored (c ∷ d ∷ calls) = MadeFrom root e stored c × ((SaysMade true c.call.said.note → ⊥) × AreMadeCalls root e (handed_by c.call) (d ∷ calls))
+abbrev pub AreMadeCalls : Further → StorageRoot → PartEnds → Option Text → List MadeCall → Type 0
+AreMadeCalls further root e stored [] = ⊥
+AreMadeCalls further root e stored (c ∷ []) = MadeFrom further root e stored c
+AreMadeCalls further root e stored (c ∷ d ∷ calls) = MadeFrom further root e stored c × ((SaysMade true c.call.said.note → ⊥) × AreMadeCalls further root e (handed_by c.call) (d ∷ calls))
 
 -- the last says that no item is left
 abbrev pub SayEnded : List MadeCall → Type 0
@@ -154,7 +155,7 @@ runs_made calls = map run_in calls
 abbrev pub MadeCycle : Type 0
 MadeCycle = CycleOf MadeCall
 
-pub record IsMadeCycle (root : StorageRoot) (d : MadeCycle) : Type 0 where
+pub record IsMadeCycle (further : Further) (root : StorageRoot) (d : MadeCycle) : Type 0 where
   pub starts : BeginsCycle d.ends d.stored
-  pub are : AreMadeCalls root d.ends d.stored d.calls
+  pub are : AreMadeCalls further root d.ends d.stored d.calls
   pub says : SayEnded d.calls

@@ -1,10 +1,10 @@
 //! The laws of calls that hand the cursor of a part from one to the next as bytes, as the program
 //! does from one process to another.
-ghost use Rattle.std.specs.Prelude.{◌≡◌, ◌≢◌, ◌≤◌, ◌+◌, ◌++◌, ◌/◌, ℕ, List, [], Option, All, IsSome, flat_map, length, map, None};
+ghost use Rattle.std.specs.Prelude.{◌≡◌, ◌≢◌, ◌≤◌, ◌+◌, ◌++◌, ◌/◌, ℕ, List, [], Option, All, IsSome, flat_map, length, map};
 ghost use Rattle.std.specs.List.{AllByRecursion};
 ghost use Rattle.ocfl_tree.specs.{Place.{Text}, StorageRoot.{StorageRoot}, Store.{Store}};
 ghost use Rattle.ocfl_tree.specs.declared.store.Opening.{Opening};
-ghost use Rattle.ocfl_report.specs.Text.{text};
+ghost use Rattle.ocfl_report.specs.{Text.{text}, declared.further.Further.{Further}};
 ghost use Rattle.ocfl_rules.specs.{Audit.{audit, total_cost}, Due.{hashed_among, item_places}};
 ghost use Rattle.ocfl_rules.specs.{Parts.{places_within, within}, Runs.{IsAtLeast, total_files}};
 ghost use Rattle.ocfl_cursor.specs.{Cursor.{Cursor}, declared.ends.PartEnds.{PartEnds}};
@@ -16,7 +16,7 @@ ghost use Rattle.ocfl_scrub.specs.Call.{known_call};
 ghost use Rattle.ocfl_scrub.specs.declared.performing.Performed.{Performed};
 ghost use Rattle.ocfl_laws.specs.Handing.{AreCalls, AreMadeCalls, BeginsCycle, CalledCycle, CalledWell, IsCalledCycle, IsMadeCycle, MadeCall, MadeCycle, MadeFrom, PartCall, SayEnded, bytes_stored, content_opened, limits_given, runs_made, stored_after, stored_last, written_by};
 ghost use Rattle.ocfl_scrub.specs.Joining.{left_by, reports_of, unread_together, unstopped};
-ghost use Rattle.ocfl_scrub.specs.Scoping.{BeginsPartWith, PerformsIn};
+ghost use Rattle.ocfl_scrub.specs.Scoping.{IsPartFirst, PerformsIn};
 ghost use Rattle.ocfl_scrub.specs.declared.note.Note.TheVariants as notes;
 
 /// A call of `perform_part` for a run of a part, by what that says of it (`told`), is one of which
@@ -24,21 +24,25 @@ ghost use Rattle.ocfl_scrub.specs.declared.note.Note.TheVariants as notes;
 /// counted. So is each that hands a cursor back, whatever failed in it. Its report is what it
 /// wrote, except for a beginning of the next item's lines if the output failed.
 pub fn a_call_is_told()
-    ensures well { (root : StorageRoot) (s t : Store) (limits : MadeLimits) (e : PartEnds)
+    ensures well { (further : Further) (root : StorageRoot) (s t : Store) (limits : MadeLimits)
+        (e : PartEnds)
         (stored : Option Text) (said : Performed) (old report : Text) (opened : List Opening)
-        → PerformsIn (known_call root s t old (old ++ report)) (deeds.Run limits) (scopes.Part e)
+        → PerformsIn (known_call further root s t old (old ++ report)) (deeds.Run further limits)
+        (scopes.Part e)
         (bytes_stored stored) said.status said.note said.cursor
         → t.openings ≡ s.openings ++ opened → t.failures ≡ s.failures
-        → CalledWell root e stored
+        → CalledWell further root e stored
         (record { limits = limits; report = report; opened = opened; said = said }) }
-    ensures handed_back { (root : StorageRoot) (s t : Store) (limits : MadeLimits) (e : PartEnds)
+    ensures handed_back { (further : Further) (root : StorageRoot) (s t : Store)
+        (limits : MadeLimits) (e : PartEnds)
         (stored : Option Text) (said : Performed) (old new : Text)
-        → PerformsIn (known_call root s t old new) (deeds.Run limits) (scopes.Part e)
+        → PerformsIn (known_call further root s t old new) (deeds.Run further limits)
+        (scopes.Part e)
         (bytes_stored stored) said.status said.note said.cursor → IsSome said.cursor
         → (c : MadeCall) × ((c.call.limits ≡ limits) × ((c.call.said ≡ said)
         × ((t.openings ≡ s.openings ++ c.call.opened)
         × ((cut : Text) × ((new ≡ old ++ (c.call.report ++ cut))
-        × ((said.note ≢ notes.OutputFailed → cut ≡ []) × MadeFrom root e stored c)))))) }
+        × ((said.note ≢ notes.OutputFailed → cut ≡ []) × MadeFrom further root e stored c)))))) }
 {}
 
 /// Calls of `perform_part` run one part, in any processes. Each reads as its stored cursor the
@@ -48,20 +52,20 @@ pub fn a_call_is_told()
 /// calls are few. With the bytes that the last one handed back, the next cycle begins.
 #[tactic(auto, using(crate::proofs::CallsJoined::calls_report, crate::proofs::CallsJoined::calls_open, crate::proofs::CallsJoined::next_cycle))]
 pub fn calls_on_a_part_join()
-    ensures reports { (root : StorageRoot) (e : PartEnds) (stored : Option Text)
-        (calls : List PartCall) → BeginsCycle e stored → AreCalls root e stored calls
-        → written_by calls ≡ text (within (part_between e) (audit None root [])) }
-    ensures opened { (root : StorageRoot) (e : PartEnds) (stored : Option Text)
-        (calls : List PartCall) → BeginsCycle e stored → AreCalls root e stored calls
-        → content_opened root calls
-        ≡ hashed_among None root (places_within (part_between e) (item_places None root)) }
-    ensures few { (root : StorageRoot) (e : PartEnds) (stored : Option Text)
-        (calls : List PartCall) → BeginsCycle e stored → AreCalls root e stored calls
+    ensures reports { (further : Further) (root : StorageRoot) (e : PartEnds) (stored : Option Text)
+        (calls : List PartCall) → BeginsCycle e stored → AreCalls further root e stored calls
+        → written_by calls ≡ text (within (part_between e) (audit further root [])) }
+    ensures opened { (further : Further) (root : StorageRoot) (e : PartEnds) (stored : Option Text)
+        (calls : List PartCall) → BeginsCycle e stored → AreCalls further root e stored calls
+        → content_opened further root calls
+        ≡ hashed_among further root (places_within (part_between e) (item_places further root)) }
+    ensures few { (further : Further) (root : StorageRoot) (e : PartEnds) (stored : Option Text)
+        (calls : List PartCall) → BeginsCycle e stored → AreCalls further root e stored calls
         → (b n : ℕ) → 1 ≤ b → 1 ≤ n → All (IsAtLeast b n) (limits_given calls)
-        → length calls ≤ total_cost (within (part_between e) (audit None root [])) / b
-        + total_files (within (part_between e) (audit None root [])) / n + 1 }
-    ensures next { (root : StorageRoot) (e : PartEnds) (stored : Option Text)
-        (calls : List PartCall) → AreCalls root e stored calls
+        → length calls ≤ total_cost (within (part_between e) (audit further root [])) / b
+        + total_files (within (part_between e) (audit further root [])) / n + 1 }
+    ensures next { (further : Further) (root : StorageRoot) (e : PartEnds) (stored : Option Text)
+        (calls : List PartCall) → AreCalls further root e stored calls
         → BeginsCycle e (stored_after stored calls) }
 {}
 
@@ -69,15 +73,17 @@ pub fn calls_on_a_part_join()
 /// While the root stays unchanged and every call succeeds, the outputs of all parts, joined in
 /// order, are exactly the audit of the whole root. Each hashed file is opened once.
 pub fn calls_on_all_parts_join_to_the_audit()
-    ensures reports { (root : StorageRoot) (separators : Text) (cycles : List CalledCycle)
+    ensures reports { (further : Further) (root : StorageRoot) (separators : Text)
+        (cycles : List CalledCycle)
         → AreAllFrom separators 1 (map (λ d. d.ends) cycles)
-        → AllByRecursion (IsCalledCycle root) cycles
-        → flat_map (λ d. written_by d.calls) cycles ≡ text (audit None root []) }
-    ensures opened { (root : StorageRoot) (separators : Text) (cycles : List CalledCycle)
+        → AllByRecursion (IsCalledCycle further root) cycles
+        → flat_map (λ d. written_by d.calls) cycles ≡ text (audit further root []) }
+    ensures opened { (further : Further) (root : StorageRoot) (separators : Text)
+        (cycles : List CalledCycle)
         → AreAllFrom separators 1 (map (λ d. d.ends) cycles)
-        → AllByRecursion (IsCalledCycle root) cycles
-        → flat_map (λ d. content_opened root d.calls) cycles
-        ≡ hashed_among None root (item_places None root) }
+        → AllByRecursion (IsCalledCycle further root) cycles
+        → flat_map (λ d. content_opened further root d.calls) cycles
+        ≡ hashed_among further root (item_places further root) }
 {}
 
 /// The same calls, of which any may stop at a call of the store that fails, and may meet content
@@ -90,29 +96,32 @@ pub fn calls_on_all_parts_join_to_the_audit()
 /// Of the calls that did not stop there are at most cost / B + files / N + 1, whether or not the
 /// cycle has ended, if each budget is at least B and each limit on files at least N.
 pub fn calls_that_stop_join()
-    ensures reports { (root : StorageRoot) (e : PartEnds) (stored : Option Text)
-        (calls : List MadeCall) → BeginsCycle e stored → AreMadeCalls root e stored calls
-        → (last : Cursor) → BeginsPartWith e (bytes_stored (stored_last stored calls)) last
+    ensures reports { (further : Further) (root : StorageRoot) (e : PartEnds) (stored : Option Text)
+        (calls : List MadeCall) → BeginsCycle e stored → AreMadeCalls further root e stored calls
+        → (last : Cursor)
+        → IsPartFirst further e (bytes_stored (stored_last stored calls)) last
         → reports_of (runs_made calls) ++ text (left_by last.state
-        (within (part_between e) (audit None root (unread_together root (runs_made calls)))))
-        ≡ text (within (part_between e) (audit None root (unread_together root
+        (within (part_between e) (audit further root (unread_together further root
+        (runs_made calls)))))
+        ≡ text (within (part_between e) (audit further root (unread_together further root
         (runs_made calls)))) }
-    ensures ended { (root : StorageRoot) (e : PartEnds) (stored : Option Text)
-        (calls : List MadeCall) → BeginsCycle e stored → AreMadeCalls root e stored calls
+    ensures ended { (further : Further) (root : StorageRoot) (e : PartEnds) (stored : Option Text)
+        (calls : List MadeCall) → BeginsCycle e stored → AreMadeCalls further root e stored calls
         → SayEnded calls → reports_of (runs_made calls)
-        ≡ text (within (part_between e) (audit None root (unread_together root
+        ≡ text (within (part_between e) (audit further root (unread_together further root
         (runs_made calls)))) }
-    ensures few { (root : StorageRoot) (e : PartEnds) (stored : Option Text)
-        (calls : List MadeCall) → BeginsCycle e stored → AreMadeCalls root e stored calls
+    ensures few { (further : Further) (root : StorageRoot) (e : PartEnds) (stored : Option Text)
+        (calls : List MadeCall) → BeginsCycle e stored → AreMadeCalls further root e stored calls
         → (b n : ℕ) → 1 ≤ b → 1 ≤ n
         → All (IsAtLeast b n) (map (λ r. r.limits) (runs_made calls))
         → unstopped (runs_made calls) ≤ total_cost
-        (within (part_between e) (audit None root (unread_together root (runs_made calls)))) / b
+        (within (part_between e) (audit further root (unread_together further root
+        (runs_made calls)))) / b
         + total_files
-        (within (part_between e) (audit None root (unread_together root
+        (within (part_between e) (audit further root (unread_together further root
         (runs_made calls)))) / n + 1 }
-    ensures next { (root : StorageRoot) (e : PartEnds) (stored : Option Text)
-        (calls : List MadeCall) → AreMadeCalls root e stored calls → SayEnded calls
+    ensures next { (further : Further) (root : StorageRoot) (e : PartEnds) (stored : Option Text)
+        (calls : List MadeCall) → AreMadeCalls further root e stored calls → SayEnded calls
         → BeginsCycle e (stored_last stored calls) }
 {}
 
@@ -121,9 +130,10 @@ pub fn calls_that_stop_join()
 /// unreadable that could not be read by the call that took them.
 #[tactic(auto, using(crate::proofs::CallsMade::made_parts))]
 pub fn parts_with_calls_that_stop_join()
-    ensures { (root : StorageRoot) (separators : Text) (cycles : List MadeCycle)
+    ensures { (further : Further) (root : StorageRoot) (separators : Text) (cycles : List MadeCycle)
         → AreAllFrom separators 1 (map (λ d. d.ends) cycles)
-        → AllByRecursion (IsMadeCycle root) cycles
+        → AllByRecursion (IsMadeCycle further root) cycles
         → flat_map (λ d. reports_of (runs_made d.calls)) cycles
-        ≡ text (audit None root (flat_map (λ d. unread_together root (runs_made d.calls)) cycles)) }
+        ≡ text (audit further root (flat_map (λ d. unread_together further root
+        (runs_made d.calls)) cycles)) }
 {}

@@ -5,7 +5,7 @@ ghost use Rattle.std.specs.List.{AllByRecursion};
 ghost use Rattle.ocfl_tree.specs.{Place.{Place, Text, place_cmp}, Ascending.{IsAmong, IsAscending}};
 ghost use Rattle.ocfl_tree.specs.{StorageRoot.{StorageRoot}, Store.{Store}};
 ghost use Rattle.ocfl_tree.specs.declared.store.Opening.{Opening};
-ghost use Rattle.ocfl_report.specs.Text.{text};
+ghost use Rattle.ocfl_report.specs.{Text.{text}, declared.further.Further.{Further}};
 ghost use Rattle.ocfl_rules.specs.{Audit.{audit, total_cost}, Due.{hashed_among, item_places}};
 ghost use Rattle.ocfl_rules.specs.{Lines.{is_empty}, Parts.{Part, parts_of, places_within, within}};
 ghost use Rattle.ocfl_rules.specs.Runs.{IsAtLeast, Limits, total_files};
@@ -33,18 +33,21 @@ ghost use Rattle.ocfl_laws.specs.Joined.{AreRuns, IsPartCycle, opened_by};
 /// cost / B + files / N + 1 runs. Cost and files are the part's, and each quotient is rounded down.
 #[tactic(auto, using(crate::proofs::JoinLaws::part_reports, crate::proofs::JoinLaws::part_opened))]
 pub fn runs_of_a_part_join()
-    ensures reports { (root : StorageRoot) (part : Part) (c : Cursor) (runs : List PartRun)
-        → place_in c.state ≡ None → AreRuns root part c runs
-        → reports_of runs ≡ text (within part (audit None root [])) }
-    ensures opened { (root : StorageRoot) (part : Part) (c : Cursor) (runs : List PartRun)
-        → place_in c.state ≡ None → AreRuns root part c runs
-        → opened_by root runs
-        ≡ hashed_among None root (places_within part (item_places None root)) }
-    ensures few { (root : StorageRoot) (part : Part) (c : Cursor) (runs : List PartRun)
-        → place_in c.state ≡ None → AreRuns root part c runs → (b n : ℕ) → 1 ≤ b → 1 ≤ n
+    ensures reports { (further : Further) (root : StorageRoot) (part : Part) (c : Cursor)
+        (runs : List PartRun)
+        → place_in c.state ≡ None → AreRuns further root part c runs
+        → reports_of runs ≡ text (within part (audit further root [])) }
+    ensures opened { (further : Further) (root : StorageRoot) (part : Part) (c : Cursor)
+        (runs : List PartRun)
+        → place_in c.state ≡ None → AreRuns further root part c runs
+        → opened_by further root runs
+        ≡ hashed_among further root (places_within part (item_places further root)) }
+    ensures few { (further : Further) (root : StorageRoot) (part : Part) (c : Cursor)
+        (runs : List PartRun)
+        → place_in c.state ≡ None → AreRuns further root part c runs → (b n : ℕ) → 1 ≤ b → 1 ≤ n
         → All (IsAtLeast b n) (map (λ r. r.limits) runs)
-        → length runs ≤ total_cost (within part (audit None root [])) / b
-        + total_files (within part (audit None root [])) / n + 1 }
+        → length runs ≤ total_cost (within part (audit further root [])) / b
+        + total_files (within part (audit further root [])) / n + 1 }
 {}
 
 /// While the root stays unchanged and every call succeeds, the reports of all parts that separators
@@ -52,17 +55,19 @@ pub fn runs_of_a_part_join()
 /// processes, may make the report of a part. Each hashed file is opened once, by one of them.
 #[tactic(auto, using(crate::proofs::JoinLaws::all_reports, crate::proofs::JoinLaws::all_opened))]
 pub fn parts_join_to_the_audit()
-    ensures reports { (root : StorageRoot) (separators : List Place) (cycles : List PartCycle)
+    ensures reports { (further : Further) (root : StorageRoot) (separators : List Place)
+        (cycles : List PartCycle)
         → IsAscending place_cmp separators
         → map (λ d. d.part) cycles ≡ parts_of separators
-        → AllByRecursion (IsPartCycle root) cycles
-        → flat_map (λ d. reports_of d.runs) cycles ≡ text (audit None root []) }
-    ensures opened { (root : StorageRoot) (separators : List Place) (cycles : List PartCycle)
+        → AllByRecursion (IsPartCycle further root) cycles
+        → flat_map (λ d. reports_of d.runs) cycles ≡ text (audit further root []) }
+    ensures opened { (further : Further) (root : StorageRoot) (separators : List Place)
+        (cycles : List PartCycle)
         → IsAscending place_cmp separators
         → map (λ d. d.part) cycles ≡ parts_of separators
-        → AllByRecursion (IsPartCycle root) cycles
-        → flat_map (λ d. opened_by root d.runs) cycles
-        ≡ hashed_among None root (item_places None root) }
+        → AllByRecursion (IsPartCycle further root) cycles
+        → flat_map (λ d. opened_by further root d.runs) cycles
+        ≡ hashed_among further root (item_places further root) }
 {}
 
 /// The same of the parts that separators make, if the cycle of each has ended: the reports, joined
@@ -70,37 +75,40 @@ pub fn parts_join_to_the_audit()
 /// could not be read by the run that took them.
 #[tactic(auto, using(ocfl_scrub::proofs::CycleRuns::parts_reports))]
 pub fn parts_with_runs_that_stop_join()
-    ensures { (root : StorageRoot) (separators : List Place) (cycles : List PartCycle)
+    ensures { (further : Further) (root : StorageRoot) (separators : List Place)
+        (cycles : List PartCycle)
         → IsAscending place_cmp separators
         → map (λ d. d.part) cycles ≡ parts_of separators
-        → AllByRecursion (IsWholeCycle root) cycles
+        → AllByRecursion (IsWholeCycle further root) cycles
         → flat_map (λ d. reports_of d.runs) cycles
-        ≡ text (audit None root (flat_map (λ d. unread_together root d.runs) cycles)) }
+        ≡ text (audit further root (flat_map (λ d. unread_together further root d.runs) cycles)) }
 {}
 
 /// What `run_part` says of a run (`told`) gives it a report: the text that it wrote, except for a
 /// beginning of the next item's lines if the output failed.
 pub fn each_run_has_a_report()
-    ensures { (root : StorageRoot) (s t : Store) (old new : Text) (part : Part) (c : Cursor)
+    ensures { (further : Further) (root : StorageRoot) (s t : Store) (old new : Text) (part : Part)
+        (c : Cursor)
         (limits : Limits) (ran : RunEnd)
-        → RunsFromWithin (known_call root s t old new) part c limits ran
-        → HasReport root old new part c limits ran }
+        → RunsFromWithin (known_call further root s t old new) part c limits ran
+        → HasReport further root old new part c limits ran }
 {}
 
 /// So has a run that goes on with the walk of the run before it, by what `run_on` says of it.
 #[tactic(auto, using(ocfl_scrub::proofs::KeptRuns::goes_on_reported))]
 pub fn each_run_that_goes_on_has_a_report()
-    ensures { (root : StorageRoot) (s t : Store) (old new : Text) (part : Part)
+    ensures { (further : Further) (root : StorageRoot) (s t : Store) (old new : Text) (part : Part)
         (met : Option Place) (c : Cursor) (limits : Limits) (ran : RunEnd)
-        → RunsOn (known_call root s t old new) part met c limits ran
-        → HasReport root old new part c limits ran }
+        → RunsOn (known_call further root s t old new) part met c limits ran
+        → HasReport further root old new part c limits ran }
 {}
 
 /// What a cursor has taken is not read again in its cycle: each content file that a run opens comes
 /// after it, whether the run ends, stops, or is lost with its report.
 pub fn what_was_taken_is_not_read_again()
-    ensures { (root : StorageRoot) (part : Part) (c : Cursor) (r : PartRun) → Ran root part c r
-        → (p : Place) → IsAmong (content_trail None root r.opened) p
+    ensures { (further : Further) (root : StorageRoot) (part : Part) (c : Cursor) (r : PartRun)
+        → Ran further root part c r
+        → (p : Place) → IsAmong (content_trail further root r.opened) p
         → is_taken (begun c).state p ≡ false }
 {}
 
@@ -132,19 +140,21 @@ pub fn a_run_of_a_part_looks_once()
 {}
 
 /// Each file that an audit, a run or a check opens is right in a directory that the call listed,
-/// content files too, and even if the call stopped. Each such directory is in the part or on the
-/// way down to where the call began; of a check it is on the way to its place.
+/// content files too, and even if the call stopped. Of a sidecar of an inventory of a version, which
+/// only the option opens, it is said that it is there or beside such an inventory. Each such
+/// directory is in the part or on the way down to where the call began; of a check it is on the way
+/// to its place.
 pub fn openings_lie_where_it_was_listed()
     ensures audit { (call : Call) (part : Part) (last : Option Place) (finding : Bool)
         (end : AuditStatus) → AuditEndsWithin call part last finding end
-        → OpensWithin part None call.before call.after }
+        → OpensWithin part None call }
     ensures run { (call : Call) (part : Part) (from last : Option Place) (limits : Limits)
         (spent files : ℕ) (finding : Bool) (end : RunStatus)
         → RunEndsWithin call part from last limits spent files finding end
-        → OpensWithin part from call.before call.after }
+        → OpensWithin part from call }
     ensures check { (call : Call) (p : Place) (item finding : Bool) (end : AuditStatus)
         → CheckEnds call p item finding end → (listed : List Place)
-        × (OpensNear call.before call.after listed
+        × (OpensNear call listed
         × ((d : Place) → IsAmong listed d → (q : Place) × (p ≡ d ++ q))) }
 {}
 
@@ -174,5 +184,5 @@ pub fn each_run_of_a_cycle_looks_once()
         × ((listed : List Place) × ((trail : List Opening)
         × ((k.after.listings ≡ k.before.listings ++ listed)
         × ((k.after.openings ≡ k.before.openings ++ trail)
-        × FailedAt None call.root k.before k.after listed trail q))))))) }
+        × FailedAt call.further call.root k.before k.after listed trail q))))))) }
 {}

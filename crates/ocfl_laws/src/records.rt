@@ -5,7 +5,7 @@ ghost use Rattle.std.specs.declared.alloc.Global.{Global};
 ghost use Rattle.ocfl_tree.specs.{Place.{Place, Text, place_cmp}, Name.{IsPlace}};
 ghost use Rattle.ocfl_tree.specs.{Ascending.{IsAscending}, StorageRoot.{StorageRoot}};
 ghost use Rattle.ocfl_tree.specs.{Store.{Store}, declared.store.Opening.{Opening}};
-ghost use Rattle.ocfl_report.specs.{Line.{Item, found}, Text.{place_text, text}};
+ghost use Rattle.ocfl_report.specs.{Line.{Item, found}, Text.{place_text, text}, declared.further.Further.{Further}};
 ghost use Rattle.ocfl_rules.specs.{Lines.{is_empty}, Audit.{audit, after, total_cost}};
 ghost use Rattle.ocfl_rules.specs.Due.{hashed_among, item_places};
 ghost use Rattle.ocfl_rules.specs.Trail.{content_trail, heads_of, inventories, unread_of};
@@ -49,16 +49,18 @@ ghost use Rattle.ocfl_laws.specs.Whole.{Runs, RunStops, RunEnds, RunsFrom, RunsC
 /// first directories on the way there, and read at most the inventory of the object that holds the
 /// place.
 pub fn a_check_looks_at_its_place_alone()
-    ensures lines { (root : StorageRoot) (s t : Store) (before written : List ℕ) (p : Place)
-        (item finding : Bool) → Checks (known_call root s t before written) p item finding
+    ensures lines { (further : Further) (root : StorageRoot) (s t : Store) (before written : List ℕ)
+        (p : Place)
+        (item finding : Bool) → Checks (known_call further root s t before written) p item finding
         → (trail : List Opening) × ((t.openings ≡ s.openings ++ trail)
-        × ((t.failures ≡ s.failures + length (unread_of None root trail))
-        × ((written ≡ before ++ text (item_at None root (unread_of None root trail) p))
-        × ((item ≡ not (is_empty (item_at None root (unread_of None root trail) p)))
-        × (finding ≡ found (item_at None root (unread_of None root trail) p)))))) }
+        × ((t.failures ≡ s.failures + length (unread_of further root trail))
+        × ((written ≡ before ++ text (item_at further root (unread_of further root trail) p))
+        × ((item ≡ not (is_empty (item_at further root (unread_of further root trail) p)))
+        × (finding ≡ found (item_at further root (unread_of further root trail) p)))))) }
     ensures opened { (call : Call) (p : Place) (item finding : Bool) → Checks call p item finding
         → (trail : List Opening) × ((call.after.openings ≡ call.before.openings ++ trail)
-        × ((content_trail None call.root trail ≡ hashed_among None call.root (p ∷ []))
+        × ((content_trail call.further call.root trail ≡ hashed_among call.further call.root
+        (p ∷ []))
         × (AllPairs (λ a b. a.place ≢ b.place) trail))) }
     ensures listed { (call : Call) (p : Place) (item finding : Bool) → Checks call p item finding
         → (listed : List Place) × ((rest : List Place)
@@ -72,17 +74,19 @@ pub fn a_check_looks_at_its_place_alone()
 /// A check that stopped wrote a proper beginning of its lines, and nothing unless the output
 /// failed. It opened, listed and read no more than one that ends.
 pub fn a_check_that_stops_wrote_a_beginning()
-    ensures lines { (root : StorageRoot) (s t : Store) (before written : List ℕ) (p : Place)
-        (why : ReportStop) → CheckStops (known_call root s t before written) p why
+    ensures lines { (further : Further) (root : StorageRoot) (s t : Store) (before written : List ℕ)
+        (p : Place)
+        (why : ReportStop) → CheckStops (known_call further root s t before written) p why
         → (trail : List Opening) × ((gone : ℕ) × ((t.openings ≡ s.openings ++ trail)
-        × ((written ≡ before ++ take gone (text (item_at None root (unread_of None root trail) p)))
+        × ((written ≡ before ++ take gone (text (item_at further root
+        (unread_of further root trail) p)))
         × ((why ≡ halt.Output
-        → gone < length (text (item_at None root (unread_of None root trail) p)))
+        → gone < length (text (item_at further root (unread_of further root trail) p)))
         × (why ≢ halt.Output → gone ≡ 0))))) }
     ensures opened { (call : Call) (p : Place) (why : ReportStop) → CheckStops call p why
         → (trail : List Opening) × ((begun : List Place) × ((rest : List Place)
         × ((call.after.openings ≡ call.before.openings ++ trail) × ((p ∷ [] ≡ begun ++ rest)
-        × ((content_trail None call.root trail ≡ hashed_among None call.root begun)
+        × ((content_trail call.further call.root trail ≡ hashed_among call.further call.root begun)
         × (AllPairs (λ a b. a.place ≢ b.place) trail)))))) }
     ensures listed { (call : Call) (p : Place) (why : ReportStop) → CheckStops call p why
         → (listed : List Place) × ((rest : List Place)
@@ -91,7 +95,7 @@ pub fn a_check_that_stops_wrote_a_beginning()
         → (trail : List Opening) × ((rest : List Place)
         × ((call.after.openings ≡ call.before.openings ++ trail) × ((call.after.failures
         ≡ call.before.failures
-        + (length (unread_of None call.root trail) + failures_at (stop_place why)))
+        + (length (unread_of call.further call.root trail) + failures_at (stop_place why)))
         × (holder call.root (Some p) ≡ heads_of call.root trail ++ rest)))) }
 {}
 
@@ -99,24 +103,26 @@ pub fn a_check_that_stops_wrote_a_beginning()
 /// It opened each hashed file once, in order, listed each directory into which an audit looks, and
 /// read each inventory.
 pub fn an_audit_reads_each_file_once()
-    ensures lines { (root : StorageRoot) (s t : Store) (before written : List ℕ)
+    ensures lines { (further : Further) (root : StorageRoot) (s t : Store) (before written : List ℕ)
         (last : Option Place) (finding : Bool)
-        → AuditsAll (known_call root s t before written) last finding → (trail : List Opening)
+        → AuditsAll (known_call further root s t before written) last finding
+        → (trail : List Opening)
         × ((t.openings ≡ s.openings ++ trail)
-        × ((t.failures ≡ s.failures + length (unread_of None root trail))
-        × ((written ≡ before ++ text (audit None root (unread_of None root trail)))
-        × (finding ≡ found (audit None root (unread_of None root trail)))))) }
+        × ((t.failures ≡ s.failures + length (unread_of further root trail))
+        × ((written ≡ before ++ text (audit further root (unread_of further root trail)))
+        × (finding ≡ found (audit further root (unread_of further root trail)))))) }
     ensures opened { (call : Call) (last : Option Place) (finding : Bool)
         → AuditsAll call last finding
         → (trail : List Opening) × ((call.after.openings ≡ call.before.openings ++ trail)
-        × ((content_trail None call.root trail
-        ≡ hashed_among None call.root (item_places None call.root))
+        × ((content_trail call.further call.root trail
+        ≡ hashed_among call.further call.root (item_places call.further call.root))
         × (heads_of call.root trail ≡ read_between call.root None None))) }
     ensures listed { (call : Call) (last : Option Place) (finding : Bool)
         → AuditsAll call last finding
         → call.after.listings ≡ call.before.listings ++ looked_between call.root None None }
     ensures last { (call : Call) (last : Option Place) (finding : Bool) (front : List Place)
-        (p : Place) → AuditsAll call last finding → item_places None call.root ≡ front ++ p ∷ []
+        (p : Place) → AuditsAll call last finding → item_places call.further call.root
+        ≡ front ++ p ∷ []
         → last ≡ Some p }
 {}
 
@@ -124,12 +130,13 @@ pub fn an_audit_reads_each_file_once()
 /// empty unless the output failed. It opened the hashed files of these, and listed and read first
 /// what an audit lists and reads.
 pub fn an_audit_that_stops_wrote_its_first_items()
-    ensures lines { (root : StorageRoot) (s t : Store) (before written : List ℕ)
+    ensures lines { (further : Further) (root : StorageRoot) (s t : Store) (before written : List ℕ)
         (last : Option Place) (finding : Bool) (why : ReportStop)
-        → AuditStops (known_call root s t before written) last finding why → (trail : List Opening)
+        → AuditStops (known_call further root s t before written) last finding why
+        → (trail : List Opening)
         × ((whole : List Item) × ((others : List Item)
         × ((gone : ℕ) × ((t.openings ≡ s.openings ++ trail)
-        × ((audit None root (unread_of None root trail)
+        × ((audit further root (unread_of further root trail)
         ≡ whole ++ others) × ((written ≡ before ++ (text whole ++ take gone (text (take 1 others))))
         × ((why ≡ halt.Output → gone < length (text (take 1 others))) × ((why ≢ halt.Output
         → gone ≡ 0) × (finding ≡ found whole))))))))) }
@@ -137,10 +144,10 @@ pub fn an_audit_that_stops_wrote_its_first_items()
         (why : ReportStop) → AuditStops call last finding why → (trail : List Opening)
         × ((whole : List Item) × ((others : List Item) × ((begun : List Place)
         × ((rest : List Place) × ((call.after.openings ≡ call.before.openings ++ trail)
-        × ((audit None call.root (unread_of None call.root trail) ≡ whole ++ others)
+        × ((audit call.further call.root (unread_of call.further call.root trail) ≡ whole ++ others)
         × ((map (λ i. i.place) (take 1 others) ≡ begun ++ rest)
-        × (content_trail None call.root trail
-        ≡ hashed_among None call.root (map (λ i. i.place) whole ++ begun))))))))) }
+        × (content_trail call.further call.root trail
+        ≡ hashed_among call.further call.root (map (λ i. i.place) whole ++ begun))))))))) }
     ensures listed { (call : Call) (last : Option Place) (finding : Bool)
         (why : ReportStop) → AuditStops call last finding why → (listed : List Place)
         × ((rest : List Place) × ((call.after.listings ≡ call.before.listings ++ listed)
@@ -149,7 +156,7 @@ pub fn an_audit_that_stops_wrote_its_first_items()
         → AuditStops call last finding why → (trail : List Opening) × ((rest : List Place)
         × ((call.after.openings ≡ call.before.openings ++ trail) × ((call.after.failures
         ≡ call.before.failures
-        + (length (unread_of None call.root trail) + failures_at (stop_place why)))
+        + (length (unread_of call.further call.root trail) + failures_at (stop_place why)))
         × (read_between call.root None None ≡ heads_of call.root trail ++ rest)))) }
 {}
 
@@ -157,25 +164,25 @@ pub fn an_audit_that_stops_wrote_its_first_items()
 /// place, and counted that. It opened each hashed file of the cut once, in order. It listed no
 /// directory twice and read no inventory twice, and nothing after the first item that it left.
 pub fn a_run_takes_the_cut_of_its_limits()
-    ensures lines { (root : StorageRoot) (s t : Store) (before written : List ℕ)
+    ensures lines { (further : Further) (root : StorageRoot) (s t : Store) (before written : List ℕ)
         (from last next : Option Place) (limits : Limits) (spent files : ℕ) (finding : Bool)
-        → Runs (known_call root s t before written) from last limits spent files finding next
+        → Runs (known_call further root s t before written) from last limits spent files finding next
         → (trail : List Opening) × ((t.openings ≡ s.openings ++ trail)
-        × ((t.failures ≡ s.failures + length (unread_of None root trail))
+        × ((t.failures ≡ s.failures + length (unread_of further root trail))
         × ((written ≡ before
-        ++ text (cut (after (audit None root (unread_of None root trail)) from) limits))
-        × ((spent ≡ total_cost (cut (after (audit None root
-        (unread_of None root trail)) from) limits))
-        × ((files ≡ total_files (cut (after (audit None root
-        (unread_of None root trail)) from) limits))
-        × (finding ≡ found (cut (after (audit None root
-        (unread_of None root trail)) from) limits))))))) }
+        ++ text (cut (after (audit further root (unread_of further root trail)) from) limits))
+        × ((spent ≡ total_cost (cut (after (audit further root
+        (unread_of further root trail)) from) limits))
+        × ((files ≡ total_files (cut (after (audit further root
+        (unread_of further root trail)) from) limits))
+        × (finding ≡ found (cut (after (audit further root
+        (unread_of further root trail)) from) limits))))))) }
     ensures opened { (call : Call) (from last next : Option Place) (limits : Limits)
         (spent files : ℕ) (finding : Bool) → Runs call from last limits spent files finding next
         → (trail : List Opening) × ((call.after.openings ≡ call.before.openings ++ trail)
-        × (content_trail None call.root trail
-        ≡ hashed_among None call.root (map (λ i. i.place) (cut (after
-        (audit None call.root (unread_of None call.root trail)) from) limits)))) }
+        × (content_trail call.further call.root trail
+        ≡ hashed_among call.further call.root (map (λ i. i.place) (cut (after
+        (audit call.further call.root (unread_of call.further call.root trail)) from) limits)))) }
     ensures listed { (call : Call) (from last next : Option Place) (limits : Limits)
         (spent files : ℕ) (finding : Bool) → Runs call from last limits spent files finding next
         → (down : List Place) × ((rest : List Place) × ((call.after.listings ≡ call.before.listings
@@ -190,17 +197,21 @@ pub fn a_run_takes_the_cut_of_its_limits()
     ensures next { (call : Call) (from last next : Option Place) (limits : Limits)
         (spent files : ℕ) (finding : Bool) → Runs call from last limits spent files finding next
         → (trail : List Opening) × ((call.after.openings ≡ call.before.openings ++ trail)
-        × ((left (after (audit None call.root (unread_of None call.root trail)) from) limits ≡ []
+        × ((left (after (audit call.further call.root
+        (unread_of call.further call.root trail)) from) limits ≡ []
         → next ≡ None) × ((i : Item) (items : List Item)
-        → left (after (audit None call.root (unread_of None call.root trail)) from) limits
+        → left (after (audit call.further call.root
+        (unread_of call.further call.root trail)) from) limits
         ≡ i ∷ items
         → next ≡ Some i.place))) }
     ensures last { (call : Call) (from last next : Option Place) (limits : Limits)
         (spent files : ℕ) (finding : Bool) → Runs call from last limits spent files finding next
         → (trail : List Opening) × ((call.after.openings ≡ call.before.openings ++ trail)
-        × ((cut (after (audit None call.root (unread_of None call.root trail)) from) limits ≡ []
+        × ((cut (after (audit call.further call.root
+        (unread_of call.further call.root trail)) from) limits ≡ []
         → last ≡ from) × ((front : List Item) (i : Item)
-        → cut (after (audit None call.root (unread_of None call.root trail)) from) limits
+        → cut (after (audit call.further call.root
+        (unread_of call.further call.root trail)) from) limits
         ≡ front ++ i ∷ []
         → last ≡ Some i.place))) }
 {}
@@ -209,13 +220,14 @@ pub fn a_run_takes_the_cut_of_its_limits()
 /// next a proper beginning, which is empty unless the output failed. It opened the hashed files of
 /// these. It listed no directory twice and read no inventory twice.
 pub fn a_run_that_stops_took_the_first_of_its_cut()
-    ensures lines { (root : StorageRoot) (s t : Store) (before written : List ℕ)
+    ensures lines { (further : Further) (root : StorageRoot) (s t : Store) (before written : List ℕ)
         (from last : Option Place) (limits : Limits) (spent files : ℕ) (finding : Bool)
         (why : ReportStop)
-        → RunStops (known_call root s t before written) from last limits spent files finding why
+        → RunStops (known_call further root s t before written) from last limits spent files finding why
         → (trail : List Opening) × ((whole : List Item)
         × ((others : List Item) × ((gone : ℕ) × ((t.openings ≡ s.openings ++ trail)
-        × ((cut (after (audit None root (unread_of None root trail)) from) limits ≡ whole ++ others)
+        × ((cut (after (audit further root (unread_of further root trail)) from) limits
+        ≡ whole ++ others)
         × ((written ≡ before ++ (text whole ++ take gone (text (take 1 others))))
         × ((why ≡ halt.Output → gone < length (text (take 1 others))) × ((why ≢ halt.Output
         → gone ≡ 0) × ((spent ≡ total_cost whole) × ((files ≡ total_files whole)
@@ -225,11 +237,12 @@ pub fn a_run_that_stops_took_the_first_of_its_cut()
         → RunStops call from last limits spent files finding why → (trail : List Opening)
         × ((whole : List Item) × ((others : List Item) × ((begun : List Place)
         × ((rest : List Place) × ((call.after.openings ≡ call.before.openings ++ trail)
-        × ((cut (after (audit None call.root (unread_of None call.root trail)) from) limits
+        × ((cut (after (audit call.further call.root
+        (unread_of call.further call.root trail)) from) limits
         ≡ whole ++ others)
         × ((map (λ i. i.place) (take 1 others) ≡ begun ++ rest)
-        × (content_trail None call.root trail
-        ≡ hashed_among None call.root (map (λ i. i.place) whole ++ begun))))))))) }
+        × (content_trail call.further call.root trail
+        ≡ hashed_among call.further call.root (map (λ i. i.place) whole ++ begun))))))))) }
     ensures listed { (call : Call) (from last : Option Place) (limits : Limits) (spent files : ℕ)
         (finding : Bool) (why : ReportStop) → RunStops call from last limits spent files finding why
         → (down : List Place) × ((below : List Place) × ((listed : List Place)
@@ -242,7 +255,7 @@ pub fn a_run_that_stops_took_the_first_of_its_cut()
         × ((below : List Place) × ((heads : List Place) × ((rest : List Place)
         × ((call.after.openings ≡ call.before.openings ++ trail) × ((call.after.failures
         ≡ call.before.failures
-        + (length (unread_of None call.root trail) + failures_at (stop_place why)))
+        + (length (unread_of call.further call.root trail) + failures_at (stop_place why)))
         × ((heads_of call.root trail ≡ held ++ heads) × ((holder call.root from ≡ held ++ below)
         × ((read_between call.root from None ≡ heads ++ rest)
         × (IsAscending place_cmp (held ++ heads))))))))))) }
@@ -250,7 +263,8 @@ pub fn a_run_that_stops_took_the_first_of_its_cut()
         (finding : Bool) (why : ReportStop) → RunStops call from last limits spent files finding why
         → (trail : List Opening) × ((whole : List Item)
         × ((others : List Item) × ((call.after.openings ≡ call.before.openings ++ trail)
-        × ((cut (after (audit None call.root (unread_of None call.root trail)) from) limits
+        × ((cut (after (audit call.further call.root
+        (unread_of call.further call.root trail)) from) limits
         ≡ whole ++ others)
         × ((spent ≡ total_cost whole) × ((whole ≡ [] → last ≡ from) × ((front : List Item)
         (i : Item) → whole ≡ front ++ i ∷ [] → last ≡ Some i.place))))))) }
@@ -269,62 +283,73 @@ pub fn a_cycle_does_what_its_runs_do()
 /// exactly if that is the whole audit, made one run for each cut, and read at most as many
 /// inventories as there are, and one more for each run after the first.
 pub fn a_cycle_takes_the_cuts_of_its_limits()
-    ensures lines { (root : StorageRoot) (s t : Store)
+    ensures lines { (further : Further) (root : StorageRoot) (s t : Store)
         (before written : List ℕ) (last : Option Place)
         (limits : List Limits) (spent files : ℕ) (finding : Bool) (count : ℕ) (whole : Bool)
-        → Cycles (known_call root s t before written) last limits spent files finding count whole
+        → Cycles (known_call further root s t before written) last limits spent files finding count whole
         → (trail : List Opening) × ((t.openings ≡ s.openings ++ trail)
-        × ((t.failures ≡ s.failures + length (unread_of None root trail))
+        × ((t.failures ≡ s.failures + length (unread_of further root trail))
         × ((written ≡ before
-        ++ text (joined (runs (audit None root (unread_of None root trail)) limits)))
-        × ((spent ≡ total_cost (joined (runs (audit None root (unread_of None root trail)) limits)))
-        × ((files ≡ total_files (joined (runs (audit None root
-        (unread_of None root trail)) limits)))
-        × (finding ≡ found (joined (runs (audit None root
-        (unread_of None root trail)) limits)))))))) }
+        ++ text (joined (runs (audit further root (unread_of further root trail)) limits)))
+        × ((spent ≡ total_cost (joined (runs (audit further root
+        (unread_of further root trail)) limits)))
+        × ((files ≡ total_files (joined (runs (audit further root
+        (unread_of further root trail)) limits)))
+        × (finding ≡ found (joined (runs (audit further root
+        (unread_of further root trail)) limits)))))))) }
     ensures opened { (call : Call) (last : Option Place) (limits : List Limits) (spent files : ℕ)
         (finding : Bool)
         (count : ℕ) (whole : Bool) → Cycles call last limits spent files finding count whole
         → (trail : List Opening) × ((call.after.openings ≡ call.before.openings ++ trail)
-        × ((content_trail None call.root trail
-        ≡ hashed_among None call.root (map (λ i. i.place) (joined (runs
-        (audit None call.root (unread_of None call.root trail)) limits)))) × (1 ≤ count
+        × ((content_trail call.further call.root trail
+        ≡ hashed_among call.further call.root (map (λ i. i.place) (joined (runs
+        (audit call.further call.root (unread_of call.further call.root trail)) limits)))) ×
+        (1 ≤ count
         → length (heads_of call.root trail) < length (inventories call.root) + count))) }
     ensures ended { (call : Call) (last : Option Place) (limits : List Limits) (spent files : ℕ)
         (finding : Bool)
         (count : ℕ) (whole : Bool) → Cycles call last limits spent files finding count whole
         → (trail : List Opening) × ((call.after.openings ≡ call.before.openings ++ trail)
-        × ((count ≡ length (runs (audit None call.root (unread_of None call.root trail)) limits))
+        × ((count ≡ length (runs (audit call.further call.root
+        (unread_of call.further call.root trail)) limits))
         × ((whole ≡ true
-        → joined (runs (audit None call.root (unread_of None call.root trail)) limits)
-        ≡ audit None call.root (unread_of None call.root trail))
-        × (joined (runs (audit None call.root (unread_of None call.root trail)) limits)
-        ≡ audit None call.root (unread_of None call.root trail) → whole ≡ true)))) }
+        → joined (runs (audit call.further call.root
+        (unread_of call.further call.root trail)) limits)
+        ≡ audit call.further call.root (unread_of call.further call.root trail))
+        × (joined (runs (audit call.further call.root
+        (unread_of call.further call.root trail)) limits)
+        ≡ audit call.further call.root (unread_of call.further call.root trail) → whole ≡ true)))) }
     ensures few { (call : Call) (last : Option Place) (limits : List Limits)
         (spent files : ℕ) (finding : Bool) (count : ℕ) (whole : Bool)
         (b n : ℕ) → Cycles call last limits spent files finding count whole → 1 ≤ b → 1 ≤ n
         → All (IsAtLeast b n) limits → (trail : List Opening)
         × ((call.after.openings ≡ call.before.openings ++ trail)
-        × ((count ≤ total_cost (audit None call.root (unread_of None call.root trail)) / b
-        + total_files (audit None call.root (unread_of None call.root trail)) / n + 1)
-        × (total_cost (audit None call.root (unread_of None call.root trail)) / b + total_files
-        (audit None call.root (unread_of None call.root trail)) / n + 1 ≤ length limits
+        × ((count ≤ total_cost (audit call.further call.root
+        (unread_of call.further call.root trail)) / b
+        + total_files (audit call.further call.root
+        (unread_of call.further call.root trail)) / n + 1)
+        × (total_cost (audit call.further call.root
+        (unread_of call.further call.root trail)) / b + total_files
+        (audit call.further call.root
+        (unread_of call.further call.root trail)) / n + 1 ≤ length limits
         → whole ≡ true))) }
     ensures by_sum { (call : Call) (last : Option Place) (limits : List Limits)
         (spent files : ℕ) (finding : Bool) (count : ℕ) (whole : Bool) (k : ℕ)
         → Cycles call last limits spent files finding count whole → 1 ≤ k → k ≤ length limits
         → (trail : List Opening) × ((call.after.openings ≡ call.before.openings ++ trail)
-        × (FilesFit (audit None call.root (unread_of None call.root trail)) limits
-        → total_cost (audit None call.root (unread_of None call.root trail))
+        × (FilesFit (audit call.further call.root (unread_of call.further call.root trail)) limits
+        → total_cost (audit call.further call.root (unread_of call.further call.root trail))
         ≤ sum_of (take k (map (λ l. l.budget) limits)) → (whole ≡ true) × (count ≤ k))) }
     ensures last { (call : Call) (last : Option Place) (limits : List Limits)
         (spent files : ℕ) (finding : Bool) (count : ℕ) (whole : Bool)
         → Cycles call last limits spent files finding count whole
         → (trail : List Opening) × ((call.after.openings ≡ call.before.openings ++ trail)
-        × ((joined (runs (audit None call.root (unread_of None call.root trail)) limits) ≡ []
+        × ((joined (runs (audit call.further call.root
+        (unread_of call.further call.root trail)) limits) ≡ []
         → last ≡ None)
         × ((front : List Item) (i : Item)
-        → joined (runs (audit None call.root (unread_of None call.root trail)) limits)
+        → joined (runs (audit call.further call.root
+        (unread_of call.further call.root trail)) limits)
         ≡ front ++ i ∷ []
         → last ≡ Some i.place))) }
 {}
@@ -333,13 +358,13 @@ pub fn a_cycle_takes_the_cuts_of_its_limits()
 /// items that these take whole, those of the runs before the last among them, and of the next a
 /// proper beginning, which is empty unless the output failed.
 pub fn a_cycle_that_stops_took_the_first_of_its_cuts()
-    ensures lines { (root : StorageRoot) (s t : Store)
+    ensures lines { (further : Further) (root : StorageRoot) (s t : Store)
         (before written : List ℕ) (last : Option Place)
         (limits : List Limits) (spent files : ℕ) (finding : Bool) (count : ℕ) (why : ReportStop)
-        → CycleStops (known_call root s t before written) last limits spent files finding count why
+        → CycleStops (known_call further root s t before written) last limits spent files finding count why
         → (trail : List Opening) × ((whole : List Item)
         × ((others : List Item) × ((gone : ℕ) × ((t.openings ≡ s.openings ++ trail)
-        × ((joined (take count (runs (audit None root (unread_of None root trail)) limits))
+        × ((joined (take count (runs (audit further root (unread_of further root trail)) limits))
         ≡ whole ++ others)
         × ((written ≡ before ++ (text whole ++ take gone (text (take 1 others))))
         × ((why ≡ halt.Output → gone < length (text (take 1 others))) × ((why ≢ halt.Output
@@ -350,9 +375,10 @@ pub fn a_cycle_that_stops_took_the_first_of_its_cuts()
         → CycleStops call last limits spent files finding count why → (trail : List Opening)
         × ((whole : List Item) × ((rest : List Item)
         × ((call.after.openings ≡ call.before.openings ++ trail) × ((1 ≤ count)
-        × ((count ≤ length (runs (audit None call.root (unread_of None call.root trail)) limits))
+        × ((count ≤ length (runs (audit call.further call.root
+        (unread_of call.further call.root trail)) limits))
         × ((spent ≡ total_cost whole) × ((whole ≡ joined (take (count - 1) (runs
-        (audit None call.root (unread_of None call.root trail)) limits)) ++ rest)
+        (audit call.further call.root (unread_of call.further call.root trail)) limits)) ++ rest)
         × (length (heads_of call.root trail) < length (inventories call.root) + count)))))))) }
     ensures opened { (call : Call) (last : Option Place) (limits : List Limits) (spent files : ℕ)
         (finding : Bool) (count : ℕ) (why : ReportStop)
@@ -361,12 +387,14 @@ pub fn a_cycle_that_stops_took_the_first_of_its_cuts()
         × ((others : List Item) × ((begun : List Place) × ((rest : List Place)
         × ((call.after.openings ≡ call.before.openings ++ trail) × ((call.after.failures
         ≡ call.before.failures
-        + (length (unread_of None call.root trail) + failures_at (stop_place why))) × ((joined
-        (take count (runs (audit None call.root (unread_of None call.root trail)) limits))
+        + (length (unread_of call.further call.root trail) + failures_at (stop_place why))) ×
+        ((joined
+        (take count (runs (audit call.further call.root
+        (unread_of call.further call.root trail)) limits))
         ≡ whole ++ others)
         × ((map (λ i. i.place) (take 1 others) ≡ begun ++ rest)
-        × (content_trail None call.root trail
-        ≡ hashed_among None call.root (map (λ i. i.place) whole ++ begun)))))))))) }
+        × (content_trail call.further call.root trail
+        ≡ hashed_among call.further call.root (map (λ i. i.place) whole ++ begun)))))))))) }
     ensures last { (call : Call) (last : Option Place) (limits : List Limits)
         (spent files : ℕ) (finding : Bool) (count : ℕ) (why : ReportStop)
         → CycleStops call last limits spent files finding count why → (trail : List Opening)
@@ -412,8 +440,8 @@ pub fn each_end_says_what_was_done()
 {}
 
 /// A run goes on above its cursor's place, or begins at the first item, and at the next cycle if
-/// the cursor had ended. It counts itself, adds what it spent and started, and leaves the cursor
-/// after the last item that it took, or ended.
+/// the cursor had ended. It counts itself, adds what it spent and started, keeps what the cursor
+/// checks, and leaves it after the last item that it took, or ended.
 pub fn a_run_leaves_its_cursor_after_what_it_took()
     ensures begins { (call : Call) (c : Cursor) (limits : Limits) (ran : RunEnd) → c.state ≡ start
         → RunsFrom call c limits ran → (last : Option Place)
@@ -435,6 +463,8 @@ pub fn a_run_leaves_its_cursor_after_what_it_took()
     ensures next { (call : Call) (c : Cursor) (limits : Limits) (ran : RunEnd) → c.state ≡ ended
         → RunsFrom call c limits ran → (ran.cursor.cycle ≡ c.cycle + 1) × ((ran.cursor.runs ≡ 1)
         × ((ran.cursor.spent ≡ ran.spent) × (ran.cursor.files ≡ ran.files))) }
+    ensures audit { (call : Call) (c : Cursor) (limits : Limits) (ran : RunEnd)
+        → RunsFrom call c limits ran → ran.cursor.further ≡ c.further }
     ensures ended { (call : Call) (c : Cursor) (limits : Limits) (ran : RunEnd)
         → RunsFrom call c limits ran → ran.end ≡ run.Ended → ran.cursor.state ≡ ended }
     ensures spent { (call : Call) (c : Cursor) (limits : Limits) (ran : RunEnd)
@@ -449,12 +479,14 @@ pub fn a_run_leaves_its_cursor_after_what_it_took()
         → ran.cursor.state ≡ behind p))) }
 {}
 
-/// A cycle's cursor is of the first cycle and counts its runs. It is ended, or after the last item
-/// that these took.
+/// A cycle's cursor is of the first cycle and counts its runs, and is of the audit that the cycle
+/// was. It is ended, or after the last item that these took.
 pub fn a_cycle_leaves_its_cursor_after_what_it_took()
     ensures cycle { (call : Call) (limits : List Limits) (c : Cursor) (finding : Bool)
         (how : CycleStatus) → CyclesTo call limits c finding how → (c.cycle ≡ 1)
         × ((last : Option Place) × CycleEnds call last limits c.spent c.files finding c.runs how) }
+    ensures audit { (call : Call) (limits : List Limits) (c : Cursor) (finding : Bool)
+        (how : CycleStatus) → CyclesTo call limits c finding how → c.further ≡ call.further }
     ensures ended { (call : Call) (limits : List Limits) (c : Cursor) (finding : Bool)
         → CyclesTo call limits c finding cycle.Ended → c.state ≡ ended }
     ensures spent { (call : Call) (limits : List Limits) (c : Cursor) (finding : Bool)
@@ -472,62 +504,73 @@ pub fn a_cycle_leaves_its_cursor_after_what_it_took()
 /// that. It ended the cycle exactly if it left nothing. A cycle without failures made one run for
 /// each cut.
 pub fn a_run_without_failures_takes_the_audits_items()
-    ensures ended { (root : StorageRoot) (s t : Store)
+    ensures ended { (further : Further) (root : StorageRoot) (s t : Store)
         (before written : List ℕ) (c : Cursor) (limits : Limits) (spent files : ℕ) (finding : Bool)
-        → RunsCleanly (known_call root s t before written) c limits spent files finding run.Ended
-        → (left (after (audit None root []) (place_in c.state)) limits ≡ [])
-        × ((written ≡ before ++ text (cut (after (audit None root []) (place_in c.state)) limits))
-        × ((spent ≡ total_cost (cut (after (audit None root []) (place_in c.state)) limits))
-        × ((files ≡ total_files (cut (after (audit None root []) (place_in c.state)) limits))
-        × (finding ≡ found (cut (after (audit None root []) (place_in c.state)) limits))))) }
-    ensures spent { (root : StorageRoot) (s t : Store)
+        → RunsCleanly (known_call further root s t before written) c limits spent files finding run.Ended
+        → (left (after (audit further root []) (place_in c.state)) limits ≡ [])
+        × ((written ≡ before ++ text (cut (after (audit further root [])
+        (place_in c.state)) limits))
+        × ((spent ≡ total_cost (cut (after (audit further root []) (place_in c.state)) limits))
+        × ((files ≡ total_files (cut (after (audit further root []) (place_in c.state)) limits))
+        × (finding ≡ found (cut (after (audit further root []) (place_in c.state)) limits))))) }
+    ensures spent { (further : Further) (root : StorageRoot) (s t : Store)
         (before written : List ℕ) (c : Cursor) (limits : Limits) (spent files : ℕ) (finding : Bool)
-        → RunsCleanly (known_call root s t before written) c limits spent files finding run.Spent
-        → (left (after (audit None root []) (place_in c.state)) limits ≢ [])
-        × ((written ≡ before ++ text (cut (after (audit None root []) (place_in c.state)) limits))
-        × ((spent ≡ total_cost (cut (after (audit None root []) (place_in c.state)) limits))
-        × ((files ≡ total_files (cut (after (audit None root []) (place_in c.state)) limits))
-        × (finding ≡ found (cut (after (audit None root []) (place_in c.state)) limits))))) }
+        → RunsCleanly (known_call further root s t before written) c limits spent files finding run.Spent
+        → (left (after (audit further root []) (place_in c.state)) limits ≢ [])
+        × ((written ≡ before ++ text (cut (after (audit further root [])
+        (place_in c.state)) limits))
+        × ((spent ≡ total_cost (cut (after (audit further root []) (place_in c.state)) limits))
+        × ((files ≡ total_files (cut (after (audit further root []) (place_in c.state)) limits))
+        × (finding ≡ found (cut (after (audit further root []) (place_in c.state)) limits))))) }
     ensures counted { (call : Call)
         (limits : List Limits) (count : ℕ) → HeadlineOf call limits count cycle.Spent
-        → count ≡ length (runs (audit None call.root []) limits) }
+        → count ≡ length (runs (audit call.further call.root []) limits) }
     ensures counted_whole { (call : Call) (limits : List Limits) (count : ℕ)
         → HeadlineOf call limits count cycle.Ended
-        → count ≡ length (runs (audit None call.root []) limits) }
+        → count ≡ length (runs (audit call.further call.root []) limits) }
 {}
 
 /// Over a store that tells its tree a command audits, checks, runs or makes a cycle as these say,
 /// and ends with the status and the text of what they answered. Or it did nothing, since memory ran
 /// out first, no cursor was read, or the cursor is worn.
 pub fn a_command_does_what_it_is_asked_for()
-    ensures audit { (call : Call) (known : Option (Option (List ℕ))) (status : ℕ) (n : Note)
-        (stored : Option (Vec ℕ Global)) → Performs call known deed.Audit status n stored
+    ensures audit { (call : Call) (known : Option (Option (List ℕ)))
+        (status : ℕ) (n : Note)
+        (stored : Option (Vec ℕ Global)) → Performs call known
+        (deed.Audit call.further) status n stored
         → (ran : AuditEnd) × (AuditEnds call ran.last ran.found ran.end
         × IsAuditNote ran.found ran.end status n) }
-    ensures clean_audit { (known : Option (Option (List ℕ))) (root : StorageRoot) (s t : Store)
+    ensures clean_audit { (known : Option (Option (List ℕ))) (further : Further)
+        (root : StorageRoot) (s t : Store)
         (before written : List ℕ) (status : ℕ) (n : Note) (stored : Option (Vec ℕ Global))
-        → Performs (known_call root s t before written) known deed.Audit status n stored
+        → Performs (known_call further root s t before written) known
+        (deed.Audit further) status n stored
         → n ≡ note.Nothing → t.failures ≡ s.failures
-        → (written ≡ before ++ text (audit None root []))
-        × (status ≡ status_of (found (audit None root []))) }
-    ensures check { (call : Call) (known : Option (Option (List ℕ))) (path : String Global)
+        → (written ≡ before ++ text (audit further root []))
+        × (status ≡ status_of (found (audit further root []))) }
+    ensures check { (call : Call) (known : Option (Option (List ℕ)))
+        (path : String Global)
         (p : Place) (status : ℕ) (n : Note) (stored : Option (Vec ℕ Global)) → IsPlace p
-        → string_bytes path ≡ place_text p → Performs call known (deed.Check path) status n stored
+        → string_bytes path ≡ place_text p → Performs call known
+        (deed.Check call.further path) status n stored
         → ((ran : CheckEnd) × (CheckEnds call p ran.item ran.found ran.end
         × IsCheckNote ran.item ran.found ran.end status n)) ⊎ ((status ≡ 3)
         × ((n ≡ note.OutOfMemory) × ((call.after ≡ call.before) × (call.new ≡ call.old)))) }
-    ensures cycle { (call : Call) (known : Option (Option (List ℕ))) (limits : MadeLimits)
+    ensures cycle { (call : Call) (known : Option (Option (List ℕ)))
+        (limits : MadeLimits)
         (count : ℕ) (status : ℕ) (n : Note) (stored : Option (Vec ℕ Global))
-        → Performs call known (deed.Cycle limits count) status n stored → ((ran : CycleEnd)
+        → Performs call known (deed.Cycle call.further limits count) status n stored
+        → ((ran : CycleEnd)
         × (CycleOfRunsWithin call whole (map limits_of (replicate count limits)) ran
         × ((ran.runs ≡ ran.cursor.runs) × ((ran.spent ≡ ran.cursor.spent)
         × (IsCycleNote ran.runs ran.spent ran.found ran.end status n × (IsUnfailing call
         → HeadlineOf call (map limits_of (replicate count limits)) ran.runs ran.end)))))) ⊎ ((status
         ≡ 3) × ((n ≡ note.OutOfMemory) × ((call.after ≡ call.before) × (call.new ≡ call.old)))) }
-    ensures run { (call : Call) (known : Option (Option (List ℕ))) (limits : MadeLimits)
+    ensures run { (call : Call) (known : Option (Option (List ℕ)))
+        (limits : MadeLimits)
         (status : ℕ) (n : Note) (stored : Vec ℕ Global)
-        → Performs call known (deed.Run limits) status n (Some stored) → (c : Cursor)
-        × ((ran : RunEnd) × (BeginsWith known c
+        → Performs call known (deed.Run call.further limits) status n (Some stored) → (c : Cursor)
+        × ((ran : RunEnd) × (BeginsWith call.further known c
         × (RunsFrom call c (limits_of limits) ran × ((IsUnfailing call
         → RunsCleanly call c (limits_of limits) ran.spent ran.files ran.found ran.end)
         × ((stored.items ≡ cursor_text ran.cursor)
@@ -572,24 +615,32 @@ pub fn a_run_keeps_its_limits()
         → ran.end ≢ run.Stopped halt.Output → WritesLines old new ran.found }
 {}
 
-/// A cycle's cursor is of the first cycle, and has its figures. It makes at most a run for each of
-/// its limits, and at least one if there are any.
+/// A cycle's cursor is of the first cycle and of its audit, and has its figures. It makes at most a
+/// run for each of its limits, and at least one if there are any.
 pub fn a_cycle_is_counted_by_its_cursor()
-    ensures none { (s t : Store) (old new : Option (List ℕ)) (ran : CycleEnd)
-        → CyclesOnAnyStore (λ o. o) s t old new [] ran → (ran.cursor ≡ new_cursor)
+    ensures none { (further : Further) (s t : Store) (old new : Option (List ℕ)) (ran : CycleEnd)
+        → CyclesOnAnyStore further (λ o. o) s t old new [] ran → (ran.cursor ≡ new_cursor further)
         × ((ran.end ≡ cycle.Spent) × ((ran.found ≡ false) × ((t ≡ s) × (new ≡ old)))) }
-    ensures counted { (s t : Store) (old new : Option (List ℕ)) (limits : List MadeLimits)
-        (ran : CycleEnd) → CyclesOnAnyStore (λ o. o) s t old new limits ran
+    ensures counted { (further : Further) (s t : Store) (old new : Option (List ℕ))
+        (limits : List MadeLimits)
+        (ran : CycleEnd) → CyclesOnAnyStore further (λ o. o) s t old new limits ran
         → (ran.runs ≤ length limits) × (1 ≤ length limits → 1 ≤ ran.runs) }
-    ensures cursor { (s t : Store) (old new : Option (List ℕ)) (limits : List MadeLimits)
-        (ran : CycleEnd) → CyclesOnAnyStore (λ o. o) s t old new limits ran
+    ensures cursor { (further : Further) (s t : Store) (old new : Option (List ℕ))
+        (limits : List MadeLimits)
+        (ran : CycleEnd) → CyclesOnAnyStore further (λ o. o) s t old new limits ran
         → (ran.cursor.cycle ≡ 1) × ((ran.cursor.runs ≡ ran.runs)
         × ((ran.cursor.spent ≡ ran.spent) × (ran.cursor.files ≡ ran.files))) }
-    ensures end { (s t : Store) (old new : Option (List ℕ)) (limits : List MadeLimits)
-        (ran : CycleEnd) → CyclesOnAnyStore (λ o. o) s t old new limits ran
+    ensures audit { (further : Further) (s t : Store) (old new : Option (List ℕ))
+        (limits : List MadeLimits) (ran : CycleEnd)
+        → CyclesOnAnyStore further (λ o. o) s t old new limits ran
+        → ran.cursor.further ≡ further }
+    ensures end { (further : Further) (s t : Store) (old new : Option (List ℕ))
+        (limits : List MadeLimits)
+        (ran : CycleEnd) → CyclesOnAnyStore further (λ o. o) s t old new limits ran
         → (ran.end ≡ cycle.Ended) ↔ (ran.cursor.state ≡ ended) }
-    ensures lines { (s t : Store) (old new : Option (List ℕ)) (limits : List MadeLimits)
-        (ran : CycleEnd) → CyclesOnAnyStore (λ o. o) s t old new limits ran
+    ensures lines { (further : Further) (s t : Store) (old new : Option (List ℕ))
+        (limits : List MadeLimits)
+        (ran : CycleEnd) → CyclesOnAnyStore further (λ o. o) s t old new limits ran
         → ran.end ≢ cycle.Stopped halt.Output → WritesLines old new ran.found }
 {}
 
@@ -644,10 +695,12 @@ pub fn only_a_failed_output_cuts_a_line()
     ensures memory { (s t : Store) (old new : Option (List ℕ)) (known : Option (Option Text))
         (d : Deed) (said : Performed) → AnswersOnAnyStore (λ o. o) s t old new known d said
         → said.note ≡ note.OutOfMemory
-        → ((limits : MadeLimits) → d ≢ deed.Run limits) ⊎ IsSome said.cursor
+        → ((further : Further) (limits : MadeLimits) → d ≢ deed.Run further limits)
+        ⊎ IsSome said.cursor
         → WritesWhole old new }
-    ensures check { (s t : Store) (old new : Option (List ℕ)) (known : Option (Option Text))
+    ensures check { (further : Further) (s t : Store) (old new : Option (List ℕ)) (known : Option
+        (Option Text))
         (path : String Global) (said : Performed)
-        → AnswersOnAnyStore (λ o. o) s t old new known (deed.Check path) said
+        → AnswersOnAnyStore (λ o. o) s t old new known (deed.Check further path) said
         → said.note ≢ note.Nothing → said.note ≢ note.OutputFailed → new ≡ old }
 {}

@@ -2,6 +2,7 @@
 ghost use Rattle.std.specs.Prelude.{◌≡◌, ◌≢◌, ◌⊎◌, ◌≤◌, ◌++◌, ℕ, List, [], Option, Some, Vec, length};
 ghost use Rattle.std.specs.declared.alloc.Global.{Global};
 ghost use Rattle.ocfl_tree.specs.{Place.{Place}, declared.store.Opening.{Opening}};
+ghost use Rattle.ocfl_report.specs.declared.further.Further.{Further};
 ghost use Rattle.ocfl_rules.specs.Parts.{branch};
 ghost use Rattle.ocfl_cursor.specs.{Cursor.{Cursor}, Part.{IsPartText}, Refusal.{IsTextOf}};
 ghost use Rattle.ocfl_cursor.specs.{Stop.{max_part_text}, declared.ends.PartEnds.{PartEnds}};
@@ -22,7 +23,7 @@ ghost use Rattle.ocfl_scrub.specs.declared.note.Note.TheVariants as note;
 pub fn the_whole_is_no_other_scope()
     ensures said { (d : Deed) (n : Note) → IsSaidIn d scope.Whole n → IsSaid d n }
     ensures refused { (d : Deed) (known : Option (Option (List ℕ))) (n : Note)
-        → RefusesRightlyIn d scope.Whole known n → RefusesRightly known n }
+        → RefusesRightlyIn d scope.Whole known n → RefusesRightly d known n }
     ensures handed_back { (d : Deed) (known : Option (Option (List ℕ))) (status : ℕ) (n : Note)
         (stored : Option (Vec ℕ Global)) → HandsBackIn d scope.Whole known status n stored
         → HandsBack known d status n stored }
@@ -37,25 +38,28 @@ pub fn an_empty_branch_has_no_item()
     ensures empty { (call : Call) (p : Place) (status : ℕ)
         → BranchAudited call p status note.EmptyBranch → (trail : List Opening)
         × ((call.after.openings ≡ call.before.openings ++ trail)
-        × (items_in call.root trail (branch p) None ≡ [])) }
+        × (items_in call.further call.root trail (branch p) None ≡ [])) }
     ensures some { (call : Call) (p : Place) (status : ℕ) → BranchAudited call p status note.Nothing
         → (trail : List Opening) × ((call.after.openings ≡ call.before.openings ++ trail)
-        × (items_in call.root trail (branch p) None ≢ [])) }
+        × (items_in call.further call.root trail (branch p) None ≢ [])) }
 {}
 
 /// A run of a part refuses its own cursor, of at most 67,108,864 bytes, only for want of memory. It
 /// refuses the cursor of another part as such, and that of the whole root as no cursor.
 pub fn a_part_takes_its_own_cursor_alone()
-    ensures own { (e : PartEnds) (bytes : List ℕ) (c : Cursor) (why : PartRefused)
+    ensures own { (further : Further) (e : PartEnds) (bytes : List ℕ) (c : Cursor)
+        (why : PartRefused)
         → IsPartText e bytes c → length bytes ≤ max_part_text
-        → PartRefusesRightly e (Some (Some bytes)) (note.PartCursorRefused why)
+        → PartRefusesRightly further e (Some (Some bytes)) (note.PartCursorRefused why)
         → why ≡ part.Text refused.Memory }
-    ensures of_a_part { (e f : PartEnds) (bytes : List ℕ) (c : Cursor) (why : PartRefused)
+    ensures of_a_part { (further : Further) (e f : PartEnds) (bytes : List ℕ) (c : Cursor)
+        (why : PartRefused)
         → IsPartText f bytes c → length bytes ≤ max_part_text
-        → PartRefusesRightly e (Some (Some bytes)) (note.PartCursorRefused why)
+        → PartRefusesRightly further e (Some (Some bytes)) (note.PartCursorRefused why)
         → (why ≡ part.OtherPart) ⊎ (why ≡ part.Text refused.Memory) }
-    ensures whole { (e : PartEnds) (bytes : List ℕ) (c : Cursor) (why : PartRefused)
+    ensures whole { (further : Further) (e : PartEnds) (bytes : List ℕ) (c : Cursor)
+        (why : PartRefused)
         → IsTextOf bytes c
-        → PartRefusesRightly e (Some (Some bytes)) (note.PartCursorRefused why)
+        → PartRefusesRightly further e (Some (Some bytes)) (note.PartCursorRefused why)
         → (why ≡ part.Text (refused.NotA kind.Cursor)) ⊎ (why ≡ part.Text refused.Memory) }
 {}

@@ -30,6 +30,7 @@ use Rattle.ocfl_rules.proofs.BelowLaws.{ascends_append}
 use Rattle.ocfl_scrub.proofs.Lists.{ascends_left}
 use Rattle.ocfl_night.proofs.{Beginnings.{cycle_next}, Foreigners.{at_once}, Moments.{OnlyNow, joined_moments, leaves, leaves_weaker, left_after, unmoved}}
 use Rattle.ocfl_night.proofs.{Reading.{content_first_alone, content_none, reached_next, taken_below}, Runs.{stops_open}, Sound.{closing_of}}
+use Rattle.ocfl_report.specs.declared.further.Further.{Further}
 
 -- ---- checkpoints that go on from one another
 
@@ -109,11 +110,11 @@ module _ {F : Type 0} {may_leave : F → Outcomes} {moment : F → ℕ} {left_si
 -- ---- what a run opened
 
 -- and then the root was looked at
-pub opened_then : {s t u : Store} {to : State} {end : SliceEnd} (root : StorageRoot) → Counts s t → Counts t u → content_since root t u ≡ [] → TookOrBegan to end (content_since root s t) → TookOrBegan to end (content_since root s u)
-opened_then {to = to} {end} root p q none h = subst (TookOrBegan to end) (sym (content_first_alone root p q none)) h
+pub opened_then : {s t u : Store} {to : State} {end : SliceEnd} (further : Further) (root : StorageRoot) → Counts s t → Counts t u → content_since further root t u ≡ [] → TookOrBegan to end (content_since further root s t) → TookOrBegan to end (content_since further root s u)
+opened_then {to = to} {end} further root p q none h = subst (TookOrBegan to end) (sym (content_first_alone further root p q none)) h
 
-pub up_then : {s t u : Store} (root : StorageRoot) → Counts s t → Counts t u → content_since root t u ≡ [] → IsAscending place_cmp (content_since root s t) → IsAscending place_cmp (content_since root s u)
-up_then root p q none h = subst (IsAscending place_cmp) (sym (content_first_alone root p q none)) h
+pub up_then : {s t u : Store} (further : Further) (root : StorageRoot) → Counts s t → Counts t u → content_since further root t u ≡ [] → IsAscending place_cmp (content_since further root s t) → IsAscending place_cmp (content_since further root s u)
+up_then further root p q none h = subst (IsAscending place_cmp) (sym (content_first_alone further root p q none)) h
 
 pub up_none : {ps : List Place} → ps ≡ [] → IsAscending place_cmp ps
 up_none is = subst (IsAscending place_cmp) (sym is) tt
@@ -210,7 +211,7 @@ module _ {F : Type 0} {root : StorageRoot} {part : Part} {S : state.Ghosts F} {c
     met = met;
     walk = so.walk;
     asked = inl refl;
-    once = subst (IsAscending place_cmp) (sym (ap (λ (ps : List Place). took_by so.legs ++ ps) (content_none root u) ∙ append-nil (took_by so.legs))) so.up;
+    once = subst (IsAscending place_cmp) (sym (ap (λ (ps : List Place). took_by so.legs ++ ps) (content_none k.cursor.further root u) ∙ append-nil (took_by so.legs))) so.up;
     crash = unmoved only_now (ready_there (HasDone cycle (took_by so.legs)) done_now ready);
     events = so.events ++ more.more;
     are_new = more.are ∙ ap (λ (l : List Event). l ++ more.more) so.are_new ∙ append_assoc old so.events more.more;
@@ -219,9 +220,9 @@ module _ {F : Type 0} {root : StorageRoot} {part : Part} {S : state.Ghosts F} {c
     one = omega arith;
   }
 
-  module _ (v : Store) (g : F) (beyond : AreBeyond (reached k) (content_since root u v)) (once : IsAscending place_cmp (content_since root u v)) (crash : LeavesOnly S.moment S.left_since f g (λ c. IfThere c (GoesOn k))) (there : IsAt k (S.seen f)) where
-    all_once : IsAscending place_cmp (took_by so.legs ++ content_since root u v)
-    all_once = ascends_append place_cmp (took_by so.legs) (content_since root u v) so.up once (λ p q i j. taken_below (reached k) p q (so.taken.each p i) (beyond.each q j))
+  module _ (v : Store) (g : F) (beyond : AreBeyond (reached k) (content_since k.cursor.further root u v)) (once : IsAscending place_cmp (content_since k.cursor.further root u v)) (crash : LeavesOnly S.moment S.left_since f g (λ c. IfThere c (GoesOn k))) (there : IsAt k (S.seen f)) where
+    all_once : IsAscending place_cmp (took_by so.legs ++ content_since k.cursor.further root u v)
+    all_once = ascends_append place_cmp (took_by so.legs) (content_since k.cursor.further root u v) so.up once (λ p q i j. taken_below (reached k) p q (so.taken.each p i) (beyond.each q j))
 
     still_done : LeavesOnly S.moment S.left_since f g (λ c. IfThere c (HasDone cycle (took_by so.legs)))
     still_done = leaves_weaker (λ c there l at. done_more cycle (took_by so.legs) k l done_now (there l at)) crash
@@ -276,7 +277,7 @@ module _ {F : Type 0} {root : StorageRoot} {part : Part} {S : state.Ghosts F} {c
       }
 
       -- one after which the night goes on
-      pub little_more : {m : Checkpoint} {next : Option Place} → TookOrBegan (reached run.made.checkpoint) run.made.end (content_since root u v) → StaysTaken (reached k) (reached run.made.checkpoint) → reached run.made.checkpoint ≡ reached m
+      pub little_more : {m : Checkpoint} {next : Option Place} → TookOrBegan (reached run.made.checkpoint) run.made.end (content_since k.cursor.further root u v) → StaysTaken (reached k) (reached run.made.checkpoint) → reached run.made.checkpoint ≡ reached m
           → ((why : Pause) → place_or_pause run.made.end ≢ Err (Some why)) → IsAt m (S.seen g) → m.cursor ≡ run.made.checkpoint.cursor → IsMetBy run.made.end next → SoLittle root part S cycle old new s v g m next
       little_more {m} opened stays came goes_on at cursor walk =
           record {

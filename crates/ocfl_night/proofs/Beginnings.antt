@@ -3,13 +3,14 @@ use Rattle.std.proofs.Common.{◌≡◌, ◌≢◌, ◌≤◌, ◌∙◌, ◌++�
 use Rattle.std.proofs.lemmas.List.{nil_from_length}
 use Rattle.std.specs.Prelude.{◌⊎◌, IfOk, IsOk, IsTrue, OnOk}
 use Rattle.ocfl_tree.specs.Place.{Text, Place}
+use Rattle.ocfl_report.specs.declared.further.Further.{Further}
 use Rattle.ocfl_cursor.specs.{Cursor.{Cursor}, Moves.{after_run}, declared.limits.Limits.{Limits}}
 use Rattle.ocfl_scrub.specs.{Running.{begun, state_after}, declared.running.RunEnd.{RunEnd}}
 use Rattle.ocfl_scrub.specs.declared.running.RunStatus.{RunStatus}
 use Rattle.ocfl_scrub.specs.declared.running.RunStatus.TheVariants as status
 use Rattle.ocfl_state.specs.{Checkpoint.{Checkpoint}, Content.{Content, Closed, is_closed}}
 use Rattle.ocfl_state.specs.declared.checkpoint_parts.{Phase.{Phase}, Phase.TheVariants.{Open, Closing}, ReportMark.{ReportMark}}
-use Rattle.ocfl_night.specs.Beginning.{BeginsAt, Position, first, first_position, further, position}
+use Rattle.ocfl_night.specs.Beginning.{BeginsAt, Position, first, first_position, position, stored}
 use Rattle.ocfl_night.specs.{Chain.{HasClosed}, Done.{Done}, Leaving.{done_by, remedy_at}, Looks.{Rounds}}
 use Rattle.ocfl_night.specs.Ending.{IsSlice, KeepsTo, cycle_ended, cycle_in, cycle_of, ended_by, halt_after, place_or_pause, unbegun_by}
 use Rattle.ocfl_night.specs.Runs.{StopsOpen, Turn, after_end, after_made, turn_of}
@@ -27,15 +28,15 @@ use Rattle.ocfl_night.proofs.{Chains.{cycle_after, not_there}, Foreigners.{at_on
 
 -- ---- where a night begins
 
-pub begins_first : {create : Bool} {c : Content} {start : Checkpoint} → c.checkpoint ≡ None → create ≡ true → length c.report ≡ 0 → is_closed c.closed 1 ≡ false → position start ≡ first_position → BeginsAt create c start
+pub begins_first : {further : Further} {create : Bool} {c : Content} {start : Checkpoint} → c.checkpoint ≡ None → create ≡ true → length c.report ≡ 0 → is_closed c.closed 1 ≡ false → position start ≡ first_position further → BeginsAt further create c start
 begins_first {c = c} none may empty unclosed at = first (record { none = none; may = may; empty = nil_from_length c.report empty; unclosed = unclosed }) at
 
 -- by what beginning answers, in a folder that shows what it had
-pub begun_first : {create : Bool} (c shown : Content) (r : Result Opened NotOpened) → create ≡ true → c.checkpoint ≡ None → shown.report ≡ c.report → shown.closed ≡ c.closed → OnOk r (length shown.report ≡ 0) → OnOk r (is_closed shown.closed 1 ≡ false)
-    → IfOk r (λ opened. position opened.checkpoint ≡ first_position) → IfOk r (λ opened. BeginsAt create c opened.checkpoint)
-begun_first c shown (Ok opened) may none report closed empty unclosed at =
+pub begun_first : (further : Further) {create : Bool} (c shown : Content) (r : Result Opened NotOpened) → create ≡ true → c.checkpoint ≡ None → shown.report ≡ c.report → shown.closed ≡ c.closed → OnOk r (length shown.report ≡ 0) → OnOk r (is_closed shown.closed 1 ≡ false)
+    → IfOk r (λ opened. position opened.checkpoint ≡ first_position further) → IfOk r (λ opened. BeginsAt further create c opened.checkpoint)
+begun_first further c shown (Ok opened) may none report closed empty unclosed at =
     begins_first none may (ap (λ (l : Text). length l) (sym report) ∙ empty) (ap (λ (l : List Closed). is_closed l 1) (sym closed) ∙ unclosed) at
-begun_first c shown (Err why) may none report closed empty unclosed at = tt
+begun_first further c shown (Err why) may none report closed empty unclosed at = tt
 
 -- what is opened with a checkpoint stands where that does
 pub fitted_stays : (there : Option ReportMark) (k : Checkpoint) → position (fitted there k) ≡ position k
@@ -61,9 +62,9 @@ first_to_open {site = site} {id} {d = d} {k} none may same f = record {
 }
 
 -- at a checkpoint that stands there too
-pub begins_so : {create : Bool} {c : Content} {start next : Checkpoint} → position next ≡ position start → BeginsAt create c start → BeginsAt create c next
+pub begins_so : {further : Further} {create : Bool} {c : Content} {start next : Checkpoint} → position next ≡ position start → BeginsAt further create c start → BeginsAt further create c next
 begins_so same (first is at) = first is (same ∙ at)
-begins_so same (further k there at) = further k there (same ∙ at)
+begins_so same (stored k there at) = stored k there (same ∙ at)
 
 -- ---- the cycle of a checkpoint
 
@@ -133,7 +134,7 @@ one_more_since {cycle = cycle} {old} {mid} {new} same shut m = record { now = m.
     by (inr was) = inr (was.0 ∙ same, shut was.1)
 
 -- in the folder before it was opened
-pub shut_since : {create : Bool} {cycle : ℕ} {start : Checkpoint} {old mid : Content} → BeginsAt create old start → IsAt start mid → mid.closed ≡ old.closed → IsShut cycle mid → IsShut cycle old
+pub shut_since : {further : Further} {create : Bool} {cycle : ℕ} {start : Checkpoint} {old mid : Content} → BeginsAt further create old start → IsAt start mid → mid.closed ≡ old.closed → IsShut cycle mid → IsShut cycle old
 shut_since {cycle = cycle} {start} {old} {mid} begins at same was = by begins
   where
     is : was.checkpoint ≡ start
@@ -142,9 +143,9 @@ shut_since {cycle = cycle} {start} {old} {mid} begins at same was = by begins
     phase : start.phase ≡ Closing
     phase = ap (λ (x : Checkpoint). x.phase) (sym is) ∙ was.phase
 
-    by : {create : Bool} → BeginsAt create old start → IsShut cycle old
+    by : {further : Further} {create : Bool} → BeginsAt further create old start → IsShut cycle old
     by (first new there) = let going : start.phase ≡ Open = ap (λ (x : Position). x.phase) there in absurd (cc (going, phase))
-    by (further k found there) = record {
+    by (stored k found there) = record {
       checkpoint = k;
       at = found;
       phase = ap (λ (x : Position). x.phase) (sym there) ∙ phase;

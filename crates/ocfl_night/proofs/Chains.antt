@@ -4,14 +4,15 @@ use Rattle.std.proofs.{lemmas.List.{append-nil, take_all, take-append-le}, lemma
 use Rattle.std.proofs.{lemmas.Bool.Decides.{eqb_tells}, lemmas.List.Concat.{flat_map-append}}
 use Rattle.std.specs.Prelude.{slice_get}
 use Rattle.ocfl_tree.specs.{Place.{Text, Place}, Ascending.{IsAmong}, StorageRoot.{StorageRoot}}
+use Rattle.ocfl_report.specs.declared.further.Further.{Further}
 use Rattle.ocfl_rules.specs.Parts.{Part}
-use Rattle.ocfl_cursor.specs.{Cursor.{Cursor, State, ended}, Moves.{after_run}}
+use Rattle.ocfl_cursor.specs.{Cursor.{Cursor, State, start, behind, ended}, Moves.{after_run}}
 use Rattle.ocfl_scrub.specs.Running.{place_in, begun, begun_in, state_after}
 use Rattle.ocfl_scrub.specs.Joining.{PartRun, Ran}
 use Rattle.ocfl_scrub.specs.declared.running.RunStatus.{RunStatus}
 use Rattle.ocfl_scrub.specs.declared.running.RunStatus.TheVariants as status
 use Rattle.ocfl_state.specs.{Content.{Closed, is_closed}, declared.checkpoint_parts.Left.{Left}}
-use Rattle.ocfl_night.specs.Chain.{AreNextIn, NoneBefore, RootRun, look_of, AreLooked, joined, LeadTo, EndAt, past, past_branch, part_after, from_after, LedBy, Led, LedToEnd, IsClosedAs, AreClosed, AreLeft, HasClosed}
+use Rattle.ocfl_night.specs.Chain.{AreNextIn, NoneLost, RootRun, look_of, AreLooked, joined, LeadTo, EndAt, past, past_branch, part_after, from_after, LedBy, Led, LedToEnd, IsClosedAs, AreClosed, AreLeft, HasClosed}
 use Rattle.ocfl_night.specs.{Looks.{IsRootOf, Known, MayBeGone, Rounds, IsOneOf}, Sound.{closed_text}}
 
 -- a beginning of nothing
@@ -23,46 +24,46 @@ take_nothing n = take_all n nothing (omega arith)
 
 -- ---- a run more
 
-pub lead_on : (part : Part) (c e : Cursor) (runs : List RootRun) (r : RootRun) → LeadTo part c runs e → Ran r.root part e r.run → r.run.ran.end ≢ status.Ended → LeadTo part c (runs ++ r ∷ []) r.run.ran.cursor
-lead_on part c e [] r chain made goes = (subst (λ (x : Cursor). Ran r.root part x r.run) chain made, goes, refl)
-lead_on part c e (q ∷ runs) r chain made goes = (chain.0, chain.1, lead_on part q.run.ran.cursor e runs r chain.2 made goes)
+pub lead_on : (further : Further) (part : Part) (c e : Cursor) (runs : List RootRun) (r : RootRun) → LeadTo further part c runs e → Ran further r.root part e r.run → r.run.ran.end ≢ status.Ended → LeadTo further part c (runs ++ r ∷ []) r.run.ran.cursor
+lead_on further part c e [] r chain made goes = (subst (λ (x : Cursor). Ran further r.root part x r.run) chain made, goes, refl)
+lead_on further part c e (q ∷ runs) r chain made goes = (chain.0, chain.1, lead_on further part q.run.ran.cursor e runs r chain.2 made goes)
 
-pub end_on : (part : Part) (c e : Cursor) (runs : List RootRun) (r : RootRun) → LeadTo part c runs e → Ran r.root part e r.run → r.run.ran.end ≡ status.Ended → EndAt part c (runs ++ r ∷ []) r.run.ran.cursor
-end_on part c e [] r chain made ends = (subst (λ (x : Cursor). Ran r.root part x r.run) chain made, ends, refl)
-end_on part c e (q ∷ []) r chain made ends = (chain.0, chain.1, end_on part q.run.ran.cursor e [] r chain.2 made ends)
-end_on part c e (q ∷ p ∷ runs) r chain made ends = (chain.0, chain.1, end_on part q.run.ran.cursor e (p ∷ runs) r chain.2 made ends)
+pub end_on : (further : Further) (part : Part) (c e : Cursor) (runs : List RootRun) (r : RootRun) → LeadTo further part c runs e → Ran further r.root part e r.run → r.run.ran.end ≡ status.Ended → EndAt further part c (runs ++ r ∷ []) r.run.ran.cursor
+end_on further part c e [] r chain made ends = (subst (λ (x : Cursor). Ran further r.root part x r.run) chain made, ends, refl)
+end_on further part c e (q ∷ []) r chain made ends = (chain.0, chain.1, end_on further part q.run.ran.cursor e [] r chain.2 made ends)
+end_on further part c e (q ∷ p ∷ runs) r chain made ends = (chain.0, chain.1, end_on further part q.run.ran.cursor e (p ∷ runs) r chain.2 made ends)
 
 -- ---- around branches that are left out
 
 -- a run more at the end of the last leg
-module _ (Last : Part → Cursor → List RootRun → Cursor → Type 0) where
+module _ (Last : Further → Part → Cursor → List RootRun → Cursor → Type 0) (further : Further) where
   longer : (part : Part) (c d f : Cursor) (runs : List RootRun) (left : List Left) (r : RootRun)
-      → ((b : Cursor) (last : List RootRun) → LeadTo (part_after part left) b last d → Last (part_after part left) b (last ++ r ∷ []) f) → Led part c runs left d → LedBy Last part c (runs ++ r ∷ []) left f
+      → ((b : Cursor) (last : List RootRun) → LeadTo further (part_after part left) b last d → Last further (part_after part left) b (last ++ r ∷ []) f) → Led further part c runs left d → LedBy Last further part c (runs ++ r ∷ []) left f
   longer part c d f runs [] r more led = more c runs led
   longer part c d f runs (l ∷ left) r more (first, (rest, (e, (are, (leads, (stood, led)))))) =
       (first, (rest ++ r ∷ [], (e, (ap (λ (rs : List RootRun). rs ++ r ∷ []) are ∙ append_assoc first rest (r ∷ []), (leads, (stood, longer (past_branch part l) e d f rest left r more led))))))
 
-pub led_on : (part : Part) (c d : Cursor) (runs : List RootRun) (left : List Left) (r : RootRun) → Led part c runs left d → Ran r.root (part_after part left) d r.run → r.run.ran.end ≢ status.Ended → Led part c (runs ++ r ∷ []) left r.run.ran.cursor
-led_on part c d runs left r led made goes = longer LeadTo part c d r.run.ran.cursor runs left r (λ b last leads. lead_on (part_after part left) b d last r leads made goes) led
+pub led_on : (further : Further) (part : Part) (c d : Cursor) (runs : List RootRun) (left : List Left) (r : RootRun) → Led further part c runs left d → Ran further r.root (part_after part left) d r.run → r.run.ran.end ≢ status.Ended → Led further part c (runs ++ r ∷ []) left r.run.ran.cursor
+led_on further part c d runs left r led made goes = longer LeadTo further part c d r.run.ran.cursor runs left r (λ b last leads. lead_on further (part_after part left) b d last r leads made goes) led
 
-pub led_to_end : (part : Part) (c d : Cursor) (runs : List RootRun) (left : List Left) (r : RootRun) → Led part c runs left d → Ran r.root (part_after part left) d r.run → r.run.ran.end ≡ status.Ended → LedToEnd part c (runs ++ r ∷ []) left r.run.ran.cursor
-led_to_end part c d runs left r led made ends = longer EndAt part c d r.run.ran.cursor runs left r (λ b last leads. end_on (part_after part left) b d last r leads made ends) led
+pub led_to_end : (further : Further) (part : Part) (c d : Cursor) (runs : List RootRun) (left : List Left) (r : RootRun) → Led further part c runs left d → Ran further r.root (part_after part left) d r.run → r.run.ran.end ≡ status.Ended → LedToEnd further part c (runs ++ r ∷ []) left r.run.ran.cursor
+led_to_end further part c d runs left r led made ends = longer EndAt further part c d r.run.ran.cursor runs left r (λ b last leads. end_on further (part_after part left) b d last r leads made ends) led
 
 -- a branch more is left out
-pub leave_on : (part : Part) (c d : Cursor) (runs : List RootRun) (left : List Left) (l : Left) → Led part c runs left d → place_in d.state ≡ l.after → Led part c runs (left ++ l ∷ []) d
-leave_on part c d runs [] l led stood = (runs, ([], (d, (sym (append-nil runs), (led, (stood, refl))))))
-leave_on part c d runs (x ∷ left) l (first, (rest, (e, (are, (leads, (there, led)))))) stood = (first, (rest, (e, (are, (leads, (there, leave_on (past_branch part x) e d rest left l led stood))))))
+pub leave_on : (further : Further) (part : Part) (c d : Cursor) (runs : List RootRun) (left : List Left) (l : Left) → Led further part c runs left d → place_in d.state ≡ l.after → Led further part c runs (left ++ l ∷ []) d
+leave_on further part c d runs [] l led stood = (runs, ([], (d, (sym (append-nil runs), (led, (stood, refl))))))
+leave_on further part c d runs (x ∷ left) l (first, (rest, (e, (are, (leads, (there, led)))))) stood = (first, (rest, (e, (are, (leads, (there, leave_on further (past_branch part x) e d rest left l led stood))))))
 
 -- and it is next, as those before were
-pub next_on : (known : Option Known) (part : Part) (left : List Left) (l : Left) → AreNextIn known part left
-    → (root : StorageRoot) × (IsRootOf known root × NoneBefore root (part_after part left) l.after l.place) → AreNextIn known part (left ++ l ∷ [])
-next_on known part [] l all next = (next, tt)
-next_on known part (x ∷ left) l all next = (all.0, next_on known (past_branch part x) left l all.1 next)
+pub next_on : (further : Further) (known : Option Known) (part : Part) (left : List Left) (l : Left) → AreNextIn further known part left
+    → (root : StorageRoot) × (IsRootOf known root × NoneLost further root (part_after part left) l.after l.place) → AreNextIn further known part (left ++ l ∷ [])
+next_on further known part [] l all next = (next, tt)
+next_on further known part (x ∷ left) l all next = (all.0, next_on further known (past_branch part x) left l all.1 next)
 
 -- it was one of these looks, as those before
-pub looked_on : (known : Option Known) (runs : List RootRun) (r : RootRun) → AreLooked known runs → IsOneOf known (look_of r) → AreLooked known (runs ++ r ∷ [])
-looked_on known [] r all one = (one, tt)
-looked_on known (q ∷ runs) r all one = (all.0, looked_on known runs r all.1 one)
+pub looked_on : (further : Further) (known : Option Known) (runs : List RootRun) (r : RootRun) → AreLooked further known runs → IsOneOf known (look_of further r) → AreLooked further known (runs ++ r ∷ [])
+looked_on further known [] r all one = (one, tt)
+looked_on further known (q ∷ runs) r all one = (all.0, looked_on further known runs r all.1 one)
 
 pub joined_on : (runs : List RootRun) (r : RootRun) → joined (runs ++ r ∷ []) ≡ joined runs ++ r.run.report
 joined_on runs r =
@@ -70,10 +71,19 @@ joined_on runs r =
 
 -- ---- cursors
 
+-- a run begins with what its cursor checks
+pub begun_checks : (c : Cursor) → (begun c).further ≡ c.further
+begun_checks c = by c.state
+  where
+    by : (s : State) → (begun_in c s).further ≡ c.further
+    by start = refl
+    by (behind p) = refl
+    by ended = refl
+
 -- the cursor that a run left
-pub left_by_run : (root : StorageRoot) (part : Part) (c : Cursor) (r : PartRun) → Ran root part c r
+pub left_by_run : (further : Further) (root : StorageRoot) (part : Part) (c : Cursor) (r : PartRun) → Ran further root part c r
     → (last : Option Place) × (r.ran.cursor ≡ after_run (begun c) r.ran.spent r.ran.files (state_after r.ran.end last))
-left_by_run root part c r made = (made.runs.last, made.runs.cursor_is)
+left_by_run further root part c r made = (made.runs.last, made.runs.cursor_is)
 
 pub cycle_after : (b x : Cursor) (spent files : ℕ) (end : RunStatus) (last : Option Place) → end ≢ status.Ended → x ≡ after_run b spent files (state_after end last) → (begun x).cycle ≡ b.cycle
 cycle_after b x spent files status.Ended last goes is = absurd (goes refl)
@@ -84,16 +94,20 @@ cycle_after b x spent files (status.Stopped why) (Some p) goes is = ap (λ (y : 
 cycle_after b x spent files status.Worn None goes is = ap (λ (y : Cursor). (begun y).cycle) is
 cycle_after b x spent files status.Worn (Some p) goes is = ap (λ (y : Cursor). (begun y).cycle) is
 
+-- and leaves one that checks the same
+pub run_checks : (further : Further) (root : StorageRoot) (part : Part) (c : Cursor) (r : PartRun) → Ran further root part c r → r.ran.cursor.further ≡ c.further
+run_checks further root part c r made = ap (λ (y : Cursor). y.further) (left_by_run further root part c r made).1 ∙ begun_checks c
+
 -- a run that does not end the cycle stays in it
-pub same_cycle : (root : StorageRoot) (part : Part) (c : Cursor) (r : PartRun) → Ran root part c r → r.ran.end ≢ status.Ended → (begun r.ran.cursor).cycle ≡ (begun c).cycle
-same_cycle root part c r made goes =
-    let left = left_by_run root part c r made in
+pub same_cycle : (further : Further) (root : StorageRoot) (part : Part) (c : Cursor) (r : PartRun) → Ran further root part c r → r.ran.end ≢ status.Ended → (begun r.ran.cursor).cycle ≡ (begun c).cycle
+same_cycle further root part c r made goes =
+    let left = left_by_run further root part c r made in
     cycle_after (begun c) r.ran.cursor r.ran.spent r.ran.files r.ran.end left.0 goes left.1
 
 -- the run that ends the cycle
-pub ended_cursor : (root : StorageRoot) (part : Part) (c : Cursor) (r : PartRun) → Ran root part c r → r.ran.end ≡ status.Ended → (r.ran.cursor.state ≡ ended) × (r.ran.cursor.cycle ≡ (begun c).cycle)
-ended_cursor root part c r made is =
-    let left = left_by_run root part c r made in
+pub ended_cursor : (further : Further) (root : StorageRoot) (part : Part) (c : Cursor) (r : PartRun) → Ran further root part c r → r.ran.end ≡ status.Ended → (r.ran.cursor.state ≡ ended) × (r.ran.cursor.cycle ≡ (begun c).cycle)
+ended_cursor further root part c r made is =
+    let left = left_by_run further root part c r made in
     (ap (λ (y : Cursor). y.state) left.1 ∙ ap (λ (e : RunStatus). state_after e left.0) is, ap (λ (y : Cursor). y.cycle) left.1)
 
 pub next_cycle_begun : (c : Cursor) → c.state ≡ ended → (begun c).cycle ≡ c.cycle + 1

@@ -7,12 +7,13 @@ use Rattle.ocfl_identity.specs.declared.identity.NoIdentity.TheVariants as none
 use Rattle.ocfl_state.specs.{Checkpoint.{Checkpoint, IsCheckpointText}, Content.{Content}}
 use Rattle.ocfl_state.proofs.CheckpointTexts.{text_determines}
 use Rattle.ocfl_state.specs.declared.checkpoint_parts.{ReportMark.{ReportMark}, RootIdentity.{RootIdentity}}
-use Rattle.ocfl_cursor.specs.declared.limits.Limits.{Limits}
+use Rattle.ocfl_cursor.specs.{Cursor.{Cursor}, declared.limits.Limits.{Limits}}
+use Rattle.ocfl_night.proofs.Chains.{begun_checks}
 use Rattle.ocfl_scrub.specs.declared.running.RunEnd.{RunEnd}
 use Rattle.ocfl_night.specs.Site.{IsAlike, IsForeign, IsOfSite, IsOfStore, IsOther, IsOtherThan, IsOwn, IsSameRoot, first_checkpoint, with_root}
 use Rattle.ocfl_night.specs.Steps.{IsTakenUp, fitted}
 use Rattle.ocfl_terms.specs.declared.made.Made.{Made}
-use Rattle.ocfl_night.specs.{Ending.{IsNextBy, IsSlice, unopened_by}, Older.{IfOlder}, Refusing.{IfForeign, IsBarred, IsRefused, another, no_root, older, other_root, undeclared}}
+use Rattle.ocfl_night.specs.{Ending.{IsNextBy, IsSlice, KeepsTo, unopened_by}, Older.{IfOlder}, Refusing.{IfForeign, IsBarred, IsRefused, another, no_root, older, other_root, undeclared}}
 use Rattle.ocfl_night.specs.declared.not_opened.NotOpened.TheVariants.{Refused}
 use Rattle.ocfl_terms.specs.declared.refusal.Refusal.{Refusal}
 use Rattle.ocfl_night.specs.{Sound.{IsAt}, declared.site.Site.{Site}}
@@ -31,7 +32,8 @@ not_other same (inr gone) = omega (arith, same.names, gone)
 -- one that was taken is not foreign
 not_foreign : {site : Site} {id : Identity} {force : Bool} {k : Checkpoint} → IsOwn site k → (force ≡ false → IsSameRoot id k) → IsForeign site id force k → ⊥
 not_foreign own same (inl (inl path)) = path own.path
-not_foreign own same (inl (inr part)) = part own.part
+not_foreign own same (inl (inr (inl part))) = part own.part
+not_foreign own same (inl (inr (inr checks))) = checks own.checks
 not_foreign own same (inr other) = not_other (same other.0) other.1
 
 pub own_at : {site : Site} {id : Identity} {force : Bool} {c : Content} {k found : Checkpoint} → IsAt found c → IsAt k c → IsOwn site found → (force ≡ false → IsSameRoot id found) → IsForeign site id force k → ⊥
@@ -40,33 +42,38 @@ own_at {site} {id} {force} a b own same foreign = not_foreign own same (subst (�
 -- ---- whether two are alike
 
 pub alike_self : (k : Checkpoint) → IsAlike k k
-alike_self k = record { root = refl; names = refl; part = refl }
+alike_self k = record { root = refl; names = refl; part = refl; checks = refl }
 
 pub alike_on : {j k l : Checkpoint} → IsAlike j k → IsAlike k l → IsAlike j l
-alike_on a b = record { root = b.root ∙ a.root; names = b.names ∙ a.names; part = b.part ∙ a.part }
+alike_on a b = record { root = b.root ∙ a.root; names = b.names ∙ a.names; part = b.part ∙ a.part; checks = b.checks ∙ a.checks }
 
 -- what is made of one that is alike
 pub alike_as : (k : Checkpoint) {l m : Checkpoint} → l ≡ m → IsAlike k m → IsAlike k l
 alike_as k same alike = subst (IsAlike k) (sym same) alike
 
 -- one after a run, and after a slice
-pub next_alike : {k l : Checkpoint} {ran : RunEnd} → IsNextBy k ran l → IsAlike k l
-next_alike {k} n = alike_as k n.1.rest_is (record { root = refl; names = refl; part = refl })
+pub next_alike : {k l : Checkpoint} {limits : Limits} {ran : RunEnd} → KeepsTo k.cursor limits ran → IsNextBy k ran l → IsAlike k l
+next_alike {k} keeps n = record {
+  root = ap (λ (x : Checkpoint). x.root) n.1.rest_is;
+  names = ap (λ (x : Checkpoint). x.names) n.1.rest_is;
+  part = ap (λ (x : Checkpoint). x.part) n.1.rest_is;
+  checks = ap (λ (x : Cursor). x.further) (n.1.cursor_is ∙ keeps.cursor) ∙ begun_checks k.cursor;
+}
 
 pub made_alike : {k : Checkpoint} {limits : Limits} {made : Made} → IsSlice k limits made → IsAlike k made.checkpoint
 made_alike {k} (inl un) = alike_as k un.checkpoint (alike_self k)
-made_alike (inr r) = next_alike r.1.2
+made_alike (inr r) = next_alike r.1.0 r.1.2
 
 -- one like that of a site
 pub of_site : {site : Site} {id : Identity} {k l : Checkpoint} → IsAlike k l → IsOfSite site id k → IsOfSite site id l
 of_site same of = record {
-  own = record { path = ap (λ (r : RootIdentity). r.path) same.root ∙ of.own.path; part = same.part ∙ of.own.part };
+  own = record { path = ap (λ (r : RootIdentity). r.path) same.root ∙ of.own.path; part = same.part ∙ of.own.part; checks = same.checks ∙ of.own.checks };
   declared = ap (λ (r : RootIdentity). r.declared) same.root ∙ of.declared;
 }
 
 pub of_store : {told : Bool} {s : Store} {site : Site} {k l : Checkpoint} → IsAlike k l → IsOfStore told s site k → IsOfStore told s site l
 of_store same of = record {
-  own = record { path = ap (λ (r : RootIdentity). r.path) same.root ∙ of.own.path; part = same.part ∙ of.own.part };
+  own = record { path = ap (λ (r : RootIdentity). r.path) same.root ∙ of.own.path; part = same.part ∙ of.own.part; checks = same.checks ∙ of.own.checks };
   declared = λ tells root over. of.declared tells root over ∙ ap (λ (r : RootIdentity). Some r.declared) (sym same.root);
 }
 
@@ -82,12 +89,12 @@ pub taken_own : {site : Site} {id : Identity} {k l : Checkpoint} → IsOwn site 
 taken_own {site} {id} {k} {l} own (there, is) = by there is
   where
     by : (o : Option ReportMark) → l ≡ with_root id (fitted o k) → IsOfSite site id l
-    by None is = record { own = record { path = ap (λ (x : Checkpoint). x.root.path) is ∙ own.path; part = ap (λ (x : Checkpoint). x.part) is ∙ own.part }; declared = ap (λ (x : Checkpoint). x.root.declared) is }
-    by (Some mark) is = record { own = record { path = ap (λ (x : Checkpoint). x.root.path) is ∙ own.path; part = ap (λ (x : Checkpoint). x.part) is ∙ own.part }; declared = ap (λ (x : Checkpoint). x.root.declared) is }
+    by None is = record { own = record { path = ap (λ (x : Checkpoint). x.root.path) is ∙ own.path; part = ap (λ (x : Checkpoint). x.part) is ∙ own.part; checks = ap (λ (x : Checkpoint). x.cursor.further) is ∙ own.checks }; declared = ap (λ (x : Checkpoint). x.root.declared) is }
+    by (Some mark) is = record { own = record { path = ap (λ (x : Checkpoint). x.root.path) is ∙ own.path; part = ap (λ (x : Checkpoint). x.part) is ∙ own.part; checks = ap (λ (x : Checkpoint). x.cursor.further) is ∙ own.checks }; declared = ap (λ (x : Checkpoint). x.root.declared) is }
 
 -- the first one
 pub first_own : (site : Site) (id : Identity) {k : Checkpoint} → k ≡ first_checkpoint site id → IsOfSite site id k
-first_own site id is = subst (IsOfSite site id) (sym is) (record { own = record { path = refl; part = refl }; declared = refl })
+first_own site id is = subst (IsOfSite site id) (sym is) (record { own = record { path = refl; part = refl; checks = refl }; declared = refl })
 
 -- of a storage root, by its identity
 pub other_by : (root : StorageRoot) (id : Identity) (k : Checkpoint) → IsIdentityOf root id → IsOtherThan root k → IsOther id k

@@ -15,6 +15,7 @@ use Rattle.ocfl_scrub.specs.declared.running.RunStatus.TheVariants as status
 use Rattle.ocfl_night.specs.Looks.{IsRootOf, Counts, failed_at, failed_in, IfGiven, IsOneOf, IsWithin, Known, Look, look_between, opened_since}
 use Rattle.ocfl_identity.specs.declared.identity.NoIdentity.{NoIdentity}
 use Rattle.ocfl_identity.specs.declared.identity.NoIdentity.TheVariants as none
+use Rattle.ocfl_report.specs.declared.further.Further.{Further}
 
 -- ---- what a store counts
 
@@ -117,19 +118,19 @@ module _ {r s t : Store} (p : Counts r s) (q : Counts s t) where
     failed = λ x. let one = p.failed x in let two = q.failed x in omega (arith, one, two);
   }
 
-  unread_both : (root : StorageRoot) → unread_of None root (opened_since r t) ≡ unread_of None root (opened_since r s) ++ unread_of None root (opened_since s t)
-  unread_both root = ap (unread_of None root) since_both ∙ unread_append None root (opened_since r s) (opened_since s t)
+  unread_both : (further : Further) (root : StorageRoot) → unread_of further root (opened_since r t) ≡ unread_of further root (opened_since r s) ++ unread_of further root (opened_since s t)
+  unread_both further root = ap (unread_of further root) since_both ∙ unread_append further root (opened_since r s) (opened_since s t)
 
-  pub first_within : (root : StorageRoot) → IsWithin (look_between root r s) (look_between root r t)
-  first_within root = record {
+  pub first_within : (further : Further) (root : StorageRoot) → IsWithin (look_between further root r s) (look_between further root r t)
+  first_within further root = record {
     root = refl;
-    unread = λ e is. subst (λ (u : Unread). IsAmong u e) (sym (unread_both root)) (among_left (unread_of None root (opened_since r s)) (unread_of None root (opened_since s t)) e is);
+    unread = λ e is. subst (λ (u : Unread). IsAmong u e) (sym (unread_both further root)) (among_left (unread_of further root (opened_since r s)) (unread_of further root (opened_since s t)) e is);
   }
 
-  pub last_within : (root : StorageRoot) → IsWithin (look_between root s t) (look_between root r t)
-  last_within root = record {
+  pub last_within : (further : Further) (root : StorageRoot) → IsWithin (look_between further root s t) (look_between further root r t)
+  last_within further root = record {
     root = refl;
-    unread = λ e is. subst (λ (u : Unread). IsAmong u e) (sym (unread_both root)) (among_right (unread_of None root (opened_since r s)) (unread_of None root (opened_since s t)) e is);
+    unread = λ e is. subst (λ (u : Unread). IsAmong u e) (sym (unread_both further root)) (among_right (unread_of further root (opened_since r s)) (unread_of further root (opened_since s t)) e is);
   }
 
 -- ---- looks
@@ -155,12 +156,12 @@ root_of None l one = tt
 root_of (Some known) l one = (one.0, (one.1.0, sym one.1.1.root))
 
 -- the first steps, and the last
-module _ {r s t : Store} (root : StorageRoot) (known : Option Known) (p : Counts r s) (q : Counts s t) (is : IsOneOf known (look_between root r t)) where
-  pub first_of : IsOneOf known (look_between root r s)
-  first_of = one_of_on known (first_within p q root) is
+module _ {r s t : Store} (further : Further) (root : StorageRoot) (known : Option Known) (p : Counts r s) (q : Counts s t) (is : IsOneOf known (look_between further root r t)) where
+  pub first_of : IsOneOf known (look_between further root r s)
+  first_of = one_of_on known (first_within p q further root) is
 
-  pub last_of : IsOneOf known (look_between root s t)
-  last_of = one_of_on known (last_within p q root) is
+  pub last_of : IsOneOf known (look_between further root s t)
+  last_of = one_of_on known (last_within p q further root) is
 
 -- a run that was not made did nothing
 pub counts_either : {s t : Store} (end : RunStatus) → (end ≢ status.Worn → Counts s t) → (end ≡ status.Worn → t ≡ s) → Counts s t

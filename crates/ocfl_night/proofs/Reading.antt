@@ -10,7 +10,7 @@ use Rattle.ocfl_tree.proofs.{Bools.{and_second}, Orders.{among_left, below_from_
 use Rattle.ocfl_inventory.specs.{Declaration.{is_declaration}, Entries.{is_counted, is_file}}
 use Rattle.ocfl_inventory.specs.declared.declaration.Level.TheVariants.{Root}
 use Rattle.ocfl_rules.specs.{Trail.{content_trail, is_meta, is_meta_zone}, Zone.{zone}}
-use Rattle.ocfl_rules.proofs.BelowLaws.{ascends_append}
+use Rattle.ocfl_rules.proofs.{BelowLaws.{ascends_append}, MetaLaws.{common_is_meta}}
 use Rattle.ocfl_item.proofs.AuditingLaws.{trail_append}
 use Rattle.ocfl_item.specs.Judging.{HasShortFiles}
 use Rattle.ocfl_item.specs.declared.fault.Fault.TheVariants as fault
@@ -27,7 +27,7 @@ use Rattle.ocfl_scrub.specs.declared.running.RunStatus.TheVariants as status
 use Rattle.ocfl_state.specs.{Checkpoint.{Checkpoint}, Content.{Content}}
 use Rattle.ocfl_state.specs.declared.checkpoint_parts.{Phase.{Phase}, Phase.TheVariants.{Open, Closing}}
 use Rattle.ocfl_state.specs.declared.checkpoint_parts.ReportMark.{ReportMark}
-use Rattle.ocfl_night.specs.Beginning.{BeginsAt, Position, StandsAt, first, further, goes_on_at, goes_on_in}
+use Rattle.ocfl_night.specs.Beginning.{BeginsAt, Position, StandsAt, first, goes_on_at, goes_on_in, stored}
 use Rattle.ocfl_night.specs.{Done.{Done}, Leaving.{done_by, remedy_at}, Looks.{Counts, opened_since}}
 use Rattle.ocfl_night.specs.Ending.{IsAway, IsMadeBy, IsSlice, IsUnkept, KeepsTo, cycle_ended, ended_by, halt_after, place_or_pause, slice_end}
 use Rattle.ocfl_night.specs.Reading.{AreBeyond, AreDeclarations, AreReadOnce, EndsInOrder, HasRead, HaveRead, IsRead, IsReadBy, IsReadTo, ReadsBeyond, StaysTaken, came_to, content_since, reached, reached_in}
@@ -40,41 +40,42 @@ use Rattle.ocfl_night.specs.declared.pause.Pause.TheVariants as pause
 use Rattle.ocfl_terms.specs.declared.made.SliceEnd.TheVariants as slice
 use Rattle.ocfl_night.specs.declared.tally.Remedy.TheVariants as remedy
 use Rattle.ocfl_night.proofs.{Foreigners.{at_once}, Looks.{leaf_there, since_both, since_is}, Runs.{made_open, stops_open}}
+use Rattle.ocfl_report.specs.declared.further.Further.{Further}
 
 -- ---- openings of declarations
 
-no_content : (root : StorageRoot) (os : List Opening) → ((o : Opening) → IsAmong os o → is_meta None root o.place ≡ true) → content_trail None root os ≡ []
-no_content root [] all = refl
-no_content root (o ∷ os) all = by (is_meta None root o.place) (all o (inl refl)) (no_content root os (λ x i. all x (inr i)))
+no_content : (further : Further) (root : StorageRoot) (os : List Opening) → ((o : Opening) → IsAmong os o → is_meta further root o.place ≡ true) → content_trail further root os ≡ []
+no_content further root [] all = refl
+no_content further root (o ∷ os) all = by (is_meta further root o.place) (all o (inl refl)) (no_content further root os (λ x i. all x (inr i)))
   where
-    by : (b : Bool) → b ≡ true → content_trail None root os ≡ []
-        → map (λ (y : Opening). y.place) (cond (not b) (o ∷ filter (λ (y : Opening). not (is_meta None root y.place)) os) (filter (λ (y : Opening). not (is_meta None root y.place)) os)) ≡ []
+    by : (b : Bool) → b ≡ true → content_trail further root os ≡ []
+        → map (λ (y : Opening). y.place) (cond (not b) (o ∷ filter (λ (y : Opening). not (is_meta further root y.place)) os) (filter (λ (y : Opening). not (is_meta further root y.place)) os)) ≡ []
     by true is rest = rest
     by false is rest = absurd (true_not_false (sym is))
 
-module _ (root : StorageRoot) (s t : Store) (names : List Text) (all : (n : Text) → IsAmong names n → is_declaration Root n ≡ true) where
-  content_named : (os : List Opening) → AreNamed names os → t.openings ≡ s.openings ++ os → content_since root s t ≡ []
-  content_named os named are = ap (content_trail None root) (since_is s t os are) ∙ no_content root os (λ o i. let k = named o i in meta o k.0 k.1.1 (all k.0 k.1.0))
+module _ (further : Further) (root : StorageRoot) (s t : Store) (names : List Text) (all : (n : Text) → IsAmong names n → is_declaration Root n ≡ true) where
+  content_named : (os : List Opening) → AreNamed names os → t.openings ≡ s.openings ++ os → content_since further root s t ≡ []
+  content_named os named are = ap (content_trail further root) (since_is s t os are) ∙ no_content further root os (λ o i. let k = named o i in meta o k.0 k.1.1 (all k.0 k.1.0))
     where
-      meta : (o : Opening) (n : Text) → o.place ≡ n ∷ [] → is_declaration Root n ≡ true → is_meta None root o.place ≡ true
-      meta o n at is = ap (is_meta None root) at ∙ ap (λ b. b || is_meta_zone (zone root (n ∷ []))) is
+      meta : (o : Opening) (n : Text) → o.place ≡ n ∷ [] → is_declaration Root n ≡ true → is_meta further root o.place ≡ true
+      meta o n at is = ap (is_meta further root) at ∙ common_is_meta further root (n ∷ []) (ap (λ b. b || is_meta_zone (zone root (n ∷ []))) is)
 
-  pub content_did : {listed : List Place} {failures : ℕ} → Did s t (openings_of root names) listed failures → content_since root s t ≡ []
+  pub content_did : {listed : List Place} {failures : ℕ} → Did s t (openings_of root names) listed failures → content_since further root s t ≡ []
   content_did did = content_named (openings_of root names) (opens_named root names) did.openings_are
 
-  pub content_first : {listed : List Place} → OpensFirst s t (openings_of root names) listed → content_since root s t ≡ []
+  pub content_first : {listed : List Place} → OpensFirst s t (openings_of root names) listed → content_since further root s t ≡ []
   content_first h = content_named h.made (λ o i. opens_named root names o (subst (λ os. IsAmong os o) h.are (among_left h.made h.rest o i))) h.did.openings_are
 
-  pub content_unread : HasShortFiles root → {listed : List Place} {p : Place} → IsUnread root s t names listed p → content_since root s t ≡ []
+  pub content_unread : HasShortFiles root → {listed : List Place} {p : Place} → IsUnread root s t names listed p → content_since further root s t ≡ []
   content_unread short (in_listing is there did) = content_named [] (λ o none. absurd none) did.openings_are
   content_unread short (in_opening before given named did) = content_named _ named did.openings_are
   content_unread short {p = p} (too_long bytes is long) = absurd (let few = short p bytes (leaf_there (at root p) bytes is) in omega (arith, few, long))
 
-  content_bare : {listed : List Place} {failures : ℕ} → Did s t [] listed failures → content_since root s t ≡ []
+  content_bare : {listed : List Place} {failures : ℕ} → Did s t [] listed failures → content_since further root s t ≡ []
   content_bare did = content_named [] (λ o none. absurd none) did.openings_are
 
   pub content_unidentified : {listed : List Place} (e : NoIdentity) → HasShortFiles root → (e ≡ missing.Undeclared → Did s t [] listed 0)
-      → ((p : Place) → e ≡ missing.Unread p → IsUnread root s t names listed p) → (e ≡ missing.Memory → Did s t [] [] 0 ⊎ OpensFirst s t (openings_of root names) listed) → content_since root s t ≡ []
+      → ((p : Place) → e ≡ missing.Unread p → IsUnread root s t names listed p) → (e ≡ missing.Memory → Did s t [] [] 0 ⊎ OpensFirst s t (openings_of root names) listed) → content_since further root s t ≡ []
   content_unidentified missing.Undeclared short bare unread refused = content_bare (bare refl)
   content_unidentified (missing.Unread p) short bare unread refused = content_unread short (unread p refl)
   content_unidentified missing.Memory short bare unread refused = ⊎_elim (λ did. content_bare did) (λ some. content_first some) (refused refl)
@@ -95,22 +96,22 @@ are_declarations root id is n i = counted_names (entries_in root []) n (subst (�
 
 -- ---- what was opened, from one moment to the next
 
-pub content_none : (root : StorageRoot) (s : Store) → content_since root s s ≡ []
-content_none root s = ap (content_trail None root) (since_is s s [] (sym (append-nil s.openings)))
+pub content_none : (further : Further) (root : StorageRoot) (s : Store) → content_since further root s s ≡ []
+content_none further root s = ap (content_trail further root) (since_is s s [] (sym (append-nil s.openings)))
 
-pub content_same : (root : StorageRoot) (s t : Store) → t ≡ s → content_since root s t ≡ []
-content_same root s t same = ap (content_since root s) same ∙ content_none root s
+pub content_same : (further : Further) (root : StorageRoot) (s t : Store) → t ≡ s → content_since further root s t ≡ []
+content_same further root s t same = ap (content_since further root s) same ∙ content_none further root s
 
-module _ {r s t : Store} (root : StorageRoot) (p : Counts r s) (q : Counts s t) where
-  pub content_both : content_since root r t ≡ content_since root r s ++ content_since root s t
-  content_both = ap (content_trail None root) (since_both p q) ∙ trail_append None root (opened_since r s) (opened_since s t)
+module _ {r s t : Store} (further : Further) (root : StorageRoot) (p : Counts r s) (q : Counts s t) where
+  pub content_both : content_since further root r t ≡ content_since further root r s ++ content_since further root s t
+  content_both = ap (content_trail further root) (since_both p q) ∙ trail_append further root (opened_since r s) (opened_since s t)
 
   -- nothing but metadata after it, or before it
-  pub content_first_alone : content_since root s t ≡ [] → content_since root r t ≡ content_since root r s
-  content_first_alone none = content_both ∙ ap (λ ps. content_since root r s ++ ps) none ∙ append-nil (content_since root r s)
+  pub content_first_alone : content_since further root s t ≡ [] → content_since further root r t ≡ content_since further root r s
+  content_first_alone none = content_both ∙ ap (λ ps. content_since further root r s ++ ps) none ∙ append-nil (content_since further root r s)
 
-  pub content_last_alone : content_since root r s ≡ [] → content_since root r t ≡ content_since root s t
-  content_last_alone none = content_both ∙ ap (λ ps. ps ++ content_since root s t) none
+  pub content_last_alone : content_since further root r s ≡ [] → content_since further root r t ≡ content_since further root s t
+  content_last_alone none = content_both ∙ ap (λ ps. ps ++ content_since further root s t) none
 
   pub unfailing_first : t.failures ≡ r.failures → s.failures ≡ r.failures
   unfailing_first same = let one = p.failures in let two = q.failures in omega (arith, one, two, same)
@@ -250,11 +251,11 @@ kept_read s t ps k c ran going same keeps read (Ok made) next by_run =
     (subst (λ (from : State). HasRead s t from ran.cursor.state (place_or_pause (slice_end ran.end)) ps) (sym (reached_at k c going same)) read))
 
 -- and then the root was looked at
-pub read_then : {s t u : Store} {from to : State} {at : Result Place (Option Pause)} (root : StorageRoot) → Counts s t → Counts t u → content_since root t u ≡ []
-    → HasRead s t from to at (content_since root s t) → HasRead s u from to at (content_since root s u)
-read_then {s} {t} {u} {from} {to} {at} root p q none h = record {
+pub read_then : {s t u : Store} {from to : State} {at : Result Place (Option Pause)} (further : Further) (root : StorageRoot) → Counts s t → Counts t u → content_since further root t u ≡ []
+    → HasRead s t from to at (content_since further root s t) → HasRead s u from to at (content_since further root s u)
+read_then {s} {t} {u} {from} {to} {at} further root p q none h = record {
   stays = h.stays;
-  once = λ same. subst (IsReadBy at to) (sym (content_first_alone root p q none)) (h.once (unfailing_first root p q same));
+  once = λ same. subst (IsReadBy at to) (sym (content_first_alone further root p q none)) (h.once (unfailing_first further root p q same));
 }
 
 -- ---- runs, so far
@@ -264,30 +265,30 @@ pub record SoRead (s t : Store) (from to : State) (ps : List Place) : Type 0 whe
   pub stays : StaysTaken from to
   pub once : t.failures ≡ s.failures → AreReadOnce to ps
 
-pub read_none : (root : StorageRoot) (s : Store) (there : State) → SoRead s s there there (content_since root s s)
-read_none root s there = record { beyond = none_beyond (content_none root s); stays = record { each = λ p is. is }; once = λ same. once_none there (content_none root s) }
+pub read_none : (further : Further) (root : StorageRoot) (s : Store) (there : State) → SoRead s s there there (content_since further root s s)
+read_none further root s there = record { beyond = none_beyond (content_none further root s); stays = record { each = λ p is. is }; once = λ same. once_none there (content_none further root s) }
 
-module _ {r s t : Store} {from mid : State} (root : StorageRoot) (p : Counts r s) (q : Counts s t) (so : SoRead r s from mid (content_since root r s)) (beyond : AreBeyond mid (content_since root s t)) where
+module _ {r s t : Store} {from mid : State} (further : Further) (root : StorageRoot) (p : Counts r s) (q : Counts s t) (so : SoRead r s from mid (content_since further root r s)) (beyond : AreBeyond mid (content_since further root s t)) where
   -- a slice more, whatever comes of it
-  pub beyond_more : AreBeyond from (content_since root r t)
-  beyond_more = beyond_by (content_both root p q) (beyond_both so.beyond (beyond_from so.stays beyond))
+  pub beyond_more : AreBeyond from (content_since further root r t)
+  beyond_more = beyond_by (content_both further root p q) (beyond_both so.beyond (beyond_from so.stays beyond))
 
   -- one after which the night goes on
-  pub read_more : {made to : State} {at : Result Place (Option Pause)} → made ≡ to → HasRead s t mid made at (content_since root s t) → (IsReadBy at made (content_since root s t) → AreReadOnce made (content_since root s t))
-      → SoRead r t from to (content_since root r t)
+  pub read_more : {made to : State} {at : Result Place (Option Pause)} → made ≡ to → HasRead s t mid made at (content_since further root s t) → (IsReadBy at made (content_since further root s t) → AreReadOnce made (content_since further root s t))
+      → SoRead r t from to (content_since further root r t)
   read_more {made} {to} same h goes = record {
     beyond = beyond_more;
     stays = subst (StaysTaken from) same (record { each = λ x is. h.stays.each x (so.stays.each x is) });
-    once = λ unfailing. subst (λ (there : State). AreReadOnce there (content_since root r t)) same
-        (once_by (content_both root p q) (once_both h.stays (so.once (unfailing_first root p q unfailing)) beyond (goes (h.once (unfailing_last root p q unfailing)))));
+    once = λ unfailing. subst (λ (there : State). AreReadOnce there (content_since further root r t)) same
+        (once_by (content_both further root p q) (once_both h.stays (so.once (unfailing_first further root p q unfailing)) beyond (goes (h.once (unfailing_last further root p q unfailing)))));
   }
 
   -- or that halts it
-  pub read_last : {made to : State} {at : Result Place (Option Pause)} {end : Halt} → made ≡ to → HasRead s t mid made at (content_since root s t) → (IsReadBy at made (content_since root s t) → EndsInOrder end → ⊥)
-      → HaveRead r t from to end (content_since root r t)
+  pub read_last : {made to : State} {at : Result Place (Option Pause)} {end : Halt} → made ≡ to → HasRead s t mid made at (content_since further root s t) → (IsReadBy at made (content_since further root s t) → EndsInOrder end → ⊥)
+      → HaveRead r t from to end (content_since further root r t)
   read_last {made} {to} same h halts = record {
     stays = subst (StaysTaken from) same (record { each = λ x is. h.stays.each x (so.stays.each x is) });
-    once = λ unfailing order. absurd (halts (h.once (unfailing_last root p q unfailing)) order);
+    once = λ unfailing order. absurd (halts (h.once (unfailing_last further root p q unfailing)) order);
   }
 
 -- no further one is made
@@ -378,23 +379,23 @@ read_to {from = from} {ps = ps} last said cycle why {end} all is so stands read 
 -- ---- a night
 
 -- from the checkpoint that was there
-begins_stays : {create : Bool} {c : Content} {start : Checkpoint} → BeginsAt create c start → (k : Checkpoint) → IsAt k c → StaysTaken (begun k.cursor).state (reached start)
+begins_stays : {further : Further} {create : Bool} {c : Content} {start : Checkpoint} → BeginsAt further create c start → (k : Checkpoint) → IsAt k c → StaysTaken (begun k.cursor).state (reached start)
 begins_stays (first new there) k here = let none = sym new.none ∙ here.is in absurd (cc none)
-begins_stays {start = then} (further was found there) k here =
+begins_stays {start = then} (stored was found there) k here =
     let same : was ≡ k = at_once found here in
     let reach : reached then ≡ reached k = ap (λ (x : Position). reached_in x.phase x.cursor) there ∙ ap reached same in
     subst (StaysTaken (begun k.cursor).state) (sym reach) (begun_reached k)
 
-module _ {s t u : Store} {create : Bool} {old : Content} {start : Checkpoint} (root : StorageRoot) (p : Counts s t) (q : Counts t u) (none : content_since root s t ≡ []) (begins : BeginsAt create old start) where
-  pub night_beyond : AreBeyond (reached start) (content_since root t u) → ReadsBeyond old (content_since root s u)
-  night_beyond all k here = beyond_by (content_last_alone root p q none) (beyond_from (begins_stays begins k here) all)
+module _ {s t u : Store} {create : Bool} {old : Content} {start : Checkpoint} (further : Further) (root : StorageRoot) (p : Counts s t) (q : Counts t u) (none : content_since further root s t ≡ []) (begins : BeginsAt further create old start) where
+  pub night_beyond : AreBeyond (reached start) (content_since further root t u) → ReadsBeyond old (content_since further root s u)
+  night_beyond all k here = beyond_by (content_last_alone further root p q none) (beyond_from (begins_stays begins k here) all)
 
-  pub night_read : {new : Content} {end : Halt} → IsReadTo t u (reached start) end new (content_since root t u) → IsRead s u end old new (content_since root s u)
+  pub night_read : {new : Content} {end : Halt} → IsReadTo t u (reached start) end new (content_since further root t u) → IsRead s u end old new (content_since further root s u)
   night_read h = record {
     last = h.last;
     at = h.at;
     stays = λ k here. record { each = λ x is. h.stays.each x ((begins_stays begins k here).each x is) };
-    once = λ unfailing. once_by (content_last_alone root p q none) (h.once (unfailing_last root p q unfailing));
+    once = λ unfailing. once_by (content_last_alone further root p q none) (h.once (unfailing_last further root p q unfailing));
   }
 
 -- one that was not begun does not end so

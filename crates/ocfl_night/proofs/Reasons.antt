@@ -11,6 +11,7 @@ use Rattle.ocfl_state.specs.declared.checkpoint_parts.ReportMark.{ReportMark}
 use Rattle.ocfl_state.specs.{Pieces.{summary_of}, declared.checkpoint_parts.Left.{Left}}
 use Rattle.ocfl_state.specs.declared.checkpoint_parts.{Phase.{Phase}, Phase.TheVariants.{Open, Closing}}
 use Rattle.ocfl_state.specs.declared.folder.FolderTrouble.TheVariants.{Failed, Full, Taken, Memory}
+use Rattle.ocfl_report.specs.declared.further.Further.{Further}
 use Rattle.ocfl_night.specs.{Beginning.{BeginsAt}, Done.{Done}, Ending.{IsSlice, cycle_in, cycle_of, ended_by, place_or_pause, unbegun_by}, Leaving.{LeadsOn, done_by, end_of, has_end, remedy_at}}
 use Rattle.ocfl_terms.specs.Counting.{counted}
 use Rattle.ocfl_night.specs.{Chain.{past}, Looks.{Rounds}, Site.{IsAlike}, Sound.{Stands}, Steps.{IsNext, begun_anew, with_all_told}}
@@ -212,7 +213,7 @@ pub put_first : (k : Checkpoint) → IsPutFrom k k
 put_first k = record { alike = alike_self k; cycle = inl refl }
 
 pub put_self : (k : Checkpoint) {l : Checkpoint} → l ≡ with_all_told k → IsPutFrom k l
-put_self k same = record { alike = alike_as k same (record { root = refl; names = refl; part = refl }); cycle = inl (ap cycle_of same) }
+put_self k same = record { alike = alike_as k same (record { root = refl; names = refl; part = refl; checks = refl }); cycle = inl (ap cycle_of same) }
 
 pub put_on : {first k l : Checkpoint} → IsAlike first k → cycle_of k ≡ cycle_of first → IsPutFrom k l → IsPutFrom first l
 put_on {first} {k} {l} alike same put = record { alike = alike_on alike put.alike; cycle = by put.cycle }
@@ -223,14 +224,14 @@ put_on {first} {k} {l} alike same put = record { alike = alike_on alike put.alik
 
 -- after a run
 pub put_run : {k l : Checkpoint} {limits : Limits} → k.phase ≡ Open → IsRunBy k limits l → IsPutFrom k l
-put_run going r = record { alike = next_alike r.1.1; cycle = inl (cycle_next going r.1.0 r.1.1.1) }
+put_run going r = record { alike = next_alike r.1.0 r.1.1; cycle = inl (cycle_next going r.1.0 r.1.1.1) }
 
 -- after a slice that stopped at a place
 pub put_passed : {k l : Checkpoint} {limits : Limits} {made : Made} → k.phase ≡ Open → IsSlice k limits made → IsPassedBy made l → IsPutFrom k l
 put_passed {made = made} going is passed =
     let same = passed.1.1 in
     put_on (made_alike is) (made_in going is)
-    (record { alike = alike_as made.checkpoint same (record { root = refl; names = refl; part = refl }); cycle = inl (ap cycle_of same) })
+    (record { alike = alike_as made.checkpoint same (record { root = refl; names = refl; part = refl; checks = refl }); cycle = inl (ap cycle_of same) })
 
 -- it tells no more than its report has if that of the slice does not
 pub passed_within : {l : Checkpoint} (made : Made) → made.checkpoint.told ≤ made.checkpoint.report.bytes → IsPassedBy made l → l.told ≤ l.report.bytes
@@ -244,7 +245,7 @@ next_cycle k ended = inr refl
 
 pub put_anew : (k : Checkpoint) {l : Checkpoint} → l ≡ begun_anew k → IsPutFrom k l
 put_anew k {l} same = record {
-  alike = alike_as k same (record { root = refl; names = refl; part = refl });
+  alike = alike_as k same (record { root = refl; names = refl; part = refl; checks = refl });
   cycle = by k.phase refl (next_cycle k k.cursor.state);
 }
   where
@@ -366,7 +367,7 @@ set_out_reason Told IsUnreadAt One Two night old new why wider is =
     other Output it is = is
 
 -- or before them
-pub caught_reason : (One Two : Type 0) (IsUnreadAt : Place → Type 0) (IsOf : Checkpoint → Type 0) (night : Course) (k : Checkpoint) (c : Content) (s0 s1 : Said) (old mid new : ℕ) (why : Stop) → IsOf (with_all_told k) → (Two → BeginsAt night.create night.content k) → (Two → One) → (Two → old ≤ mid) → (Two → (rounds : Rounds) × ((t : Text) × Stands rounds t k c)) → (HasFailed s0.failures s1.failures → HasFailed night.old.failures night.new.failures)
+pub caught_reason : (One Two : Type 0) (IsUnreadAt : Place → Type 0) (IsOf : Checkpoint → Type 0) (night : Course) (k : Checkpoint) (c : Content) (s0 s1 : Said) (old mid new : ℕ) (why : Stop) → IsOf (with_all_told k) → (Two → BeginsAt night.further night.create night.content k) → (Two → One) → (Two → old ≤ mid) → (Two → (rounds : Rounds) × ((t : Text) × Stands rounds t k c)) → (HasFailed s0.failures s1.failures → HasFailed night.old.failures night.new.failures)
     → IsReason One (ForSpeak k c s0 s1) mid new why → IsReason Two (ForNight IsUnreadAt IsOf night) old new why
 caught_reason One Two IsUnreadAt IsOf night k c s0 s1 old mid new why own begins given before stands silenced is =
     reason_on (ForSpeak k c s0 s1) (ForNight IsUnreadAt IsOf night) old mid new given before why (λ two no. absurd no) (other why) is
@@ -383,12 +384,12 @@ caught_reason One Two IsUnreadAt IsOf night k c s0 s1 old mid new why own begins
     other Output it is = silenced is
 
 -- of a night that was not begun, by how many runs it answers
-pub unbegun_reason : (One Two : Type 0) (IsUnreadAt : Place → Type 0) (IsOf : Checkpoint → Type 0) (create : Bool) (c : Content) (m n : ℕ) (s0 s1 : Said) (old new : ℕ) (why : Stop) → (Two → One) → m ≡ n
-    → IsReason One (ForNight IsUnreadAt IsOf (course create c m s0 s1)) old new why → IsReason Two (ForNight IsUnreadAt IsOf (course create c n s0 s1)) old new why
-unbegun_reason One Two IsUnreadAt IsOf create c m n s0 s1 old new why given same is =
-    reason_on (ForNight IsUnreadAt IsOf (course create c m s0 s1)) (ForNight IsUnreadAt IsOf (course create c n s0 s1)) old old new given (λ two. omega arith) why (λ two long. long) (other why) is
+pub unbegun_reason : (One Two : Type 0) (IsUnreadAt : Place → Type 0) (IsOf : Checkpoint → Type 0) (further : Further) (create : Bool) (c : Content) (m n : ℕ) (s0 s1 : Said) (old new : ℕ) (why : Stop) → (Two → One) → m ≡ n
+    → IsReason One (ForNight IsUnreadAt IsOf (course further create c m s0 s1)) old new why → IsReason Two (ForNight IsUnreadAt IsOf (course further create c n s0 s1)) old new why
+unbegun_reason One Two IsUnreadAt IsOf further create c m n s0 s1 old new why given same is =
+    reason_on (ForNight IsUnreadAt IsOf (course further create c m s0 s1)) (ForNight IsUnreadAt IsOf (course further create c n s0 s1)) old old new given (λ two. omega arith) why (λ two long. long) (other why) is
   where
-    other : (w : Stop) → IsElse w → ForNight IsUnreadAt IsOf (course create c m s0 s1) One w → ForNight IsUnreadAt IsOf (course create c n s0 s1) Two w
+    other : (w : Stop) → IsElse w → ForNight IsUnreadAt IsOf (course further create c m s0 s1) One w → ForNight IsUnreadAt IsOf (course further create c n s0 s1) Two w
     other (Folder x) it is = absurd it
     other (TooLong text) it is = too_long (λ l put. (put.0, λ two. put.1 (given two))) is
     other (Unread p) it is = is
@@ -400,7 +401,7 @@ unbegun_reason One Two IsUnreadAt IsOf create c m n s0 s1 old new why given same
     other Output it is = is
 
 -- of the runs of one that was
-pub night_reason : (One Two Silenced : Type 0) (IsUnreadAt : Place → Type 0) (IsOf : Checkpoint → Type 0) (night : Course) (first : Checkpoint) (m old mid new : ℕ) (why : Stop) → ((l : Checkpoint) → IsAlike first l → IsOf l) → (Two → One) → (Two → old ≤ mid) → (Two → BeginsAt night.create night.content first) → (Silenced → HasFailed night.old.failures night.new.failures) → m ≡ night.runs
+pub night_reason : (One Two Silenced : Type 0) (IsUnreadAt : Place → Type 0) (IsOf : Checkpoint → Type 0) (night : Course) (first : Checkpoint) (m old mid new : ℕ) (why : Stop) → ((l : Checkpoint) → IsAlike first l → IsOf l) → (Two → One) → (Two → old ≤ mid) → (Two → BeginsAt night.further night.create night.content first) → (Silenced → HasFailed night.old.failures night.new.failures) → m ≡ night.runs
     → IsReason One (ForRuns Silenced first m) mid new why → IsReason Two (ForNight IsUnreadAt IsOf night) old new why
 night_reason One Two Silenced IsUnreadAt IsOf night first m old mid new why own given before begins silenced same is =
     reason_on (ForRuns Silenced first m) (ForNight IsUnreadAt IsOf night) old mid new given before why (λ two no. absurd no) (other why) is

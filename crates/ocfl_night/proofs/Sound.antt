@@ -1,10 +1,11 @@
 -- What the steps of a night keep.
 use Rattle.std.proofs.Common.{◌≡◌, ◌≢◌, ◌⊎◌, inl, inr, ℕ, ◌-◌, ◌≤◌, List, [], ◌∷◌, ◌++◌, length, take, drop, Option, None, MatchOption, Bool, ◌&&◌, refl, sym, ◌∙◌, ap, subst, arith, append_assoc, length-append, true, false, take-append-drop}
 use Rattle.std.proofs.lemmas.List.{append-nil, take_all, take-append-le, length-drop}
-use Rattle.ocfl_tree.specs.Place.{Text, Place}
-use Rattle.ocfl_rules.specs.{Lines.{is_empty}, Parts.{Part}}
+use Rattle.ocfl_tree.specs.{Place.{Text, Place}, StorageRoot.{StorageRoot}}
+use Rattle.ocfl_report.specs.declared.further.Further.{Further}
+use Rattle.ocfl_rules.specs.{Lines.{is_empty}, Parts.{Part}, Trail.{unread_of}}
 use Rattle.ocfl_cursor.specs.Cursor.{Cursor}
-use Rattle.ocfl_scrub.specs.{Running.{place_in, begun}, declared.running.RunEnd.{RunEnd}}
+use Rattle.ocfl_scrub.specs.{Joining.{Ran}, Running.{place_in, begun}, declared.running.RunEnd.{RunEnd}}
 use Rattle.ocfl_scrub.specs.declared.running.RunStatus.{RunStatus}
 use Rattle.ocfl_scrub.specs.declared.running.RunStatus.TheVariants as status
 use Rattle.ocfl_state.specs.Checkpoint.{Checkpoint}
@@ -18,8 +19,8 @@ use Rattle.ocfl_state.specs.declared.checkpoint_parts.RootIdentity.{RootIdentity
 use Rattle.ocfl_state.specs.declared.checkpoint_parts.TopNames.{TopNames}
 use Rattle.ocfl_state.specs.declared.folder.StateFolder as state
 use Rattle.ocfl_state.proofs.CheckpointTexts.{text_determines}
-use Rattle.ocfl_night.specs.Chain.{AreNextIn, RootRun, joined, look_of, part_after, LeadTo, EndAt, LedBy, LedToEnd, HasRuns, IsReportOf, HasClosed}
-use Rattle.ocfl_night.specs.Looks.{IfGiven, IsOneOf, IsWithin, Look, Rounds}
+use Rattle.ocfl_night.specs.Chain.{AreNextIn, NoneLost, RootRun, joined, look_of, part_after, LeadTo, EndAt, LedBy, LedToEnd, HasRuns, IsReportOf, HasClosed}
+use Rattle.ocfl_night.specs.Looks.{IfGiven, IsNoMore, IsOneOf, IsRootOf, IsWithin, Look, Rounds}
 use Rattle.ocfl_night.specs.Sound.{closed_text, IsOpen, IsClosing, IsMoved, Stands, IsNew, IsMarked, IsSoundAt, IsAt, IsSettled, IsReady, IsOneMore, IsShut}
 use Rattle.ocfl_night.specs.{Site.{first_checkpoint}, declared.site.Site.{Site}}
 use Rattle.ocfl_identity.specs.declared.identity.Identity.{Identity}
@@ -27,7 +28,7 @@ use Rattle.ocfl_night.specs.Promises.{IsBranchNext}
 use Rattle.ocfl_night.specs.Steps.{begun_anew, closes_whole, left_at, with_left, KeepsFront, MayCheckpoint, IsCheckpointPut, IsMoveDone, MayMoveAt, IsRun, IsNext, unsaid, with_all_told}
 use Rattle.ocfl_night.proofs.Looks.{given_on, given_so, one_of_on}
 use Rattle.ocfl_night.proofs.Moments.{OnlyNow, leaves, left_after, joined_moments, only_same}
-use Rattle.ocfl_night.proofs.Chains.{next_on, led_on, led_to_end, leave_on, looked_on, joined_on, same_cycle, ended_cursor, next_cycle_begun, has_at, has_in, has_none, has_on, not_there, last_closed, closed_text_on, take_nothing}
+use Rattle.ocfl_night.proofs.Chains.{next_on, led_on, led_to_end, leave_on, looked_on, joined_on, run_checks, same_cycle, ended_cursor, next_cycle_begun, has_at, has_in, has_none, has_on, not_there, last_closed, closed_text_on, take_nothing}
 
 -- how long a report is of which a checkpoint has the summary
 pub long : (text : Text) (m : ReportMark) → m ≡ summary_of text → m.bytes ≡ length text
@@ -56,7 +57,7 @@ module _ {rounds : Rounds} {t : Text} {c : Content} where
   pub stands_as : {k : Checkpoint} {root : RootIdentity} {names : TopNames} {bytes : Option (List ℕ)} → Stands rounds t k c → Stands rounds t (record k { root = root; names = names }) (record c { checkpoint = bytes })
   stands_as (inl o) = inl (record { phase = o.phase; led = o.led; text = o.text; report = o.report; begins = o.begins; is_whole = o.is_whole; lossless = o.lossless; told = o.told; told_is = o.told_is; earlier = o.earlier })
   stands_as (inr (inl w)) = inr (inl (record { phase = w.phase; led = w.led; ends = w.ends; report = w.report; is_whole = w.is_whole; lossless = w.lossless; told = w.told; told_is = w.told_is; earlier = w.earlier }))
-  stands_as (inr (inr w)) = inr (inr (record { phase = w.phase; ends = w.ends; empty = w.empty; there = w.there; told = w.told; told_is = w.told_is; earlier = w.earlier }))
+  stands_as (inr (inr w)) = inr (inr (record { phase = w.phase; ends = w.ends; checks = w.checks; empty = w.empty; there = w.there; told = w.told; told_is = w.told_is; earlier = w.earlier }))
 
   pub renamed : {k next : Checkpoint} {root : RootIdentity} {names : TopNames} → next ≡ record k { root = root; names = names } → Stands rounds t k c → Stands rounds t next c
   renamed is stands = subst (λ (x : Checkpoint). Stands rounds t x c) (sym is) (stands_as stands)
@@ -130,6 +131,13 @@ module _ {rounds : Rounds} {t : Text} {k next : Checkpoint} {look : Look} {ran :
   abbrev r : RootRun
   r = record { root = look.root; run = e.run }
 
+  -- it checks what the rounds do
+  made : Ran rounds.further look.root (part_after rounds.part k.left) k.cursor e.run
+  made = subst (λ (f : Further). Ran f look.root (part_after rounds.part k.left) k.cursor e.run) o.led.checks e.made
+
+  checks : next.cursor.further ≡ rounds.further
+  checks = ap (λ (x : Cursor). x.further) (n.cursor_is ∙ sym (ap (λ (x : RunEnd). x.cursor) e.ran_is)) ∙ run_checks rounds.further look.root (part_after rounds.part k.left) k.cursor e.run made ∙ o.led.checks
+
   now : c.report ≡ o.text ++ e.run.report
   now = ap (λ (x : Content). x.report) grown ∙ ap (λ (l : Text). d.report ++ l) e.lines_are ∙ ap (λ (l : Text). l ++ e.run.report) (exact_text o exact)
 
@@ -159,32 +167,33 @@ module _ {rounds : Rounds} {t : Text} {k next : Checkpoint} {look : Look} {ran :
   lossless : IfGiven rounds.known (next.whole ≡ true)
   lossless = given_on rounds.known (λ sure. ap (λ (x : Checkpoint). x.whole) n.rest_is ∙ sure) o.lossless
 
-  led_by : (Last : Part → Cursor → List RootRun → Cursor → Type 0) {last : Cursor} → last ≡ next.cursor → LedBy Last rounds.part o.led.first (o.led.runs ++ r ∷ []) k.left last → HasRuns Last rounds next.left next.cursor
+  led_by : (Last : Further → Part → Cursor → List RootRun → Cursor → Type 0) {last : Cursor} → last ≡ next.cursor → LedBy Last rounds.further rounds.part o.led.first (o.led.runs ++ r ∷ []) k.left last → HasRuns Last rounds next.left next.cursor
   led_by Last {last} is chain = record {
     first = o.led.first;
     runs = o.led.runs ++ r ∷ [];
     starts = o.led.starts;
-    chain = subst (LedBy Last rounds.part o.led.first (o.led.runs ++ r ∷ []) next.left) is (subst (λ (left : List Left). LedBy Last rounds.part o.led.first (o.led.runs ++ r ∷ []) left last) (sym (ap (λ (x : Checkpoint). x.left) n.rest_is)) chain);
-    next = subst (AreNextIn rounds.known rounds.part) (sym (ap (λ (x : Checkpoint). x.left) n.rest_is)) o.led.next;
-    looked = looked_on rounds.known o.led.runs r o.led.looked (one_of_on rounds.known within one);
+    checks = checks;
+    chain = subst (LedBy Last rounds.further rounds.part o.led.first (o.led.runs ++ r ∷ []) next.left) is (subst (λ (left : List Left). LedBy Last rounds.further rounds.part o.led.first (o.led.runs ++ r ∷ []) left last) (sym (ap (λ (x : Checkpoint). x.left) n.rest_is)) chain);
+    next = subst (AreNextIn rounds.further rounds.known rounds.part) (sym (ap (λ (x : Checkpoint). x.left) n.rest_is)) o.led.next;
+    looked = looked_on rounds.further rounds.known o.led.runs r o.led.looked (one_of_on rounds.known within one);
   }
     where
-      within : IsWithin (look_of r) look
-      within = record { root = refl; unread = e.looked }
+      within : IsWithin (look_of rounds.further r) look
+      within = record { root = refl; unread = subst (λ (f : Further). IsNoMore (unread_of f look.root e.run.opened) look.unread) o.led.checks e.looked }
 
   goes : e.run.ran.end ≢ status.Ended → After_run rounds t next c
   unfolding led_by
   goes not_ended =
       let open_now : IsOpen rounds t next c = record {
         phase = n.goes_on (λ is. not_ended (ap (λ (x : RunEnd). x.end) e.ran_is ∙ is));
-        led = led_by LeadTo (ap (λ (x : RunEnd). x.cursor) e.ran_is ∙ sym n.cursor_is) (led_on rounds.part o.led.first k.cursor o.led.runs k.left r o.led.chain e.made not_ended);
+        led = led_by LeadTo (ap (λ (x : RunEnd). x.cursor) e.ran_is ∙ sym n.cursor_is) (led_on rounds.further rounds.part o.led.first k.cursor o.led.runs k.left r o.led.chain made not_ended);
         text = c.report;
         report = n.report_is;
         begins = ([], sym (append-nil c.report));
         is_whole = whole;
         lossless = lossless;
         told = told;
-        earlier = has_at (sym (same_cycle look.root (part_after rounds.part k.left) k.cursor e.run e.made not_ended) ∙ ap (λ (x : RunEnd). (begun x.cursor).cycle) e.ran_is ∙ ap (λ (x : Cursor). (begun x).cycle) (sym n.cursor_is)) (has_in closed o.earlier);
+        earlier = has_at (sym (same_cycle rounds.further look.root (part_after rounds.part k.left) k.cursor e.run made not_ended) ∙ ap (λ (x : RunEnd). (begun x.cursor).cycle) e.ran_is ∙ ap (λ (x : Cursor). (begun x).cycle) (sym n.cursor_is)) (has_in closed o.earlier);
         told_is = told_text;
       } in
       record { stands = inl open_now; exact = λ is. sym counted }
@@ -192,12 +201,12 @@ module _ {rounds : Rounds} {t : Text} {k next : Checkpoint} {look : Look} {ran :
   ends : e.run.ran.end ≡ status.Ended → After_run rounds t next c
   unfolding led_by
   ends is =
-      let at = ended_cursor look.root (part_after rounds.part k.left) k.cursor e.run e.made is in
+      let at = ended_cursor rounds.further look.root (part_after rounds.part k.left) k.cursor e.run made is in
       let cursor : e.run.ran.cursor ≡ next.cursor = ap (λ (x : RunEnd). x.cursor) e.ran_is ∙ sym n.cursor_is in
       let phase : next.phase ≡ Closing = n.ended (sym (ap (λ (x : RunEnd). x.end) e.ran_is) ∙ is) in
       let closing_now : IsClosing rounds t next c = record {
         phase = phase;
-        led = led_by EndAt cursor (led_to_end rounds.part o.led.first k.cursor o.led.runs k.left r o.led.chain e.made is);
+        led = led_by EndAt cursor (led_to_end rounds.further rounds.part o.led.first k.cursor o.led.runs k.left r o.led.chain made is);
         ends = ap (λ (x : Cursor). x.state) (sym cursor) ∙ at.0;
         report = n.report_is;
         is_whole = whole;
@@ -303,10 +312,10 @@ cut_open {k = k} {d} {c} is h cut =
     (record { at = moved_at (ap (λ (x : Content). x.checkpoint) cut) h.at; stands = inl open_still }, ap length report ∙ sym counted)
 
 -- there is nothing of a cycle's report yet
-fresh_stands : {rounds : Rounds} {t : Text} {c : Content} (k : Checkpoint) → place_in k.cursor.state ≡ None → (earlier : HasClosed rounds (begun k.cursor).cycle c.closed) → t ≡ closed_text earlier.all → Stands rounds t (begun_anew k) c
-fresh_stands {rounds} {c = c} k starts earlier told_is = inl (record {
+fresh_stands : {rounds : Rounds} {t : Text} {c : Content} (k : Checkpoint) → place_in k.cursor.state ≡ None → k.cursor.further ≡ rounds.further → (earlier : HasClosed rounds (begun k.cursor).cycle c.closed) → t ≡ closed_text earlier.all → Stands rounds t (begun_anew k) c
+fresh_stands {rounds} {c = c} k starts checks earlier told_is = inl (record {
   phase = refl;
-  led = record { first = k.cursor; runs = []; starts = starts; chain = refl; next = tt; looked = tt };
+  led = record { first = k.cursor; runs = []; starts = starts; checks = checks; chain = refl; next = tt; looked = tt };
   text = [];
   report = refl;
   begins = (c.report, refl);
@@ -318,10 +327,10 @@ fresh_stands {rounds} {c = c} k starts earlier told_is = inl (record {
 })
 
 -- the first checkpoint
-pub first_stands : {rounds : Rounds} {k : Checkpoint} {c : Content} (site : Site) (id : Identity) → k ≡ first_checkpoint site id → IsNew [] c → Stands rounds [] k c
-first_stands {rounds} {k} {c} site id is new =
+pub first_stands : {rounds : Rounds} {k : Checkpoint} {c : Content} (site : Site) (id : Identity) → rounds.further ≡ site.further → k ≡ first_checkpoint site id → IsNew [] c → Stands rounds [] k c
+first_stands {rounds} {k} {c} site id checks is new =
     subst (λ (x : Checkpoint). Stands rounds [] x c) (sym is)
-    (fresh_stands (first_checkpoint site id) refl (has_none new.closed) refl)
+    (fresh_stands (first_checkpoint site id) refl (sym checks) (has_none new.closed) refl)
 
 -- ---- closing
 
@@ -347,7 +356,8 @@ module _ {rounds : Rounds} {t : Text} {k : Checkpoint} {d : Content} where
       first = w.led.first;
       runs = w.led.runs;
       starts = w.led.starts;
-      chain = subst (λ (l : List Left). LedToEnd rounds.part w.led.first w.led.runs l k.cursor) both.1 w.led.chain;
+      checks = w.led.checks;
+      chain = subst (λ (l : List Left). LedToEnd rounds.further rounds.part w.led.first w.led.runs l k.cursor) both.1 w.led.chain;
       next = tt;
       looked = w.led.looked;
     };
@@ -368,6 +378,7 @@ module _ {rounds : Rounds} {t : Text} {k : Checkpoint} {d : Content} where
         record {
           phase = is;
           ends = w.ends;
+          checks = w.led.checks;
           empty = ap (λ (y : Content). y.report) put;
           there = ap (λ (l : List Closed). is_closed l k.cursor.cycle) closed ∙ last_closed d.closed x;
           told = told;
@@ -395,7 +406,7 @@ module _ {rounds : Rounds} {t : Text} {k : Checkpoint} {d : Content} where
 pub next_stands : {rounds : Rounds} {t : Text} {k next : Checkpoint} {c : Content} → next ≡ begun_anew k → IsMoved rounds t k c → Stands rounds t next c
 next_stands {rounds} {t} {k} {next} {c} is w =
     subst (λ (x : Checkpoint). Stands rounds t x c) (sym is)
-    (fresh_stands k (ap place_in w.ends) (has_at (sym (next_cycle_begun k.cursor w.ends)) w.earlier) w.told_is)
+    (fresh_stands k (ap place_in w.ends) w.checks (has_at (sym (next_cycle_begun k.cursor w.ends)) w.earlier) w.told_is)
 
 -- ---- leaving a branch out
 
@@ -404,9 +415,11 @@ pub left_stands : {rounds : Rounds} {t : Text} {k next : Checkpoint} {c : Conten
     → Stands rounds t next c
 left_stands {rounds} {t} {k} {c = c} branch same is none stands =
     let o = open_of is stands in
-    let chain = leave_on rounds.part o.led.first k.cursor o.led.runs k.left (left_at branch k) o.led.chain refl in
+    let next : (root : StorageRoot) × (IsRootOf rounds.known root × NoneLost rounds.further root (part_after rounds.part k.left) (place_in k.cursor.state) branch) =
+    (none.0, (none.1.0, subst (λ (f : Further). NoneLost f none.0 (part_after rounds.part k.left) (place_in k.cursor.state) branch) o.led.checks none.1.1)) in
+    let chain = leave_on rounds.further rounds.part o.led.first k.cursor o.led.runs k.left (left_at branch k) o.led.chain refl in
     subst (λ (x : Checkpoint). Stands rounds t x c) (sym same)
-    (inl (record { phase = o.phase; led = record { first = o.led.first; runs = o.led.runs; starts = o.led.starts; chain = chain; next = next_on rounds.known rounds.part k.left (left_at branch k) o.led.next none; looked = o.led.looked }; text = o.text; report = o.report; begins = o.begins; is_whole = o.is_whole; lossless = o.lossless; told = o.told; told_is = o.told_is; earlier = o.earlier }))
+    (inl (record { phase = o.phase; led = record { first = o.led.first; runs = o.led.runs; starts = o.led.starts; checks = o.led.checks; chain = chain; next = next_on rounds.further rounds.known rounds.part k.left (left_at branch k) o.led.next next; looked = o.led.looked }; text = o.text; report = o.report; begins = o.begins; is_whole = o.is_whole; lossless = o.lossless; told = o.told; told_is = o.told_is; earlier = o.earlier }))
 
 -- ---- saying
 

@@ -1,7 +1,7 @@
 -- Where a run stopped: no item that is left is before the branch of that place.
-use Rattle.std.proofs.Common.{◌≡◌, ◌++◌, ◌∷◌, ◌∙◌, ◌-◌, [], List, Option, Some, None, Bool, true, false, inl, ap, refl, subst, sym, arith, append-nil, take, drop, length, length-append}
+use Rattle.std.proofs.Common.{◌≡◌, ◌++◌, ◌∷◌, ◌∙◌, ◌-◌, [], List, Option, Some, None, Bool, true, false, inl, inr, ap, refl, subst, sym, arith, append-nil, append_assoc, take, drop, length, length-append}
 use Rattle.std.proofs.lemmas.{Bool.{or_right}, List.{take_all, take-append-drop, take-append-le}}
-use Rattle.std.specs.{Prelude.{◌||◌, IfOk, Result, Err, Ok, not, if◌then◌else◌}, Ordering.{is_lt}}
+use Rattle.std.specs.{Prelude.{◌||◌, ◌⊎◌, IfOk, Result, Err, Ok, codes, not, if◌then◌else◌}, Ordering.{is_lt}}
 use Rattle.ocfl_tree.specs.{Place.{Place, Text, place_cmp, text_eq}, Ascending.{IsAmong}}
 use Rattle.ocfl_tree.specs.{StorageRoot.{StorageRoot}, Store.{Store}}
 use Rattle.ocfl_tree.specs.{Calls.{opening}, declared.store.Opening.{Opening}}
@@ -14,12 +14,16 @@ use Rattle.ocfl_rules.specs.Head.{sidecar_name}
 use Rattle.ocfl_rules.specs.Parts.{Part}
 use Rattle.ocfl_rules.specs.Inventories.{is_hashed}
 use Rattle.ocfl_rules.specs.Lines.{is_inventory_or_sidecar}
-use Rattle.ocfl_rules.specs.Trail.{content_openings, is_meta, is_meta_zone, is_object_meta, is_root_meta}
+use Rattle.ocfl_rules.specs.Trail.{content_openings, is_common_meta, is_meta, is_meta_zone, is_object_meta, is_root_meta}
 use Rattle.ocfl_rules.specs.Zone.{Zone, skipped, hierarchy, inside, inventory_name, zone}
+use Rattle.ocfl_report.specs.declared.further.Further.TheVariants.{Nothing, Inventories}
+use Rattle.ocfl_rules.specs.{Inventories.{is_version_sidecar}, Objects.{IsVersionSidecar}}
 use Rattle.ocfl_rules.proofs.AuditExists.{zone_is}
+use Rattle.ocfl_rules.proofs.MetaLaws.{version_sidecar_is}
+use Rattle.ocfl_night.proofs.Chains.{run_checks}
 use Rattle.ocfl_rules.proofs.BelowLaws.{cmp_behind, text_from_test}
 use Rattle.ocfl_rules.proofs.BranchLaws.{nothing_above}
-use Rattle.ocfl_item.specs.{Auditing.{Fails, FailedAt, in_listing, in_opening}}
+use Rattle.ocfl_item.specs.{Auditing.{Fails, FailedAt, LiesIn, LiesNear, in_listing, in_opening}}
 use Rattle.ocfl_item.specs.declared.fault.Fault.TheVariants as fault
 use Rattle.ocfl_cursor.specs.Cursor.{Cursor}
 use Rattle.ocfl_scrub.specs.Joining.{PartRun, Ran}
@@ -32,12 +36,13 @@ use Rattle.ocfl_scrub.proofs.PassLaws.{not_less_or}
 use Rattle.ocfl_scrub.specs.declared.running.RunEnd.{RunEnd}
 use Rattle.ocfl_state.specs.{Checkpoint.{Checkpoint}, declared.checkpoint_parts.Left.{Left}}
 use Rattle.ocfl_state.specs.declared.checkpoint_parts.ReportMark.{ReportMark}
-use Rattle.ocfl_night.specs.{Chain.{NoneBefore, part_after}, Ending.{IsAway, IsMadeBy, IsUnkept, place_or_pause, slice_end}}
+use Rattle.ocfl_night.specs.{Chain.{NoneLost, part_after}, Ending.{IsAway, IsMadeBy, IsUnkept, place_or_pause, slice_end}}
 use Rattle.ocfl_night.specs.{Looks.{Look}, Promises.{StopsNextOver}, Steps.{IsNext, IsRun}}
 use Rattle.ocfl_terms.specs.{declared.made.Made.{Made}, declared.made.SliceEnd.{SliceEnd}, declared.stop.Stop.{Stop}}
 use Rattle.ocfl_terms.specs.declared.made.SliceEnd.TheVariants as slice
 use Rattle.ocfl_night.specs.Leaving.{branch_at, is_of_inventory, last_name, speaks_for_object}
 use Rattle.ocfl_night.proofs.Branches.{last_of}
+use Rattle.ocfl_report.specs.declared.further.Further.{Further}
 
 -- ---- the branch of a place
 
@@ -79,7 +84,7 @@ object_file n h = by (is_declaration Object n) refl h
     by true e k = or_right (is_of_inventory n) (is_declaration Object n) e
     by false e k = or_left (is_of_inventory n) (is_declaration Object n) (inventory_file n k)
 
-module _ (root : StorageRoot) (q : Place) where
+module _ (further : Further) (root : StorageRoot) (q : Place) where
   in_object : (o s : Place) → zone root q ≡ inside o s → is_object_meta s ≡ true → speaks_for_object (last_name q) ≡ true
   in_object o [] e h = absurd (true_not_false (sym h))
   in_object o (k ∷ []) e h = ap speaks_for_object (last_of q o k (zone_is root q o (k ∷ []) e).whole) ∙ object_file k h
@@ -90,14 +95,33 @@ module _ (root : StorageRoot) (q : Place) where
   in_zone hierarchy e h = absurd (true_not_false (sym h))
   in_zone (inside o s) e h = in_object o s e h
 
-  speaks : is_meta None root q ≡ true → (is_root_meta q || speaks_for_object (last_name q)) ≡ true
-  speaks h = by (is_root_meta q) refl h
+  common_speaks : is_common_meta root q ≡ true → (is_root_meta q || speaks_for_object (last_name q)) ≡ true
+  common_speaks h = by (is_root_meta q) refl h
     where
       by : (b : Bool) → is_root_meta q ≡ b → (b || is_meta_zone (zone root q)) ≡ true → (is_root_meta q || speaks_for_object (last_name q)) ≡ true
       by true e k = or_left (is_root_meta q) (speaks_for_object (last_name q)) e
       by false e k = or_right (is_root_meta q) (speaks_for_object (last_name q)) (in_zone (zone root q) refl k)
 
-  meta_branch : (d : Place) (n : Text) → q ≡ d ++ n ∷ [] → is_meta None root q ≡ true → branch_at q ≡ d
+  -- the sidecar of a version's inventory speaks for that
+  named : (n : Text) → (n ≡ codes "inventory.json.sha256") ⊎ (n ≡ codes "inventory.json.sha512") → speaks_for_object n ≡ true
+  named n (inl e) = ap speaks_for_object e
+  named n (inr e) = ap speaks_for_object e
+
+  sidecar_speaks : IsVersionSidecar root q → speaks_for_object (last_name q) ≡ true
+  sidecar_speaks k = ap speaks_for_object (last_of q (k.object ++ k.version ∷ []) k.name (k.whole ∙ sym (append_assoc k.object (k.version ∷ []) (k.name ∷ [])))) ∙ named k.name k.named
+
+  speaks : is_meta further root q ≡ true → (is_root_meta q || speaks_for_object (last_name q)) ≡ true
+  speaks h = by further h
+    where
+      either : (b : Bool) → is_common_meta root q ≡ b → (b || is_version_sidecar (zone root q)) ≡ true → (is_root_meta q || speaks_for_object (last_name q)) ≡ true
+      either true e k = common_speaks e
+      either false e k = or_right (is_root_meta q) (speaks_for_object (last_name q)) (sidecar_speaks ((version_sidecar_is root q).0 k))
+
+      by : (f : Further) → is_meta f root q ≡ true → (is_root_meta q || speaks_for_object (last_name q)) ≡ true
+      by Nothing k = common_speaks k
+      by Inventories k = either (is_common_meta root q) refl k
+
+  meta_branch : (d : Place) (n : Text) → q ≡ d ++ n ∷ [] → is_meta further root q ≡ true → branch_at q ≡ d
   meta_branch d n is h =
       let long : length q - 1 ≡ length d = omega (arith, ap length is, length-append d (n ∷ [])) in
       ap (λ (b : Bool). if b then take (length q - 1) q else q) (speaks h)
@@ -105,9 +129,9 @@ module _ (root : StorageRoot) (q : Place) where
 
 -- ---- the place at which a call failed
 
-hashed_there : (root : StorageRoot) (ps : List Place) (p : Place) → IsAmong (hashed_among None root ps) p → is_hashed None root p ≡ true
+hashed_there : (further : Further) (root : StorageRoot) (ps : List Place) (p : Place) → IsAmong (hashed_among further root ps) p → is_hashed further root p ≡ true
 unfolding hashed_among
-hashed_there root ps p i = (among_from_filter (is_hashed None root) ps p i).1
+hashed_there further root ps p i = (among_from_filter (is_hashed further root) ps p i).1
 
 -- of a directory that was listed its branch is that or is on the way to it, and of a file that was
 -- opened it is one of these directories
@@ -116,31 +140,31 @@ record IsListed (dirs : List Place) (q : Place) : Type 0 where
   pub among : IsAmong dirs dir
   pub ahead : (y : Place) → is_lt (place_cmp y dir) ≡ false → is_lt (place_cmp y (branch_at q)) ≡ false
 
-failed_listed : (root : StorageRoot) (s t : Store) (begun listed heads : List Place) (trail : List Opening) (q : Place) → Fails None root s t begun listed heads trail (Some q) → IsListed listed q
-failed_listed root s t begun listed heads trail q h = by (h.store q refl).1
+failed_listed : (further : Further) (root : StorageRoot) (s t : Store) (begun listed heads : List Place) (trail : List Opening) (q : Place) → further ≡ Nothing → Fails further root s t begun listed heads trail (Some q) → IsListed listed q
+failed_listed further root s t begun listed heads trail q plain h = by (h.store q refl).1
   where
-    by : FailedAt None root s t listed trail q → IsListed listed q
+    by : FailedAt further root s t listed trail q → IsListed listed q
     by (in_listing before is failed read) = record {
       dir = q;
       among = subst (λ ds. IsAmong ds q) (sym is) (among_right before (q ∷ []) q (inl refl));
       ahead = before_branch q;
     }
-    by (in_opening before given is none) = of (is_meta None root q) refl
+    by (in_opening before given is none) = of (is_meta further root q) refl
       where
         there : IsAmong trail (opening q given true)
         there = subst (λ os. IsAmong os (opening q given true)) (sym is) (among_right before (opening q given true ∷ []) (opening q given true) (inl refl))
 
-        of : (b : Bool) → is_meta None root q ≡ b → IsListed listed q
+        of : (b : Bool) → is_meta further root q ≡ b → IsListed listed q
         of true e =
-            let k = h.near (opening q given true) there e in
+            let k : LiesIn listed q = subst (λ (f : Further). LiesNear f root listed q) plain (h.near (opening q given true) there e) in
             record {
               dir = k.0;
               among = k.1.1.0;
-              ahead = λ y low. subst (λ b. is_lt (place_cmp y b) ≡ false) (sym (meta_branch root q k.0 k.1.0 k.1.1.1 e)) low;
+              ahead = λ y low. subst (λ b. is_lt (place_cmp y b) ≡ false) (sym (meta_branch further root q k.0 k.1.0 k.1.1.1 e)) low;
             }
         of false e =
-            let content : IsAmong (content_openings None root trail) (opening q given true) = among_filter (λ x. not (is_meta None root x.place)) trail (opening q given true) there (ap not e) in
-            let hashed = hashed_there root begun q (subst (λ l. IsAmong l q) h.opened (among_map (λ x. x.place) (content_openings None root trail) (opening q given true) content)) in
+            let content : IsAmong (content_openings further root trail) (opening q given true) = among_filter (λ x. not (is_meta further root x.place)) trail (opening q given true) there (ap not e) in
+            let hashed = hashed_there further root begun q (subst (λ l. IsAmong l q) h.opened (among_map (λ x. x.place) (content_openings further root trail) (opening q given true) content)) in
             absurd (true_not_false (sym hashed ∙ (h.store q refl).0))
 
 -- ---- a run that stopped there
@@ -149,18 +173,18 @@ place_left : (why : ReportStop) (last : Option Place) → place_in (state_after 
 place_left why None = refl
 place_left why (Some p) = refl
 
-pub none_before : (root : StorageRoot) (part : Part) (c : Cursor) (r : PartRun) (q : Place) → Ran root part c r → r.ran.end ≡ status.Stopped (report.Fault (fault.Store q))
-    → NoneBefore root part (place_in r.ran.cursor.state) (branch_at q)
-none_before root part c r q m is y i =
+pub none_before : (further : Further) (root : StorageRoot) (part : Part) (c : Cursor) (r : PartRun) (q : Place) → Ran further root part c r → r.ran.end ≡ status.Stopped (report.Fault (fault.Store q))
+    → NoneLost further root part (place_in r.ran.cursor.state) (branch_at q)
+none_before further root part c r q m is plain y i =
     let h = m.runs in
     let why : ReportStop = report.Fault (fault.Store q) in
-    let call = known_call root m.before m.behind m.old (m.old ++ (r.report ++ m.cut)) in
+    let call = known_call further root m.before m.behind m.old (m.old ++ (r.report ++ m.cut)) in
     let w : RunStopsWithin call part (place_in c.state) h.last r.limits r.ran.spent r.ran.files r.ran.found why =
     subst (λ (e : RunStatus). RunEndsWithin call part (place_in c.state) h.last r.limits r.ran.spent r.ran.files r.ran.found e) is h.run in
     let stood : place_in r.ran.cursor.state ≡ h.last =
     ap (λ (x : Cursor). place_in x.state) h.cursor_is ∙ ap (λ (e : RunStatus). place_in (state_after e h.last)) is ∙ place_left why h.last in
-    let at = failed_listed root m.before m.behind _ _ _ w.trail q w.looks.fails in
-    at.ahead y (w.ahead at.dir y at.among (subst (λ o. IsAmong (due_within root part o) y) stood i))
+    let at = failed_listed further root m.before m.behind _ _ _ w.trail q plain w.looks.fails in
+    at.ahead y (w.ahead at.dir y at.among (subst (λ o. IsAmong (due_within further root part o) y) stood i))
 
 -- ---- the same of a slice
 
@@ -189,9 +213,11 @@ pub made_stops : (root : StorageRoot) (part : Part) (k : Checkpoint) (look : Loo
 made_stops root part k look ran lines over run (Err e) next made = tt
 made_stops root part k look ran lines over run (Ok m) next made = λ p is.
     let stopped : ran.end ≡ status.Stopped (report.Fault (fault.Store p)) = stop_of ran.end p (ap place_or_pause (sym made.end) ∙ is) in
-    let none = none_before look.root (part_after part k.left) k.cursor run.run p run.made (ap (λ (x : RunEnd). x.end) run.ran_is ∙ stopped) in
+    let none = none_before k.cursor.further look.root (part_after part k.left) k.cursor run.run p run.made (ap (λ (x : RunEnd). x.end) run.ran_is ∙ stopped) in
     let cursor : run.run.ran.cursor ≡ m.checkpoint.cursor = ap (λ (x : RunEnd). x.cursor) run.ran_is ∙ sym next.1.cursor_is in
     let left : k.left ≡ m.checkpoint.left = sym (ap (λ (x : Checkpoint). x.left) next.1.rest_is) in
-    subst (λ (x : StorageRoot). NoneBefore x (part_after part m.checkpoint.left) (place_in m.checkpoint.cursor.state) (branch_at p)) over
-    (subst (λ (l : List Left). NoneBefore look.root (part_after part l) (place_in m.checkpoint.cursor.state) (branch_at p)) left
-    (subst (λ (x : Cursor). NoneBefore look.root (part_after part k.left) (place_in x.state) (branch_at p)) cursor none))
+    let checks : k.cursor.further ≡ m.checkpoint.cursor.further = sym (run_checks k.cursor.further look.root (part_after part k.left) k.cursor run.run run.made) ∙ ap (λ (x : Cursor). x.further) cursor in
+    subst (λ (x : StorageRoot). NoneLost m.checkpoint.cursor.further x (part_after part m.checkpoint.left) (place_in m.checkpoint.cursor.state) (branch_at p)) over
+    (subst (λ (f : Further). NoneLost f look.root (part_after part m.checkpoint.left) (place_in m.checkpoint.cursor.state) (branch_at p)) checks
+    (subst (λ (l : List Left). NoneLost k.cursor.further look.root (part_after part l) (place_in m.checkpoint.cursor.state) (branch_at p)) left
+    (subst (λ (x : Cursor). NoneLost k.cursor.further look.root (part_after part k.left) (place_in x.state) (branch_at p)) cursor none)))

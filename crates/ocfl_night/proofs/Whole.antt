@@ -70,7 +70,7 @@ grown_on {k} {l} {m} {a} {b} {c} p q = record {
 
 by_remedy : (p : Place) (d : Done) (k : Checkpoint) (r : Remedy) → LeadsOn k d.left (remedied d k p r).checkpoint (remedied d k p r).done.left
 by_remedy p d k remedy.TryAgain = record { alike = alike_self k; whole = refl; more = []; left = sym (append-nil k.left); named = refl }
-by_remedy p d k (remedy.LeaveOut branch) = record { alike = record { root = refl; names = refl; part = refl }; whole = refl; more = left_at branch k ∷ []; left = refl; named = refl }
+by_remedy p d k (remedy.LeaveOut branch) = record { alike = record { root = refl; names = refl; part = refl; checks = refl }; whole = refl; more = left_at branch k ∷ []; left = refl; named = refl }
 by_remedy p d k remedy.Halt = record { alike = alike_self k; whole = refl; more = []; left = sym (append-nil k.left); named = refl }
 
 after_grown : (strict : Bool) (d : Done) (k : Checkpoint) (at : Result Place (Option Pause)) → LeadsOn k d.left (after_end strict d k at).checkpoint (after_end strict d k at).done.left

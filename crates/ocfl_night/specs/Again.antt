@@ -2,6 +2,7 @@
 -- one file; and what its store was asked for besides.
 use Rattle.std.specs.Prelude.{◌≡◌, ◌≢◌, ◌⊎◌, ℕ, ◌<◌, ◌≤◌, List, [], ◌∷◌, ◌++◌, Bool, Err, Option, None, Some, length, ⊤}
 use Rattle.ocfl_tree.specs.{Place.{Place, place_cmp}, Ascending.{IsAscending}, StorageRoot.{StorageRoot}, Store.{Store}}
+use Rattle.ocfl_report.specs.declared.further.Further.{Further}
 use Rattle.ocfl_rules.specs.Parts.{Part}
 use Rattle.ocfl_cursor.specs.Cursor.{State}
 use Rattle.ocfl_state.specs.declared.folder.StateFolder as state
@@ -86,9 +87,9 @@ pub record IsLeg {F : Type 0} (root : StorageRoot) (part : Part) (S : state.Ghos
   pub goes_on : (why : Pause) → place_or_pause l.made.end ≢ Err (Some why)
   pub at : IsAt l.from (S.seen l.old)
   pub asked : AskedFrom root part (declaring root) l.met l.from (GaveAll l.from l.made) l.before l.after
-  pub opened : content_since root l.before l.after ≡ l.took ++ l.begun
+  pub opened : content_since l.from.cursor.further root l.before l.after ≡ l.took ++ l.begun
   pub few : AreFew l.made.end l.begun
-  pub once : IsAscending place_cmp (taken ++ content_since root l.before l.after)
+  pub once : IsAscending place_cmp (taken ++ content_since l.from.cursor.further root l.before l.after)
   pub crash : LeavesOnly S.moment S.left_since l.old l.new (λ c. IfThere c (HasDone cycle taken))
   pub led : LedTo l.made (S.seen l.new)
 
@@ -125,7 +126,7 @@ pub record IsLittleAgain {F : Type 0} (root : StorageRoot) (part : Part) (S : st
   pub at : IsAt from (S.seen left)
   pub met : Option Place
   pub walk : IsMetAfter legs met
-  pub once : IsAscending place_cmp (took_by legs ++ content_since root before t)
+  pub once : IsAscending place_cmp (took_by legs ++ content_since from.cursor.further root before t)
   pub crash : LeavesOnly S.moment S.left_since left folder (λ c. IfThere c (HasDone cycle (took_by legs)))
   pub events : List Event
   pub are_new : new ≡ old ++ events
@@ -135,9 +136,9 @@ pub record IsLittleAgain {F : Type 0} (root : StorageRoot) (part : Part) (S : st
   pub asked : AskedLast root part (declaring root) met from last before t
 
 -- from where a night begins, once it has looked at the root
-pub record IsLittleSince {F : Type 0} (create : Bool) (root : StorageRoot) (part : Part) (S : state.Ghosts F) (c : Content) (old new : List Event) (s t : Store) (folder : F) : Type 0 where
+pub record IsLittleSince {F : Type 0} (further : Further) (create : Bool) (root : StorageRoot) (part : Part) (S : state.Ghosts F) (c : Content) (old new : List Event) (s t : Store) (folder : F) : Type 0 where
   pub start : Checkpoint
-  pub begins : BeginsAt create c start
+  pub begins : BeginsAt further create c start
   pub there : Store
-  pub looked : HasLooked root s there
+  pub looked : HasLooked further root s there
   pub little : IsLittleAgain root part S (cycle_of start) old new there t folder

@@ -3,6 +3,7 @@
 use Rattle.std.specs.Prelude.{◌≡◌, ◌⊎◌, List, [], ◌∷◌, ◌++◌, Option, Some, None, ⊤}
 use Rattle.ocfl_tree.specs.{Listing.{entries_in}, Place.{Place, Text}, StorageRoot.{StorageRoot}}
 use Rattle.ocfl_tree.specs.{Store.{Store}, declared.store.Opening.{Opening}}
+use Rattle.ocfl_report.specs.declared.further.Further.{Further}
 use Rattle.ocfl_rules.specs.{Parts.{Part}, Runs.{Limits}}
 use Rattle.ocfl_item.specs.Looking.{IsFront}
 use Rattle.ocfl_identity.specs.Identity.{AreNamed, declarations_among}
@@ -37,22 +38,23 @@ pub record LooksOnly (names : List Text) (dirs : List Place) (s t : Store) : Typ
   pub front : IsFront listed dirs
 
 -- how a night begins: its root is looked at, and it lists the top folder alone
-pub record HasLooked (root : StorageRoot) (s t : Store) : Type 0 where
+pub record HasLooked (further : Further) (root : StorageRoot) (s t : Store) : Type 0 where
   pub counts : Counts s t
-  pub content : content_since root s t ≡ []
+  pub content : content_since further root s t ≡ []
   pub only : LooksOnly (declaring root) ([] ∷ []) s t
 
 -- ---- a run
 
 -- A run was made from a cursor, and then no files were opened but those with these names. It went on
--- with a walk that had met an item at a place, or if that is none, began one.
+-- with a walk that had met an item at a place, or if that is none, began one. It checked what its cursor
+-- does.
 pub record IsRunAndLook (root : StorageRoot) (part : Part) (names : List Text) (met : Option Place) (c : Cursor) (Gave : RunEnd → Type 0) (s t : Store) : Type 0 where
   pub limits : Limits
   pub old : Text
   pub new : Text
   pub ran : RunEnd
   pub end : Store
-  pub run : RunsOn (known_call root s end old new) part met c limits ran
+  pub run : RunsOn (known_call c.further root s end old new) part met c limits ran
   pub look : LooksOnly names [] end t
   pub gave : Gave ran
 

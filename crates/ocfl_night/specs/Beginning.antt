@@ -1,6 +1,7 @@
 -- Where a night begins: where the checkpoint of its folder stands, or where there is none, at the
 -- first item.
 use Rattle.std.specs.Prelude.{◌≡◌, List, [], Bool, true, false, None}
+use Rattle.ocfl_report.specs.declared.further.Further.{Further}
 use Rattle.ocfl_cursor.specs.Cursor.{Cursor, new_cursor}
 use Rattle.ocfl_state.specs.{Checkpoint.{Checkpoint}, Content.{Content, is_closed}}
 use Rattle.ocfl_state.specs.declared.checkpoint_parts.{Left.{Left}, Phase.{Phase}, Phase.TheVariants.{Open, Closing}}
@@ -16,9 +17,9 @@ pub record Position : Type 0 where
 abbrev pub position : Checkpoint → Position
 position k = record { cursor = k.cursor; phase = k.phase; left = k.left }
 
--- at the first item of the first cycle, with nothing left out
-abbrev pub first_position : Position
-first_position = record { cursor = new_cursor; phase = Open; left = [] }
+-- at the first item of the first cycle, with nothing left out, to check this
+abbrev pub first_position : Further → Position
+first_position further = record { cursor = new_cursor further; phase = Open; left = [] }
 
 -- a first night begins in it: there is no checkpoint, one may be made, and no report is there, open or
 -- of the first cycle
@@ -42,6 +43,6 @@ abbrev pub StandsAt : Content → Position → Type 0
 StandsAt c p = (k : Checkpoint) × (IsAt k c × (position k ≡ p))
 
 -- a night in a folder of this content begins at this checkpoint
-pub data BeginsAt (create : Bool) (c : Content) (start : Checkpoint) : Type 0 where
-  first : IsBegunIn create c → position start ≡ first_position → BeginsAt create c start
-  further : (k : Checkpoint) → IsAt k c → position start ≡ position k → BeginsAt create c start
+pub data BeginsAt (further : Further) (create : Bool) (c : Content) (start : Checkpoint) : Type 0 where
+  first : IsBegunIn create c → position start ≡ first_position further → BeginsAt further create c start
+  stored : (k : Checkpoint) → IsAt k c → position start ≡ position k → BeginsAt further create c start

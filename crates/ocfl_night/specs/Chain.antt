@@ -3,6 +3,8 @@
 use Rattle.std.specs.Prelude.{⊤, ℕ, ◌≡◌, ◌≢◌, ◌⊎◌, ◌+◌, List, [], ◌∷◌, ◌++◌, true, false, Option, Some, None, flat_map}
 use Rattle.std.specs.{List.{AllByRecursion}, Ordering.{is_lt}}
 use Rattle.ocfl_tree.specs.{Place.{Text, Place, place_cmp}, Ascending.{IsAmong}, StorageRoot.{StorageRoot}}
+use Rattle.ocfl_report.specs.declared.further.Further.{Further}
+use Rattle.ocfl_report.specs.declared.further.Further.TheVariants.{Nothing}
 use Rattle.ocfl_rules.specs.{Parts.{Part}, Trail.{unread_of}}
 use Rattle.ocfl_cursor.specs.Cursor.{Cursor}
 use Rattle.ocfl_scrub.specs.{Running.{place_in}, Joining.{PartRun, Ran}, Starting.{due_within}}
@@ -15,29 +17,29 @@ pub record RootRun : Type 0 where
   pub root : StorageRoot
   pub run : PartRun
 
--- what it looked at
-abbrev pub look_of : RootRun → Look
-look_of r = record { root = r.root; unread = unread_of None r.root r.run.opened }
+-- what it looked at, by what it checks
+abbrev pub look_of : Further → RootRun → Look
+look_of further r = record { root = r.root; unread = unread_of further r.root r.run.opened }
 
 -- each of some runs was one of these looks, if any are known
-abbrev pub AreLooked : Option Known → List RootRun → Type 0
-AreLooked known runs = AllByRecursion (λ r. IsOneOf known (look_of r)) runs
+abbrev pub AreLooked : Further → Option Known → List RootRun → Type 0
+AreLooked further known runs = AllByRecursion (λ r. IsOneOf known (look_of further r)) runs
 
 -- what runs wrote, joined
 abbrev pub joined : List RootRun → Text
 joined runs = flat_map (λ r. r.run.report) runs
 
 -- each was made from the cursor that the one before it answered, none ended the cycle, and the last
--- answered this cursor
-abbrev pub LeadTo : Part → Cursor → List RootRun → Cursor → Type 0
-LeadTo part c [] d = d ≡ c
-LeadTo part c (r ∷ runs) d = Ran r.root part c r.run × (r.run.ran.end ≢ status.Ended) × LeadTo part r.run.ran.cursor runs d
+-- answered this cursor; all check this
+abbrev pub LeadTo : Further → Part → Cursor → List RootRun → Cursor → Type 0
+LeadTo further part c [] d = d ≡ c
+LeadTo further part c (r ∷ runs) d = Ran further r.root part c r.run × (r.run.ran.end ≢ status.Ended) × LeadTo further part r.run.ran.cursor runs d
 
 -- the same, but the last of them ended the cycle
-abbrev pub EndAt : Part → Cursor → List RootRun → Cursor → Type 0
-EndAt part c [] d = ⊥
-EndAt part c (r ∷ []) d = Ran r.root part c r.run × (r.run.ran.end ≡ status.Ended) × (d ≡ r.run.ran.cursor)
-EndAt part c (r ∷ q ∷ runs) d = Ran r.root part c r.run × (r.run.ran.end ≢ status.Ended) × EndAt part r.run.ran.cursor (q ∷ runs) d
+abbrev pub EndAt : Further → Part → Cursor → List RootRun → Cursor → Type 0
+EndAt further part c [] d = ⊥
+EndAt further part c (r ∷ []) d = Ran further r.root part c r.run × (r.run.ran.end ≡ status.Ended) × (d ≡ r.run.ran.cursor)
+EndAt further part c (r ∷ q ∷ runs) d = Ran further r.root part c r.run × (r.run.ran.end ≢ status.Ended) × EndAt further part r.run.ran.cursor (q ∷ runs) d
 
 -- ---- branches that are left out
 
@@ -63,38 +65,45 @@ from_after from (l ∷ left) = from_after (Some (past l.place)) left
 
 -- Runs of a part, and of what comes after each branch that was left out. The cursor then stood where
 -- that says, and stays there. The last leg is one of these.
-abbrev pub LedBy : (Part → Cursor → List RootRun → Cursor → Type 0) → Part → Cursor → List RootRun → List Left → Cursor → Type 0
-LedBy Last part c runs [] d = Last part c runs d
-LedBy Last part c runs (l ∷ left) d =
-    (first : List RootRun) × ((rest : List RootRun) × ((e : Cursor) × ((runs ≡ first ++ rest) × (LeadTo part c first e × ((place_in e.state ≡ l.after) × LedBy Last (past_branch part l) e rest left d)))))
+abbrev pub LedBy : (Further → Part → Cursor → List RootRun → Cursor → Type 0) → Further → Part → Cursor → List RootRun → List Left → Cursor → Type 0
+LedBy Last further part c runs [] d = Last further part c runs d
+LedBy Last further part c runs (l ∷ left) d =
+    (first : List RootRun) × ((rest : List RootRun) × ((e : Cursor) × ((runs ≡ first ++ rest) × (LeadTo further part c first e × ((place_in e.state ≡ l.after) × LedBy Last further (past_branch part l) e rest left d)))))
 
 -- the cycle goes on, or has ended
-abbrev pub Led : Part → Cursor → List RootRun → List Left → Cursor → Type 0
-Led part c runs left d = LedBy LeadTo part c runs left d
+abbrev pub Led : Further → Part → Cursor → List RootRun → List Left → Cursor → Type 0
+Led further part c runs left d = LedBy LeadTo further part c runs left d
 
-abbrev pub LedToEnd : Part → Cursor → List RootRun → List Left → Cursor → Type 0
-LedToEnd part c runs left d = LedBy EndAt part c runs left d
+abbrev pub LedToEnd : Further → Part → Cursor → List RootRun → List Left → Cursor → Type 0
+LedToEnd further part c runs left d = LedBy EndAt further part c runs left d
 
 -- no item of a part that is above a place is before a branch
-abbrev pub NoneBefore : StorageRoot → Part → Option Place → Place → Type 0
-NoneBefore root part from branch = (p : Place) → IsAmong (due_within root part from) p → is_lt (place_cmp p branch) ≡ false
+abbrev pub NoneBefore : Further → StorageRoot → Part → Option Place → Place → Type 0
+NoneBefore further root part from branch = (p : Place) → IsAmong (due_within further root part from) p → is_lt (place_cmp p branch) ≡ false
+
+-- So of an audit that checks nothing further. Of one that checks the inventories of versions too this
+-- is not claimed: it is not known beside which inventory a sidecar lies that could not be read.
+abbrev pub NoneLost : Further → StorageRoot → Part → Option Place → Place → Type 0
+NoneLost further root part from branch = further ≡ Nothing → NoneBefore further root part from branch
 
 -- So between where each of some branches was left out and that branch there was no item, over the
 -- storage root of one of these looks: what was lost with it is its own.
-abbrev pub AreNextIn : Option Known → Part → List Left → Type 0
-AreNextIn known part [] = ⊤
-AreNextIn known part (l ∷ left) = ((root : StorageRoot) × (IsRootOf known root × NoneBefore root part l.after l.place)) × AreNextIn known (past_branch part l) left
+abbrev pub AreNextIn : Further → Option Known → Part → List Left → Type 0
+AreNextIn further known part [] = ⊤
+AreNextIn further known part (l ∷ left) = ((root : StorageRoot) × (IsRootOf known root × NoneLost further root part l.after l.place)) × AreNextIn further known (past_branch part l) left
 
 -- ---- closed reports
 
--- a chain of a cycle's runs from its start to a cursor, around the branches that were left out
-pub record HasRuns (Last : Part → Cursor → List RootRun → Cursor → Type 0) (rounds : Rounds) (left : List Left) (last : Cursor) : Type 0 where
+-- a chain of a cycle's runs from its start to a cursor, around the branches that were left out: all
+-- check what the rounds do, and so does that cursor, from which the next one is made
+pub record HasRuns (Last : Further → Part → Cursor → List RootRun → Cursor → Type 0) (rounds : Rounds) (left : List Left) (last : Cursor) : Type 0 where
   pub first : Cursor
   pub runs : List RootRun
   pub starts : place_in first.state ≡ None
-  pub chain : LedBy Last rounds.part first runs left last
-  pub next : AreNextIn rounds.known rounds.part left
-  pub looked : AreLooked rounds.known runs
+  pub checks : last.further ≡ rounds.further
+  pub chain : LedBy Last rounds.further rounds.part first runs left last
+  pub next : AreNextIn rounds.further rounds.known rounds.part left
+  pub looked : AreLooked rounds.further rounds.known runs
 
 -- a closed report is what the runs of its cycle wrote around these branches, which were left out
 pub record IsReportOf (rounds : Rounds) (left : List Left) (d : Closed) : Type 0 where

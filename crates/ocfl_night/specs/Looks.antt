@@ -2,6 +2,7 @@
 use Rattle.std.specs.Prelude.{◌≡◌, ◌&&◌, ℕ, ◌+◌, ◌≤◌, List, ◌++◌, Option, None, IfSome, drop, filter, length}
 use Rattle.ocfl_tree.specs.{Place.{Place, place_eq}, Ascending.{IsAmong}, StorageRoot.{StorageRoot}}
 use Rattle.ocfl_tree.specs.{Store.{Store, failed_openings}, declared.store.Opening.{Opening}}
+use Rattle.ocfl_report.specs.declared.further.Further.{Further}
 use Rattle.ocfl_rules.specs.{Audit.{Unread}, Parts.{Part}, Trail.{unread_of}}
 
 -- ---- of a store
@@ -32,9 +33,9 @@ pub record Look : Type 0 where
   pub root : StorageRoot
   pub unread : Unread
 
--- what a store of this root was looked at for from one moment to another
-abbrev pub look_between : StorageRoot → Store → Store → Look
-look_between root s t = record { root = root; unread = unread_of None root (opened_since s t) }
+-- what a store of this root was looked at for from one moment to another, by an audit that checks this
+abbrev pub look_between : Further → StorageRoot → Store → Store → Look
+look_between further root s t = record { root = root; unread = unread_of further root (opened_since s t) }
 
 -- no more was unread
 abbrev pub IsNoMore : Unread → Unread → Type 0
@@ -69,16 +70,17 @@ MayBeGone known cycle = IfSome known (λ k. IsAmong k.gone cycle)
 abbrev pub IfGiven : Option Known → Type 0 → Type 0
 IfGiven known Holds = IfSome known (λ k. Holds)
 
--- A part, and what is known of the nights. If anything is, no report of theirs was ever found to be
--- another one than its checkpoint says.
+-- A part, what its audit checks, and what is known of the nights. If anything is, no report of theirs
+-- was ever found to be another one than its checkpoint says.
 pub record Rounds : Type 0 where
   pub part : Part
+  pub further : Further
   pub known : Option Known
 
 -- over a part, whatever their runs looked at, and whatever was taken away
-abbrev pub of_any : Part → Rounds
-of_any part = record { part = part; known = None }
+abbrev pub of_any : Further → Part → Rounds
+of_any further part = record { part = part; further = further; known = None }
 
 -- whatever is known, if this is within one of its looks
-abbrev pub WithLook : Part → Look → (Rounds → Type 0) → Type 0
-WithLook part look Holds = (known : Option Known) → IsOneOf known look → Holds (record { part = part; known = known })
+abbrev pub WithLook : Further → Part → Look → (Rounds → Type 0) → Type 0
+WithLook further part look Holds = (known : Option Known) → IsOneOf known look → Holds (record { part = part; further = further; known = known })

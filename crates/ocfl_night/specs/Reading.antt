@@ -2,6 +2,7 @@
 use Rattle.std.specs.Prelude.{⊤, ◌≡◌, List, true, false, Option, Some, None, Result, Ok, Err}
 use Rattle.ocfl_tree.specs.{Place.{Place, place_cmp}, Ascending.{IsAmong, IsAscending}}
 use Rattle.ocfl_tree.specs.{StorageRoot.{StorageRoot}, Store.{Store}}
+use Rattle.ocfl_report.specs.declared.further.Further.{Further}
 use Rattle.ocfl_rules.specs.Trail.{content_trail}
 use Rattle.ocfl_inventory.specs.Declaration.{is_declaration}
 use Rattle.ocfl_inventory.specs.declared.declaration.Level.TheVariants.{Root}
@@ -16,9 +17,10 @@ use Rattle.ocfl_terms.specs.declared.plan.Halt.{Halt}
 use Rattle.ocfl_night.specs.declared.pause.Pause.{Pause}
 use Rattle.ocfl_terms.specs.declared.plan.Halt.TheVariants as halt
 
--- the content files that were opened from one moment to another, in order
-abbrev pub content_since : StorageRoot → Store → Store → List Place
-content_since root s t = content_trail None root (opened_since s t)
+-- the content files that were opened from one moment to another, in order; so are the inventories of
+-- versions, if an audit checks them
+abbrev pub content_since : Further → StorageRoot → Store → Store → List Place
+content_since further root s t = content_trail further root (opened_since s t)
 
 -- the files that tell one storage root from another are declarations
 abbrev pub AreDeclarations : Identity → Type 0

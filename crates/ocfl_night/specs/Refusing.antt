@@ -13,7 +13,7 @@ use Rattle.ocfl_terms.specs.declared.plan.Plan.{Plan}
 use Rattle.ocfl_night.specs.declared.site.Site.{Site}
 use Rattle.ocfl_night.specs.{declared.not_opened.NotOpened.{NotOpened}, declared.not_opened.NotOpened.TheVariants.{Refused}}
 use Rattle.ocfl_terms.specs.declared.refusal.Refusal.{Refusal}
-use Rattle.ocfl_terms.specs.declared.refusal.Refusal.TheVariants.{NoCheckpoint, HasReports, Unread, NoRoot, OtherRoot, OtherPart, OtherDeclaration, NamesGone, Older}
+use Rattle.ocfl_terms.specs.declared.refusal.Refusal.TheVariants.{NoCheckpoint, HasReports, Unread, NoRoot, OtherRoot, OtherPart, OtherAudit, OtherDeclaration, NamesGone, Older}
 
 -- if a night is refused, this holds of the reason
 abbrev pub IfRefused : {A : Type 0} → Result A NotOpened → (Refusal → Type 0) → Type 0
@@ -46,10 +46,12 @@ IsUnread bytes _ = ⊥
 abbrev pub HasUnread : Content → Refusal → Type 0
 HasUnread c why = (bytes : Text) × ((c.checkpoint ≡ Some bytes) × IsUnread bytes why)
 
--- for a checkpoint: it is of a root at another path, or of another part
+-- for a checkpoint: it is of a root at another path, or of another part, or of an audit that checks
+-- something else
 abbrev pub IsMisplaced : Site → Checkpoint → Refusal → Type 0
 IsMisplaced site k (OtherRoot path) = (k.root.path ≡ path) × (path ≢ site.path)
 IsMisplaced site k OtherPart = (k.root.path ≡ site.path) × (k.part ≢ site.ends)
+IsMisplaced site k (OtherAudit further) = (k.root.path ≡ site.path) × (k.part ≡ site.ends) × (k.cursor.further ≡ further) × (further ≢ site.further)
 IsMisplaced site k _ = ⊥
 
 -- the root has another declaration than the checkpoint, or most of its names are gone
@@ -85,8 +87,8 @@ pub data IsRefused (told : Bool) (s : Store) (site : Site) (plan : Plan) (c : Co
 abbrev pub IfForeign : Site → Identity → Plan → Content → Type 0 → Type 0
 IfForeign site id plan c Holds = (k : Checkpoint) → IsAt k c → IsForeign site id plan.force_root k → Holds
 
--- the checkpoint in a folder of this content is of another root or part or an older one, or unless
--- forced the root of a store is not as it was, or it has no declaration
+-- the checkpoint in a folder of this content is of another root, part or audit or an older one, or
+-- unless forced the root of a store is not as it was, or it has no declaration
 pub data IsBarred (told : Bool) (s : Store) (site : Site) (plan : Plan) (c : Content) : Type 0 where
   another : (k : Checkpoint) → IsAt k c → IsAnothers site k → IsBarred told s site plan c
   other_root : IsTrue told → (root : StorageRoot) → s.tree ≡ root → (k : Checkpoint) → IsAt k c → IsOtherThan root k → plan.force_root ≡ false → IsBarred told s site plan c

@@ -1,6 +1,7 @@
 -- A night as the list of its runs, by what its clock answered and heard.
 use Rattle.std.specs.Prelude.{◌≡◌, ◌⊎◌, ℕ, List, [], ◌∷◌, ◌++◌, Bool, IsTrue, true, false, Option, Some, None, Result, Ok, Err, flat_map}
 use Rattle.ocfl_tree.specs.Place.{Place}
+use Rattle.ocfl_report.specs.declared.further.Further.{Further}
 use Rattle.ocfl_cursor.specs.Limits.{IsLimit}
 use Rattle.ocfl_cursor.specs.declared.limits.Limits.{Limits}
 use Rattle.ocfl_state.specs.{Checkpoint.{Checkpoint}, Content.{Content}}
@@ -153,9 +154,9 @@ EndsBy Left plan (halt.Troubled why) e d k last = IsFailed plan d k last e ⊎ (
 
 -- a night that was begun, in a folder that tells this content and then that: its runs, from the
 -- checkpoint at which it begins, and its figures; the folder's checkpoint then stands where they led
-pub record IsBegunNight (plan : Plan) (tells : Bool) (c d : Content) (old new : List Event) (end : NightEnd) : Type 0 where
+pub record IsBegunNight (further : Further) (plan : Plan) (tells : Bool) (c d : Content) (old new : List Event) (end : NightEnd) : Type 0 where
   pub start : Checkpoint
-  pub begins : IsTrue tells → BeginsAt plan.create c start
+  pub begins : IsTrue tells → BeginsAt further plan.create c start
   pub done : Done
   pub runs : AreMade plan old new nothing_done start (EndsBy (λ p. IsTrue tells → StandsAt d p) plan end.end done)
   pub begun : end.runs ≡ done.runs
@@ -168,5 +169,5 @@ pub record IsNoNight (old new : List Event) (end : NightEnd) : Type 0 where
   pub runs : end.runs ≡ 0
   pub left : end.left.items ≡ []
 
-abbrev pub IsNight : Plan → Bool → Content → Content → List Event → List Event → NightEnd → Type 0
-IsNight plan tells c d old new end = IsBegunNight plan tells c d old new end ⊎ IsNoNight old new end
+abbrev pub IsNight : Further → Plan → Bool → Content → Content → List Event → List Event → NightEnd → Type 0
+IsNight further plan tells c d old new end = IsBegunNight further plan tells c d old new end ⊎ IsNoNight old new end

@@ -27,7 +27,7 @@ names_now id = record { count = id.count; digest = id.names }
 abbrev pub no_report : ReportMark
 no_report = summary_of []
 
--- the first one
+-- the first one, whose cursor checks what the site's audit does
 abbrev pub first_checkpoint : Site → Identity → Checkpoint
 first_checkpoint site id = record {
   root = record { path = site.path; declared = id.declared };
@@ -38,7 +38,7 @@ first_checkpoint site id = record {
   told = 0;
   left = [];
   part = site.ends;
-  cursor = new_cursor;
+  cursor = new_cursor site.further;
 }
 
 -- its names become those of now: the next run begins a cycle, or more than half of them are gone
@@ -54,10 +54,11 @@ with_root id k = record k {
 
 -- ---- whose it is
 
--- of this path and part
+-- of this path and part, with a cursor that checks the same
 pub record IsOwn (site : Site) (k : Checkpoint) : Type 0 where
   pub path : k.root.path ≡ site.path
   pub part : k.part ≡ site.ends
+  pub checks : k.cursor.further ≡ site.further
 
 -- of this declaration too
 pub record IsOfSite (site : Site) (id : Identity) (k : Checkpoint) : Type 0 where
@@ -68,20 +69,21 @@ pub record IsOfSite (site : Site) (id : Identity) (k : Checkpoint) : Type 0 wher
 abbrev pub IsDeclaredIn : StorageRoot → Checkpoint → Type 0
 IsDeclaredIn root k = declared_by root (declarations_among (entries_in root [])) ≡ Some k.root.declared
 
--- of this path and part, and of the root of a store, if that tells
+-- of a site, and of the root of a store, if that tells
 pub record IsOfStore (told : Bool) (s : Store) (site : Site) (k : Checkpoint) : Type 0 where
   pub own : IsOwn site k
   pub declared : IfTold told s (λ root. IsDeclaredIn root k)
 
--- two are of the same root and part, with the same names
+-- two are of the same root and part, with the same names, and their cursors check the same
 pub record IsAlike (k l : Checkpoint) : Type 0 where
   pub root : l.root ≡ k.root
   pub names : l.names ≡ k.names
   pub part : l.part ≡ k.part
+  pub checks : l.cursor.further ≡ k.cursor.further
 
--- of another root or part
+-- of another root or part, or with a cursor that checks something else
 abbrev pub IsAnothers : Site → Checkpoint → Type 0
-IsAnothers site k = (k.root.path ≢ site.path) ⊎ (k.part ≢ site.ends)
+IsAnothers site k = (k.root.path ≢ site.path) ⊎ ((k.part ≢ site.ends) ⊎ (k.cursor.further ≢ site.further))
 
 -- more than half of the names of before are gone
 abbrev pub AreMostGone : Identity → Checkpoint → Type 0

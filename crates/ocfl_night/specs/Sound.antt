@@ -2,6 +2,7 @@
 use Rattle.std.specs.Prelude.{ℕ, ◌≡◌, ◌≢◌, ◌⊎◌, ◌+◌, ◌≤◌, List, [], ◌∷◌, ◌++◌, length, take, true, IsTrue, Some, MatchOption, flat_map}
 use Rattle.std.specs.Io.KnownBytes.{Appends}
 use Rattle.ocfl_tree.specs.Place.{Text}
+use Rattle.ocfl_report.specs.declared.further.Further.{Further}
 use Rattle.ocfl_cursor.specs.Cursor.{ended}
 use Rattle.ocfl_scrub.specs.Running.{begun}
 use Rattle.ocfl_state.specs.{Checkpoint.{Checkpoint, IsCheckpointText}, Content.{Content, Closed, is_closed}}
@@ -47,6 +48,7 @@ pub record IsClosing (rounds : Rounds) (t : Text) (k : Checkpoint) (c : Content)
 pub record IsMoved (rounds : Rounds) (t : Text) (k : Checkpoint) (c : Content) : Type 0 where
   pub phase : k.phase ≡ Closing
   pub ends : k.cursor.state ≡ ended
+  pub checks : k.cursor.further ≡ rounds.further
   pub empty : c.report ≡ []
   pub there : IsTrue (is_closed c.closed k.cursor.cycle)
   pub told : k.told ≡ k.report.bytes
@@ -168,6 +170,6 @@ pub record IsOneMore (rounds : Rounds) (cycle : ℕ) (old new : Content) : Type 
 -- What a night promises: if each crash before it leaves a sound content, so does each since then, and
 -- more than was told is told only if the output has committed it. That holds whatever looks the runs are
 -- within, if that of this night is within one of them.
-abbrev pub IsSafeNight : {F : Type 0} → state.Ghosts F → Part → Look → F → F → Said → Said → Type 0
-IsSafeNight S part look from to old new =
-    WithLook part look (λ rounds. (kept : IsKept S rounds from) → LeavesOnly S.moment S.left_since from to (IsHeardSince rounds (S.may_leave from) kept old new))
+abbrev pub IsSafeNight : {F : Type 0} → state.Ghosts F → Further → Part → Look → F → F → Said → Said → Type 0
+IsSafeNight S further part look from to old new =
+    WithLook further part look (λ rounds. (kept : IsKept S rounds from) → LeavesOnly S.moment S.left_since from to (IsHeardSince rounds (S.may_leave from) kept old new))

@@ -147,17 +147,17 @@ pub record IsFinished (k : Checkpoint) (old new : Content) : Type 0 where
 abbrev pub MayMoveAt : ℕ → Bool → Content → Step
 MayMoveAt cycle whole shown old new = (new ≡ old) ⊎ ((is_closed shown.closed cycle ≡ false) × (new ≡ moved cycle whole old))
 
--- a run was made from a cursor, within a look at a root, and wrote these lines
+-- a run was made from a cursor, of what that checks, within a look at a root, and wrote these lines
 pub record IsRun (part : Part) (c : Cursor) (look : Look) (lines : Text) (ran : RunEnd) : Type 0 where
   pub run : PartRun
   pub ran_is : run.ran ≡ ran
-  pub made : Ran look.root part c run
-  pub looked : IsNoMore (unread_of None look.root run.opened) look.unread
+  pub made : Ran c.further look.root part c run
+  pub looked : IsNoMore (unread_of c.further look.root run.opened) look.unread
   pub lines_are : lines ≡ run.report
 
--- the walk that is kept goes on where the run from a checkpoint's cursor begins
+-- the walk that is kept goes on where the run from a checkpoint's cursor begins, and checks the same
 abbrev pub IsWalkAt : StorageRoot → Part → Checkpoint → KeptWalk → Type 0
-IsWalkAt root part k kept = IsWalkReady root (part_after part k.left) (place_in k.cursor.state) kept
+IsWalkAt root part k kept = IsWalkReady k.cursor.further root (part_after part k.left) (place_in k.cursor.state) kept
 
 -- a folder stays as it was, whenever a crash comes
 pub record IsUntouched {F : Type 0} (S : state.Ghosts F) (old new : F) : Type 0 where

@@ -4,6 +4,7 @@ use Rattle.ocfl_tree.specs.{Listing.{entries_in}, Place.{Place, Text}, Store.{St
 use Rattle.ocfl_item.specs.Judging.{HasShortFiles}
 use Rattle.ocfl_identity.specs.Identity.{IsUnread, declarations_among}
 use Rattle.ocfl_identity.specs.declared.identity.Identity.{Identity}
+use Rattle.ocfl_report.specs.declared.further.Further.{Further}
 use Rattle.ocfl_cursor.specs.declared.limits.Limits.{Limits}
 use Rattle.ocfl_scrub.specs.{Running.{IsWorn}, declared.running.RunEnd.{RunEnd}}
 use Rattle.ocfl_state.specs.{Calls.{HasLong, IsLong}, Checkpoint.{Checkpoint, IsCheckpointText}, Content.{Content, is_closed}}
@@ -94,7 +95,7 @@ ForFirst site id c Told why = ⊥
 -- the checkpoint with which a night is to begin in a folder of this content
 pub record IsToOpen (Told : Type 0) (site : Site) (id : Identity) (create : Bool) (c : Content) (k : Checkpoint) : Type 0 where
   pub own : IsOfSite site id k
-  pub begins : Told → BeginsAt create c k
+  pub begins : Told → BeginsAt site.further create c k
 
 -- a night is not opened, with one of these checkpoints
 abbrev pub ForOpen : (Checkpoint → Type 0) → Content → Type 0 → Stop → Type 0
@@ -178,17 +179,17 @@ pub record IsGiven (tells told : Bool) (s : Store) (Holds : Type 0) : Type 0 whe
   pub short : HasShortFiles s.tree
   pub holds : Holds
 
--- a folder tells, and a crash now leaves what is sound
-abbrev pub TellsKept : {F : Type 0} → state.Ghosts F → F → Type 0
-TellsKept S folder = IsTrue S.told × ((rounds : Rounds) × IsKept S rounds folder)
+-- a folder tells, and a crash now leaves what is sound, of nights that check this
+abbrev pub TellsKept : {F : Type 0} → state.Ghosts F → Further → F → Type 0
+TellsKept S further folder = IsTrue S.told × ((rounds : Rounds) × ((rounds.further ≡ further) × IsKept S rounds folder))
 
 -- a run cannot be counted that is made by a night from this checkpoint, after so many runs: its cycle
 -- has no number, or the runs of its cycle have none
 abbrev pub IsWornAfter : Checkpoint → ℕ → Type 0
 IsWornAfter start runs = (cycle_of start ≡ 2 ^ 64) ⊎ (2 ^ 64 ≤ start.cursor.runs + runs + 1)
 
--- a checkpoint is put by a night from this one: it is of the same root and part, with the same names,
--- and of the same cycle or the next one
+-- a checkpoint is put by a night from this one: it is of the same root, part and audit, with the same
+-- names, and of the same cycle or the next one
 pub record IsPutFrom (start k : Checkpoint) : Type 0 where
   pub alike : IsAlike start k
   pub cycle : (cycle_of k ≡ cycle_of start) ⊎ (cycle_of k ≡ cycle_of start + 1)
@@ -204,20 +205,21 @@ ForRuns Silenced start runs Told Output = Silenced
 ForRuns Silenced start runs Told (TooLong text) = IsTooLong (IsPutFrom start) text.items
 ForRuns Silenced start runs Told why = ⊥
 
--- what a night began with, how many runs it began, and its output before it and now
+-- what a night checks, what it began with, how many runs it began, and its output before it and now
 pub record Course : Type 0 where
+  pub further : Further
   pub create : Bool
   pub content : Content
   pub runs : ℕ
   pub old : Said
   pub new : Said
 
-abbrev pub course : Bool → Content → ℕ → Said → Said → Course
-course create c runs old new = record { create = create; content = c; runs = runs; old = old; new = new }
+abbrev pub course : Further → Bool → Content → ℕ → Said → Said → Course
+course further create c runs old new = record { further = further; create = create; content = c; runs = runs; old = old; new = new }
 
 -- this holds of where it began
 abbrev pub FromStart : Course → (Checkpoint → Type 0) → Type 0
-FromStart n Holds = (start : Checkpoint) × (BeginsAt n.create n.content start × Holds start)
+FromStart n Holds = (start : Checkpoint) × (BeginsAt n.further n.create n.content start × Holds start)
 
 -- if a store tells, its root could not be looked at: the top folder, or a file that declares it
 abbrev pub IsUnlooked : Bool → Store → Store → Place → Type 0

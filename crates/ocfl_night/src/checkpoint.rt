@@ -104,6 +104,7 @@ fn cursor_again(cursor: &Cursor) -> Result<Cursor, AllocError>
         cursor.runs(),
         cursor.spent(),
         cursor.files(),
+        cursor.further(),
         state,
     ) {
         Some(again) => Ok(again),

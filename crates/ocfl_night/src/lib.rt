@@ -15,10 +15,11 @@
 //!   nights, each ended or crashed at any moment, are the laws of `ocfl_night_laws`.
 //! - At its end all of the report is said, also what earlier nights left, unless its end is
 //!   `Refused` or `Troubled`.
-//! - A folder whose checkpoint is of another root or part stays as it was, whenever a crash comes.
-//!   So does one of a root that declares no storage root, has another declaration, or lost more
-//!   than half of its names; with `force_root` the last two pass. A night that ends as `Refused`
-//!   has changed nothing, and the reason that it gives holds.
+//! - A folder whose checkpoint is of another root or part, or of an audit that checks something
+//!   else, stays as it was, whenever a crash comes. So does one of a root that declares no storage
+//!   root, has another declaration, or lost more than half of its names; with `force_root` the last
+//!   two pass. A night that ends as `Refused` has changed nothing, and the reason that it gives
+//!   holds.
 //! - A folder whose checkpoint is older than its reports stays as it was too: the cycle that it says
 //!   is open, or the one after it, is closed, or the report that it says is to be closed is, and
 //!   there is another one. No folder that nights have left, ended or crashed at any moment, is
@@ -37,7 +38,7 @@
 //!   those that were taken away before. Before there was one less, or as many if a crash came right
 //!   after the last one was closed. No night with another end closes one, unless it is troubled.
 //! - It begins where the checkpoint of its folder stands, and in a folder without one at the first
-//!   item, if it may and no report is there.
+//!   item, if it may and no report is there, with a cursor that checks what the site says.
 //! - It is the list of its runs. Each begins where the one before it led, after its clock answered
 //!   that the night is not asked to stop and a time before the end. It keeps to the limits that the
 //!   plan gives for that time and for what was done: no more than runs spend in a minute, or until

@@ -1,6 +1,7 @@
 //! Looking at the storage root: when a night begins, and after each run.
 ghost use Rattle.std.specs.Prelude.{◌≡◌, [], IfErr, IsTrue, OnOk, true};
 ghost use Rattle.ocfl_tree.specs.Store.{IfTold};
+ghost use Rattle.ocfl_report.specs.declared.further.Further.{Further};
 ghost use Rattle.ocfl_night.specs.Asking.{LooksOnly};
 ghost use Rattle.ocfl_night.specs.{Ending.{unopened_by}, Halting.{FailedMore, unread_at}, Looks.{Counts}};
 ghost use Rattle.ocfl_night.specs.Reading.{AreDeclarations, content_since};
@@ -48,8 +49,9 @@ pub(crate) fn look_again<T: Tree>(
         OnOk result (IsStill identity.now root)) }
     ensures counts { OverShort T.told (T.state tree.old) (λ root.
         Counts (T.state tree.old) (T.state tree.new)) }
-    ensures content { AreDeclarations identity.now → OverShort T.told (T.state tree.old) (λ root.
-        content_since root (T.state tree.old) (T.state tree.new) ≡ []) }
+    ensures content { (further : Further) → AreDeclarations identity.now
+        → OverShort T.told (T.state tree.old) (λ root.
+        content_since further root (T.state tree.old) (T.state tree.new) ≡ []) }
     ensures only { OverShort T.told (T.state tree.old) (λ root.
         LooksOnly identity.now.declarations.items [] (T.state tree.old) (T.state tree.new)) }
     ensures unread { OverShort T.told (T.state tree.old) (λ root. IfErr result

@@ -259,27 +259,29 @@ fn runs<S: StateFolder, T: Tree, C: Clock>(
     block: &mut Block,
 ) -> Result<(Checkpoint, Pause), Stop>
     ensures any_moment { IsTrue S.told → OverShort T.told (T.state tree.old) (λ root.
-        WithLook (part_of part.now)
-        (look_between root (T.state tree.old) (T.state tree.new))
+        WithLook start.cursor.further (part_of part.now)
+        (look_between start.cursor.further root (T.state tree.old) (T.state tree.new))
         (λ rounds. IsSafeIn S.StateFolder rounds start folder.old folder.new)) }
     ensures ready { IsTrue S.told → OverShort T.told (T.state tree.old) (λ root.
-        WithLook (part_of part.now)
-        (look_between root (T.state tree.old) (T.state tree.new))
+        WithLook start.cursor.further (part_of part.now)
+        (look_between start.cursor.further root (T.state tree.old) (T.state tree.new))
         (λ rounds. IfReadyIn S.StateFolder rounds start folder.old (λ t. IfOk result
         (λ next. IsReady S.StateFolder rounds t next.0 folder.new)))) }
     ensures root { OverShort T.told (T.state tree.old) (λ root. (T.state tree.new).tree ≡ root) }
     ensures counts { OverShort T.told (T.state tree.old) (λ root.
         Counts (T.state tree.old) (T.state tree.new)) }
     ensures beyond { AreDeclarations identity.now → OverShort T.told (T.state tree.old) (λ root.
-        AreBeyond (reached start) (content_since root (T.state tree.old) (T.state tree.new))) }
+        AreBeyond (reached start) (content_since start.cursor.further root (T.state tree.old)
+        (T.state tree.new))) }
     ensures read { AreDeclarations identity.now → OverShort T.told (T.state tree.old) (λ root.
         IfOk result (λ next. HaveRead (T.state tree.old) (T.state tree.new)
         (reached start) (reached next.0)
         (halt_after (cycle_ended next.0.phase next.0.cursor.cycle) next.1)
-        (content_since root (T.state tree.old) (T.state tree.new)))) }
+        (content_since start.cursor.further root (T.state tree.old) (T.state tree.new)))) }
     ensures again { IsTrue C.told → IsTrue S.told → AreDeclarations identity.now
         → OverShort T.told (T.state tree.old) (λ root. IsDeclaredBy root identity.now →
-        IfReadyIn S.StateFolder (of_any (part_of part.now)) start folder.old (λ _.
+        IfReadyIn S.StateFolder (of_any start.cursor.further (part_of part.now)) start folder.old
+        (λ _.
         IsLittleAgain root (part_of part.now) S.StateFolder (cycle_of start)
         (C.events clock.old) (C.events clock.new)
         (T.state tree.old) (T.state tree.new) folder.new)) }
@@ -298,7 +300,8 @@ fn runs<S: StateFolder, T: Tree, C: Clock>(
         → IfOk result (λ next. IsAt next.0 (S.seen folder.new)) }
     ensures stop { MayLeave plan.now.stop_at_faults tally.old.left.items → StopsFor
         (IsGiven S.told T.told (T.state tree.old)
-        ((t : Text) × IsReady S.StateFolder (of_any (part_of part.now)) t start folder.old))
+        ((t : Text) × IsReady S.StateFolder (of_any start.cursor.further
+        (part_of part.now)) t start folder.old))
         (ForRuns ⊥ start tally.new.runs) (S.faults folder.old) (S.faults folder.new) result }
 {
     let mut kept = KeptWalk::none();
@@ -336,11 +339,11 @@ fn catch_up<S: StateFolder, O: Output>(
     out: &mut O,
     lost: &mut bool,
 ) -> Result<Checkpoint, NotOpened>
-    ensures heard { IsTrue S.told → (rounds : Rounds)
+    ensures heard { IsTrue S.told → (rounds : Rounds) → rounds.further ≡ site.now.further
         → (kept : IsKept S.StateFolder rounds folder.old)
         → LeavesOnly S.moment S.left_since folder.old folder.new (IsHeardSince rounds
         (S.may_leave folder.old) kept (O.said out.old) (O.said out.new)) }
-    ensures ready { IsTrue S.told → (rounds : Rounds)
+    ensures ready { IsTrue S.told → (rounds : Rounds) → rounds.further ≡ site.now.further
         → (kept : IsKept S.StateFolder rounds folder.old)
         → IfOk result (λ k. IsReadySince S.StateFolder rounds (S.may_leave folder.old) kept
         (O.said out.old) (O.said out.new) k folder.new) }
@@ -360,12 +363,13 @@ fn catch_up<S: StateFolder, O: Output>(
         ↔ ((lost.new ≡ false) × IsUncut (S.seen folder.old))) }
     ensures all { IfOk result (λ k. k.told ≡ k.report.bytes) }
     ensures begins { IsTrue S.told
-        → IfOk result (BeginsAt plan.now.create (S.seen folder.old)) }
+        → IfOk result (BeginsAt site.now.further plan.now.create (S.seen folder.old)) }
     ensures own { IfOk result (IsOfSite site.now identity.now) }
     ensures at { IsTrue S.told → IfOk result (λ k. IsAt k (S.seen folder.new)) }
-    ensures stop { OpensFor (TellsKept S.StateFolder folder.old)
+    ensures stop { OpensFor (TellsKept S.StateFolder site.now.further folder.old)
         (ForNight (λ _. ⊥) (IsOfSite site.now identity.now)
-        (course plan.now.create (S.seen folder.old) 0 (O.said out.old) (O.said out.new)))
+        (course site.now.further plan.now.create (S.seen folder.old) 0 (O.said out.old)
+        (O.said out.new)))
         (S.faults folder.old) (S.faults folder.new) result }
 {
     let opened = open(alloc, folder, site, identity, plan)?;
@@ -388,8 +392,8 @@ fn make_runs<S: StateFolder, T: Tree, C: Clock, O: Output>(
     out: &mut O,
 ) -> Result<Halt, Stop>
     ensures heard { IsTrue S.told → OverShort T.told (T.state tree.old) (λ root.
-        WithLook (part_of part.now)
-        (look_between root (T.state tree.old) (T.state tree.new))
+        WithLook checkpoint.cursor.further (part_of part.now)
+        (look_between checkpoint.cursor.further root (T.state tree.old) (T.state tree.new))
         (λ rounds. IfReadyIn S.StateFolder rounds checkpoint folder.old
         (λ t. LeavesOnly S.moment S.left_since folder.old folder.new
         (IsHeard rounds t (O.said out.old) (O.said out.new))))) }
@@ -398,23 +402,26 @@ fn make_runs<S: StateFolder, T: Tree, C: Clock, O: Output>(
         Counts (T.state tree.old) (T.state tree.new)) }
     ensures beyond { AreDeclarations identity.now → OverShort T.told (T.state tree.old) (λ root.
         AreBeyond (reached checkpoint)
-        (content_since root (T.state tree.old) (T.state tree.new))) }
+        (content_since checkpoint.cursor.further root (T.state tree.old) (T.state tree.new))) }
     ensures read { IsTrue S.told → AreDeclarations identity.now
         → OverShort T.told (T.state tree.old) (λ root.
-        IfReadyIn S.StateFolder (of_any (part_of part.now)) checkpoint folder.old
+        IfReadyIn S.StateFolder (of_any checkpoint.cursor.further
+        (part_of part.now)) checkpoint folder.old
         (λ _. IfOk result (λ end. EndsInOrder end
         → IsReadTo (T.state tree.old) (T.state tree.new) (reached checkpoint) end
-        (S.seen folder.new) (content_since root (T.state tree.old) (T.state tree.new))))) }
+        (S.seen folder.new) (content_since checkpoint.cursor.further root (T.state tree.old)
+        (T.state tree.new))))) }
     ensures again { IsTrue C.told → IsTrue S.told → AreDeclarations identity.now
         → OverShort T.told (T.state tree.old) (λ root. IsDeclaredBy root identity.now →
-        IfReadyIn S.StateFolder (of_any (part_of part.now)) checkpoint folder.old (λ _.
+        IfReadyIn S.StateFolder (of_any checkpoint.cursor.further
+        (part_of part.now)) checkpoint folder.old (λ _.
         IsLittleAgain root (part_of part.now) S.StateFolder (cycle_of checkpoint)
         (C.events clock.old) (C.events clock.new)
         (T.state tree.old) (T.state tree.new) folder.new)) }
     ensures grew { Grows (O.said out.old) (O.said out.new) }
     ensures ended { IsTrue S.told → OverShort T.told (T.state tree.old) (λ root.
-        WithLook (part_of part.now)
-        (look_between root (T.state tree.old) (T.state tree.new))
+        WithLook checkpoint.cursor.further (part_of part.now)
+        (look_between checkpoint.cursor.further root (T.state tree.old) (T.state tree.new))
         (λ rounds. IfReadyIn S.StateFolder rounds checkpoint folder.old
         (λ _. (cycle : ℕ) → result ≡ Ok (halt.CycleEnded cycle) → IsOneMore rounds cycle
         (S.seen folder.old) (S.seen folder.new)))) }
@@ -430,10 +437,12 @@ fn make_runs<S: StateFolder, T: Tree, C: Clock, O: Output>(
         (T.state tree.old) (T.state tree.new)) }
     ensures left { StillMayLeave plan.now.stop_at_faults tally.old tally.new }
     ensures said { IsTrue S.told → OnShort T.told (T.state tree.old)
-        (IfReadyIn S.StateFolder (of_any (part_of part.now)) checkpoint folder.old
+        (IfReadyIn S.StateFolder (of_any checkpoint.cursor.further
+        (part_of part.now)) checkpoint folder.old
         (λ _. OnOk result (IsAllSaid (S.seen folder.new)))) }
     ensures whole { IsTrue S.told → OnShort T.told (T.state tree.old)
-        (IfReadyIn S.StateFolder (of_any (part_of part.now)) checkpoint folder.old
+        (IfReadyIn S.StateFolder (of_any checkpoint.cursor.further
+        (part_of part.now)) checkpoint folder.old
         (λ _. (cycle : ℕ) → result ≡ Ok (halt.CycleEnded cycle) → (d : Closed)
         → HasCome d (S.seen folder.old) (S.seen folder.new) → (IsTrue d.whole
         ↔ (IsTrue (closes_whole checkpoint)
@@ -441,7 +450,7 @@ fn make_runs<S: StateFolder, T: Tree, C: Clock, O: Output>(
     ensures unrefused { (why : ModelRefusal) → result ≢ Ok (halt.Refused why) }
     ensures stop { MayLeave plan.now.stop_at_faults tally.old.left.items → StopsFor
         (IsGiven S.told T.told (T.state tree.old)
-        ((t : Text) × IsReady S.StateFolder (of_any (part_of part.now)) t
+        ((t : Text) × IsReady S.StateFolder (of_any checkpoint.cursor.further (part_of part.now)) t
         checkpoint folder.old))
         (ForRuns (HasFailed (O.said out.old).failures (O.said out.new).failures)
         checkpoint tally.new.runs) (S.faults folder.old) (S.faults folder.new) result }
@@ -479,18 +488,18 @@ fn set_out<S: StateFolder, T: Tree, O: Output>(
     ensures counts { OverShort T.told (T.state tree.old) (λ root.
         Counts (T.state tree.old) (T.state tree.new)) }
     ensures content { OverShort T.told (T.state tree.old) (λ root.
-        content_since root (T.state tree.old) (T.state tree.new) ≡ []) }
+        content_since site.now.further root (T.state tree.old) (T.state tree.new) ≡ []) }
     ensures looks { OverShort T.told (T.state tree.old) (λ root.
         LooksOnly (declaring root) ([] ∷ []) (T.state tree.old) (T.state tree.new)) }
     ensures declared { IfTold T.told (T.state tree.old) (λ root.
         IfOk result (λ begun. IsDeclaredBy root begun.identity)) }
     ensures declares { IfTold T.told (T.state tree.old) (λ root.
         IfOk result (λ begun. AreDeclarations begun.identity)) }
-    ensures heard { IsTrue S.told → (rounds : Rounds)
+    ensures heard { IsTrue S.told → (rounds : Rounds) → rounds.further ≡ site.now.further
         → (kept : IsKept S.StateFolder rounds folder.old)
         → LeavesOnly S.moment S.left_since folder.old folder.new (IsHeardSince rounds
         (S.may_leave folder.old) kept (O.said out.old) (O.said out.new)) }
-    ensures ready { IsTrue S.told → (rounds : Rounds)
+    ensures ready { IsTrue S.told → (rounds : Rounds) → rounds.further ≡ site.now.further
         → (kept : IsKept S.StateFolder rounds folder.old) → IfOk result (λ begun.
         IsReadySince S.StateFolder rounds (S.may_leave folder.old) kept
         (O.said out.old) (O.said out.new) begun.checkpoint folder.new) }
@@ -508,15 +517,16 @@ fn set_out<S: StateFolder, T: Tree, O: Output>(
         → IsBarred T.told (T.state tree.old) site.now plan.now (S.seen folder.old)
         → IsTurnedAway result S.StateFolder folder.old folder.new }
     ensures begins { IsTrue S.told → IfOk result (λ begun.
-        BeginsAt plan.now.create (S.seen folder.old) begun.checkpoint) }
+        BeginsAt site.now.further plan.now.create (S.seen folder.old) begun.checkpoint) }
     ensures own { IfOk result (λ begun.
         IsOfStore T.told (T.state tree.old) site.now begun.checkpoint) }
     ensures at { IsTrue S.told
         → IfOk result (λ begun. IsAt begun.checkpoint (S.seen folder.new)) }
-    ensures stop { OpensFor (TellsKept S.StateFolder folder.old)
+    ensures stop { OpensFor (TellsKept S.StateFolder site.now.further folder.old)
         (ForNight (IsUnlooked T.told (T.state tree.old) (T.state tree.new))
         (IsOfStore T.told (T.state tree.old) site.now)
-        (course plan.now.create (S.seen folder.old) 0 (O.said out.old) (O.said out.new)))
+        (course site.now.further plan.now.create (S.seen folder.old) 0 (O.said out.old)
+        (O.said out.new)))
         (S.faults folder.old) (S.faults folder.new) result }
 {
     let part = part_at(alloc, &site.ends)?;
@@ -547,13 +557,13 @@ pub fn night<S: StateFolder, T: Tree, C: Clock, O: Output>(
 ) -> NightEnd
     // If each crash before it leaves a sound content, so does a crash at any moment of it.
     ensures any_moment { IsTrue S.told → OverShort T.told (T.state tree.old) (λ root.
-        WithLook (part_at site.now.ends)
-        (look_between root (T.state tree.old) (T.state tree.new))
+        WithLook site.now.further (part_at site.now.ends)
+        (look_between site.now.further root (T.state tree.old) (T.state tree.new))
         (λ rounds. IsKept S.StateFolder rounds folder.old
         → LeavesOnly S.moment S.left_since folder.old folder.new (IsSound rounds))) }
     ensures kept { IsTrue S.told → OverShort T.told (T.state tree.old) (λ root.
-        WithLook (part_at site.now.ends)
-        (look_between root (T.state tree.old) (T.state tree.new))
+        WithLook site.now.further (part_at site.now.ends)
+        (look_between site.now.further root (T.state tree.old) (T.state tree.new))
         (λ rounds. IsKept S.StateFolder rounds folder.old
         → IsKept S.StateFolder rounds folder.new)) }
 
@@ -561,8 +571,8 @@ pub fn night<S: StateFolder, T: Tree, C: Clock, O: Output>(
     // All of it was written by runs over this root, which could not read more than this night could
     // not, or by those of before.
     ensures heard { IsTrue S.told → OverShort T.told (T.state tree.old) (λ root.
-        IsSafeNight S.StateFolder (part_at site.now.ends)
-        (look_between root (T.state tree.old) (T.state tree.new))
+        IsSafeNight S.StateFolder site.now.further (part_at site.now.ends)
+        (look_between site.now.further root (T.state tree.old) (T.state tree.new))
         folder.old folder.new (O.said out.old) (O.said out.new)) }
 
     // The root stays, and what its store was looked at for is known.
@@ -572,14 +582,17 @@ pub fn night<S: StateFolder, T: Tree, C: Clock, O: Output>(
 
     // However it ends, it opens no content file that the checkpoint had taken with which it began.
     ensures beyond { IsTrue S.told → OverShort T.told (T.state tree.old) (λ root. ReadsBeyond
-        (S.seen folder.old) (content_since root (T.state tree.old) (T.state tree.new))) }
+        (S.seen folder.old) (content_since site.now.further root (T.state tree.old)
+        (T.state tree.new))) }
 
     // If no run of it stops, and no call of the store fails, it opens each content file once, in
     // order, and the checkpoint to which it led has taken them.
     ensures read { IsTrue S.told → OverShort T.told (T.state tree.old) (λ root.
-        IsKept S.StateFolder (of_any (part_at site.now.ends)) folder.old → EndsInOrder result.end
+        IsKept S.StateFolder (of_any site.now.further (part_at site.now.ends)) folder.old
+        → EndsInOrder result.end
         → IsRead (T.state tree.old) (T.state tree.new) result.end
-        (S.seen folder.old) (S.seen folder.new) (content_since root (T.state tree.old) (T.state tree.new))) }
+        (S.seen folder.old) (S.seen folder.new) (content_since site.now.further root
+        (T.state tree.old) (T.state tree.new))) }
 
     // However it ends, it opens each content file at most once, but for one of each run that stopped.
     // Whenever a crash comes, the checkpoint that is left has taken what the runs before had taken:
@@ -590,16 +603,16 @@ pub fn night<S: StateFolder, T: Tree, C: Clock, O: Output>(
     // the last no file is opened but those that declare the root, and nothing is listed but, when
     // the night begins, the top folder.
     ensures again { IsTrue C.told → IsTrue S.told → OverShort T.told (T.state tree.old) (λ root.
-        IsKept S.StateFolder (of_any (part_at site.now.ends)) folder.old
-        → HasLooked root (T.state tree.old) (T.state tree.new)
-        ⊎ IsLittleSince plan.now.create root (part_at site.now.ends) S.StateFolder
+        IsKept S.StateFolder (of_any site.now.further (part_at site.now.ends)) folder.old
+        → HasLooked site.now.further root (T.state tree.old) (T.state tree.new)
+        ⊎ IsLittleSince site.now.further plan.now.create root (part_at site.now.ends) S.StateFolder
         (S.seen folder.old) (C.events clock.old) (C.events clock.new)
         (T.state tree.old) (T.state tree.new) folder.new) }
 
     // Unless it is refused or something is troubled, all of the report is said, also what earlier
     // nights left.
     ensures said { IsTrue S.told → OverShort T.told (T.state tree.old)
-        (λ _. IsKept S.StateFolder (of_any (part_at site.now.ends)) folder.old
+        (λ _. IsKept S.StateFolder (of_any site.now.further (part_at site.now.ends)) folder.old
         → ((why : ModelStop) → result.end ≢ halt.Troubled why)
         → ((why : ModelRefusal) → result.end ≢ halt.Refused why)
         → IsAllSaid (S.seen folder.new)) }
@@ -610,8 +623,8 @@ pub fn night<S: StateFolder, T: Tree, C: Clock, O: Output>(
     ensures rightly { IsTrue S.told → (why : ModelRefusal) → result.end ≡ halt.Refused why
         → IsRefused T.told (T.state tree.old) site.now plan.now (S.seen folder.old) why }
 
-    // So does one in the folder of another root or part, with a checkpoint that is older than the
-    // reports, or over a root that is not as it was or declares nothing.
+    // So does one in the folder of another root, part or audit, with a checkpoint that is older than
+    // the reports, or over a root that is not as it was or declares nothing.
     ensures barred { IsTrue S.told
         → IsBarred T.told (T.state tree.old) site.now plan.now (S.seen folder.old)
         → IsNotBegun result.end × IsUntouched S.StateFolder folder.old folder.new }
@@ -631,8 +644,8 @@ pub fn night<S: StateFolder, T: Tree, C: Clock, O: Output>(
     // If a cycle has ended, its report is closed. It was not when the night began, unless a crash
     // had come right after it was closed. No other night closes one, unless something is troubled.
     ensures ended { IsTrue S.told → OverShort T.told (T.state tree.old) (λ root.
-        WithLook (part_at site.now.ends)
-        (look_between root (T.state tree.old) (T.state tree.new))
+        WithLook site.now.further (part_at site.now.ends)
+        (look_between site.now.further root (T.state tree.old) (T.state tree.new))
         (λ rounds. IsKept S.StateFolder rounds folder.old → (cycle : ℕ)
         → result.end ≡ halt.CycleEnded cycle → IsOneMore rounds cycle
         (S.seen folder.old) (S.seen folder.new))) }
@@ -643,23 +656,24 @@ pub fn night<S: StateFolder, T: Tree, C: Clock, O: Output>(
     // It is called whole exactly if nothing of it was lost, and no branch was left out, by this night
     // or before it.
     ensures whole { IsTrue S.told → OverShort T.told (T.state tree.old)
-        (λ _. IsKept S.StateFolder (of_any (part_at site.now.ends)) folder.old
+        (λ _. IsKept S.StateFolder (of_any site.now.further (part_at site.now.ends)) folder.old
         → (cycle : ℕ) → result.end ≡ halt.CycleEnded cycle → (d : Closed)
         → HasCome d (S.seen folder.old) (S.seen folder.new)
         → (IsTrue d.whole ↔ IsAllThere (S.seen folder.old) result)) }
 
     // If something is troubled, that is for a reason. It says that the folder failed only if it
     // did, or if what is there as a checkpoint is too long. It says that a checkpoint is too long
-    // only of one that it was to put: of this root and part, and of the cycle with which it began
-    // or the next one. It says that the output failed only if it did, and never that a report was
-    // closed already, that not all of one was said, or that checkpoint and report do not fit each
-    // other.
+    // only of one that it was to put: of this root, part and audit, and of the cycle with which it
+    // began or the next one. It says that the output failed only if it did, and never that a report
+    // was closed already, that not all of one was said, or that checkpoint and report do not fit
+    // each other.
     ensures troubled { (why : ModelStop) → result.end ≡ halt.Troubled why → IsReason
         (IsGiven S.told T.told (T.state tree.old)
-        (IsKept S.StateFolder (of_any (part_at site.now.ends)) folder.old))
+        (IsKept S.StateFolder (of_any site.now.further (part_at site.now.ends)) folder.old))
         (ForNight (IsUnlooked T.told (T.state tree.old) (T.state tree.new))
         (IsOfStore T.told (T.state tree.old) site.now)
-        (course plan.now.create (S.seen folder.old) result.runs (O.said out.old) (O.said out.new)))
+        (course site.now.further plan.now.create (S.seen folder.old) result.runs (O.said out.old)
+        (O.said out.new)))
         (S.faults folder.old) (S.faults folder.new) why }
 
     // At most 16 branches are left out, none if the night is to stop at faults, and neither the
@@ -673,7 +687,7 @@ pub fn night<S: StateFolder, T: Tree, C: Clock, O: Output>(
     // stop and that the end has not come, within the limits of the plan. By these it ended as it
     // says, unless troubled, and its figures are theirs. Where the last one led, the folder's
     // checkpoint stands then, or at the beginning of the next cycle if that one has ended.
-    ensures told { IsTrue C.told → IsNight plan.now S.told (S.seen folder.old)
+    ensures told { IsTrue C.told → IsNight site.now.further plan.now S.told (S.seen folder.old)
         (S.seen folder.new) (C.events clock.old) (C.events clock.new) result }
 
     // At each place the store failed at least as often as runs stopped there.

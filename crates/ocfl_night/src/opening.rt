@@ -80,12 +80,13 @@ fn begin<S: StateFolder>(
     ensures empty { IsTrue S.told → OnOk result (length (S.seen folder.old).report ≡ 0) }
     ensures unclosed { IsTrue S.told
         → OnOk result (is_closed (S.seen folder.old).closed 1 ≡ false) }
-    ensures stands { IfOk result (λ opened. position opened.checkpoint ≡ first_position) }
-    ensures any_moment { IsTrue S.told → (rounds : Rounds)
+    ensures stands { IfOk result (λ opened.
+        position opened.checkpoint ≡ first_position site.now.further) }
+    ensures any_moment { IsTrue S.told → (rounds : Rounds) → rounds.further ≡ site.now.further
         → Only (S.seen folder.old) (S.may_leave folder.old)
         → (S.seen folder.old).checkpoint ≡ None → IsNew [] (S.seen folder.old)
         → LeavesOnly S.moment S.left_since folder.old folder.new (IsSoundAt rounds []) }
-    ensures ready { IsTrue S.told → (rounds : Rounds)
+    ensures ready { IsTrue S.told → (rounds : Rounds) → rounds.further ≡ site.now.further
         → Only (S.seen folder.old) (S.may_leave folder.old) → IsNew [] (S.seen folder.old)
         → IfOk result (λ opened. IsReady S.StateFolder rounds []
         opened.checkpoint folder.new) }
@@ -242,7 +243,7 @@ fn resume<S: StateFolder>(
     })
 }
 
-/// Goes on from a checkpoint of this root and this part, if it is not older than the reports.
+/// Goes on from a checkpoint of this root, part and audit, if it is not older than the reports.
 fn go_on<S: StateFolder>(
     alloc: Global,
     folder: &mut S,
@@ -276,7 +277,8 @@ fn go_on<S: StateFolder>(
     Ok(resume(alloc, folder, checkpoint, identity)?)
 }
 
-/// Takes up what the last night left, however it ended, if it was one over this root and this part.
+/// Takes up what the last night left, however it ended, if it was one over this root and this part,
+/// and checked the same.
 pub fn open<S: StateFolder>(
     alloc: Global,
     folder: &mut S,
@@ -284,11 +286,11 @@ pub fn open<S: StateFolder>(
     identity: &Identity,
     plan: &Plan,
 ) -> Result<Opened, NotOpened>
-    ensures any_moment { IsTrue S.told → (rounds : Rounds)
+    ensures any_moment { IsTrue S.told → (rounds : Rounds) → rounds.further ≡ site.now.further
         → (kept : IsKept S.StateFolder rounds folder.old)
         → LeavesOnly S.moment S.left_since folder.old folder.new
         (IsFound rounds (S.may_leave folder.old) kept) }
-    ensures ready { IsTrue S.told → (rounds : Rounds)
+    ensures ready { IsTrue S.told → (rounds : Rounds) → rounds.further ≡ site.now.further
         → (kept : IsKept S.StateFolder rounds folder.old)
         → IfOk result (λ opened. IsFoundReady S.StateFolder rounds
         (S.may_leave folder.old) kept opened.checkpoint folder.new) }
@@ -296,7 +298,7 @@ pub fn open<S: StateFolder>(
     // It begins where the checkpoint of the folder stands. In a folder without one it begins at the
     // first item, if it may, and if no report is there.
     ensures begins { IsTrue S.told → IfOk result (λ opened.
-        BeginsAt plan.now.create (S.seen folder.old) opened.checkpoint) }
+        BeginsAt site.now.further plan.now.create (S.seen folder.old) opened.checkpoint) }
     // A report without a checkpoint is never begun anew.
     ensures empty { IsTrue S.told → (S.seen folder.old).checkpoint ≡ None
         → OnOk result (length (S.seen folder.old).report ≡ 0) }
@@ -318,8 +320,8 @@ pub fn open<S: StateFolder>(
     ensures refused { IsTrue S.told → OnRefused result (S.seen folder.new ≡ S.seen folder.old) }
     ensures rightly { IsTrue S.told → IfRefused result
         (IsFolderRefused site.now identity.now plan.now (S.seen folder.old)) }
-    // One of another root or part, or of a root that is not as it was, is not opened, and stays as
-    // it was.
+    // One of another root, part or audit, or of a root that is not as it was, is not opened, and
+    // stays as it was.
     ensures foreign { IsTrue S.told → IfForeign site.now identity.now plan.now (S.seen folder.old)
         (IsTurnedAway result S.StateFolder folder.old folder.new) }
     // Nor is one whose reports show that its checkpoint is an older one.
@@ -327,7 +329,7 @@ pub fn open<S: StateFolder>(
         (IsTurnedAway result S.StateFolder folder.old folder.new) }
     ensures at { IsTrue S.told
         → IfOk result (λ opened. IsAt opened.checkpoint (S.seen folder.new)) }
-    // It is of this root and part.
+    // It is of this root and part, and checks the same.
     ensures own { IfOk result (λ opened. IsOfSite site.now identity.now opened.checkpoint) }
     // If something is troubled, the folder failed, or what is there as a checkpoint is too long, or
     // the one with which it was to begin.

@@ -8,6 +8,7 @@ use crate::checkpoint::no_report;
 use crate::site::{Site, ends_again};
 use ocfl_cursor::{Cursor, PartEnds, State, is_same_part};
 use ocfl_identity::Identity;
+use ocfl_report::Further;
 use ocfl_state::{Checkpoint, Phase, RootIdentity, TopNames};
 use ocfl_terms::Refusal;
 use ocfl_tree::Place;
@@ -35,6 +36,13 @@ fn is_of(checkpoint: &Checkpoint, ends: &Option<PartEnds>) -> bool
         (Some(part), Some(ends)) => is_same_part(part, ends),
         _ => false,
     }
+}
+
+/// Whether the cursor of a checkpoint checks this.
+fn is_to_check(checkpoint: &Checkpoint, further: Further) -> bool
+    ensures { IsTrue result ↔ (checkpoint.now.cursor.further ≡ further) }
+{
+    checkpoint.cursor.further() == further
 }
 
 /// Whether the root has the declaration that a checkpoint has.
@@ -84,8 +92,8 @@ fn path_of(checkpoint: Checkpoint) -> Place
     checkpoint.into_path()
 }
 
-/// The same checkpoint, if it is of this root and this part, and unless forced the root is as it
-/// was.
+/// The same checkpoint, if it is of this root and this part and checks the same, and unless forced
+/// the root is as it was.
 pub(crate) fn own(
     found: Checkpoint,
     site: &Site,
@@ -102,6 +110,9 @@ pub(crate) fn own(
     }
     if !is_of(&found, &site.ends) {
         return Err(Refusal::OtherPart);
+    }
+    if !is_to_check(&found, site.further) {
+        return Err(Refusal::OtherAudit(found.cursor.further()));
     }
     if !force_root {
         same_root(&found, identity)?;
@@ -175,6 +186,6 @@ pub(crate) fn first_checkpoint(
         told: 0,
         left: Vec::new(alloc),
         part,
-        cursor: Cursor::new(),
+        cursor: Cursor::new(site.further),
     })
 }

@@ -4,6 +4,7 @@ ghost use Rattle.ocfl_scrub.specs.Starting.{part_of};
 ghost use Rattle.ocfl_night.specs.Site.{part_at};
 
 use ocfl_cursor::PartEnds;
+use ocfl_report::Further;
 use ocfl_scrub::Part;
 use ocfl_tree::Place;
 use std::alloc::{AllocError, Global};
@@ -15,6 +16,8 @@ pub struct Site {
     pub path: Place,
     /// The ends of the part that is read; `None` for all of the root.
     pub ends: Option<PartEnds>,
+    /// What the audit checks beside what every audit checks.
+    pub further: Further,
 }
 
 /// A copy of the end.

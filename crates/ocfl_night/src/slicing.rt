@@ -61,52 +61,58 @@ fn make_run<T: Tree>(
     block: &mut Block,
 ) -> Result<(RunEnd, Vec<u8>), NotKept>
     ensures run { IfTold T.told (T.state tree.old) (λ root. HasShortFiles root
-        → IsWalkReady root (part_of part.now) (place_in cursor.state) kept.old
+        → IsWalkReady cursor.further root (part_of part.now) (place_in cursor.state) kept.old
         → IfOk result (λ r. IsRun (part_of part.now) cursor
-        (look_between root (T.state tree.old) (T.state tree.new)) r.1.items r.0)) }
+        (look_between cursor.further root (T.state tree.old) (T.state tree.new)) r.1.items r.0)) }
     ensures counts { IfTold T.told (T.state tree.old) (λ root. HasShortFiles root
-        → IsWalkReady root (part_of part.now) (place_in cursor.state) kept.old
+        → IsWalkReady cursor.further root (part_of part.now) (place_in cursor.state) kept.old
         → Counts (T.state tree.old) (T.state tree.new)) }
     ensures beyond { AreDeclarations identity.now → IfTold T.told (T.state tree.old) (λ root.
-        HasShortFiles root → IsWalkReady root (part_of part.now) (place_in cursor.state) kept.old
+        HasShortFiles root → IsWalkReady cursor.further root (part_of part.now)
+        (place_in cursor.state) kept.old
         → AreBeyond (begun cursor).state
-        (content_since root (T.state tree.old) (T.state tree.new))) }
+        (content_since cursor.further root (T.state tree.old) (T.state tree.new))) }
     ensures read { AreDeclarations identity.now → IfTold T.told (T.state tree.old) (λ root.
-        HasShortFiles root → IsWalkReady root (part_of part.now) (place_in cursor.state) kept.old
+        HasShortFiles root → IsWalkReady cursor.further root (part_of part.now)
+        (place_in cursor.state) kept.old
         → IfOk result (λ r. HasRead (T.state tree.old) (T.state tree.new)
         (begun cursor).state r.0.cursor.state (place_or_pause (slice_end r.0.end))
-        (content_since root (T.state tree.old) (T.state tree.new)))) }
+        (content_since cursor.further root (T.state tree.old) (T.state tree.new)))) }
     ensures took { AreDeclarations identity.now → IfTold T.told (T.state tree.old) (λ root.
-        HasShortFiles root → IsWalkReady root (part_of part.now) (place_in cursor.state) kept.old
+        HasShortFiles root → IsWalkReady cursor.further root (part_of part.now)
+        (place_in cursor.state) kept.old
         → IfOk result (λ r. TookOrBegan r.0.cursor.state (slice_end r.0.end)
-        (content_since root (T.state tree.old) (T.state tree.new)))) }
+        (content_since cursor.further root (T.state tree.old) (T.state tree.new)))) }
     ensures once { AreDeclarations identity.now → IfTold T.told (T.state tree.old) (λ root.
-        HasShortFiles root → IsWalkReady root (part_of part.now) (place_in cursor.state) kept.old
-        → IsAscending place_cmp (content_since root (T.state tree.old) (T.state tree.new))) }
+        HasShortFiles root → IsWalkReady cursor.further root (part_of part.now)
+        (place_in cursor.state) kept.old
+        → IsAscending place_cmp (content_since cursor.further root (T.state tree.old)
+        (T.state tree.new))) }
     ensures asks { IfTold T.told (T.state tree.old) (λ root. HasShortFiles root
-        → IsWalkReady root (part_of part.now) (place_in cursor.state) kept.old
+        → IsWalkReady cursor.further root (part_of part.now) (place_in cursor.state) kept.old
         → IfOk result (λ r. IsRunAndLook root (part_of part.now) identity.now.declarations.items
         (met_at kept.old) cursor (λ ran. ran ≡ r.0) (T.state tree.old) (T.state tree.new))) }
     ensures unmade { IfTold T.told (T.state tree.old) (λ root. HasShortFiles root
-        → IsWalkReady root (part_of part.now) (place_in cursor.state) kept.old
+        → IsWalkReady cursor.further root (part_of part.now) (place_in cursor.state) kept.old
         → IfErr result (λ why. OrTroubled why (T.state tree.new ≡ T.state tree.old)
         (IsRunAndLook root (part_of part.now) identity.now.declarations.items
         (met_at kept.old) cursor (λ ran. ⊤) (T.state tree.old) (T.state tree.new)))) }
     ensures met { IfOk result (λ r. IsMetBy (slice_end r.0.end) (met_at kept.new)) }
     ensures failed { IfTold T.told (T.state tree.old) (λ root. HasShortFiles root
-        → IsWalkReady root (part_of part.now) (place_in cursor.state) kept.old
+        → IsWalkReady cursor.further root (part_of part.now) (place_in cursor.state) kept.old
         → IfOk result (λ r. FailedMore (T.state tree.old) (T.state tree.new)
         (stopped_at (slice_end r.0.end)))) }
     ensures unread { IfTold T.told (T.state tree.old) (λ root. HasShortFiles root
-        → IsWalkReady root (part_of part.now) (place_in cursor.state) kept.old
+        → IsWalkReady cursor.further root (part_of part.now) (place_in cursor.state) kept.old
         → IfErr result (λ why. FailedMore (T.state tree.old) (T.state tree.new)
         (unread_at why))) }
     ensures walk { IfTold T.told (T.state tree.old) (λ root. HasShortFiles root
-        → IsWalkReady root (part_of part.now) (place_in cursor.state) kept.old
-        → IfOk result (λ r. IsWalkReady root (part_of part.now) (place_in r.0.cursor.state)
+        → IsWalkReady cursor.further root (part_of part.now) (place_in cursor.state) kept.old
+        → IfOk result (λ r. IsWalkReady r.0.cursor.further root (part_of part.now)
+        (place_in r.0.cursor.state)
         kept.new)) }
     ensures root { IfTold T.told (T.state tree.old) (λ root. HasShortFiles root
-        → IsWalkReady root (part_of part.now) (place_in cursor.state) kept.old
+        → IsWalkReady cursor.further root (part_of part.now) (place_in cursor.state) kept.old
         → (T.state tree.new).tree ≡ root) }
     ensures still { IsTrue T.told → OnOk result (IsStill identity.now (T.state tree.new).tree) }
     ensures keeps { IfOk result (λ r. KeepsTo cursor limits r.0) }
@@ -279,12 +285,14 @@ pub fn slice<S: StateFolder, T: Tree>(
 ) -> Result<Made, Stop>
     requires { checkpoint.phase ≡ Open }
     ensures any_moment { IsTrue S.told → IfWalkAt T.told (T.state tree.old)
-        (part_of part.now) checkpoint kept.old (λ root. WithLook (part_of part.now)
-        (look_between root (T.state tree.old) (T.state tree.new))
+        (part_of part.now) checkpoint kept.old (λ root. WithLook checkpoint.cursor.further
+        (part_of part.now)
+        (look_between checkpoint.cursor.further root (T.state tree.old) (T.state tree.new))
         (λ rounds. IsSafeIn S.StateFolder rounds checkpoint folder.old folder.new)) }
     ensures ready { IsTrue S.told → IfWalkAt T.told (T.state tree.old)
-        (part_of part.now) checkpoint kept.old (λ root. WithLook (part_of part.now)
-        (look_between root (T.state tree.old) (T.state tree.new))
+        (part_of part.now) checkpoint kept.old (λ root. WithLook checkpoint.cursor.further
+        (part_of part.now)
+        (look_between checkpoint.cursor.further root (T.state tree.old) (T.state tree.new))
         (λ rounds. IfReadyIn S.StateFolder rounds checkpoint folder.old (λ t. IfOk result
         (λ made. IsReady S.StateFolder rounds t made.checkpoint folder.new)))) }
     ensures closed { IsTrue S.told → OnOk result (SameClosed S.StateFolder folder.old folder.new) }
@@ -297,21 +305,23 @@ pub fn slice<S: StateFolder, T: Tree>(
     // in order, and the checkpoint after it has taken them.
     ensures beyond { AreDeclarations identity.now → IfWalkAt T.told (T.state tree.old)
         (part_of part.now) checkpoint kept.old (λ root. AreBeyond (reached checkpoint)
-        (content_since root (T.state tree.old) (T.state tree.new))) }
+        (content_since checkpoint.cursor.further root (T.state tree.old) (T.state tree.new))) }
     ensures read { AreDeclarations identity.now → IfWalkAt T.told (T.state tree.old)
         (part_of part.now) checkpoint kept.old (λ root. IfOk result (λ made. HasRead
         (T.state tree.old) (T.state tree.new) (reached checkpoint) (reached made.checkpoint)
-        (place_or_pause made.end) (content_since root (T.state tree.old) (T.state tree.new)))) }
+        (place_or_pause made.end) (content_since checkpoint.cursor.further root (T.state tree.old)
+        (T.state tree.new)))) }
 
     // It opens each content file once, in order, however it ends. Of those it has taken all when it
     // ends, or all but one if it stopped. Whenever a crash comes, what had been taken still is.
     ensures once { AreDeclarations identity.now → IfWalkAt T.told (T.state tree.old)
         (part_of part.now) checkpoint kept.old (λ root.
-        IsAscending place_cmp (content_since root (T.state tree.old) (T.state tree.new))) }
+        IsAscending place_cmp (content_since checkpoint.cursor.further root (T.state tree.old)
+        (T.state tree.new))) }
     ensures took { AreDeclarations identity.now → IfWalkAt T.told (T.state tree.old)
         (part_of part.now) checkpoint kept.old (λ root. IfOk result (λ made.
         TookOrBegan (reached made.checkpoint) made.end
-        (content_since root (T.state tree.old) (T.state tree.new)))) }
+        (content_since checkpoint.cursor.further root (T.state tree.old) (T.state tree.new)))) }
     ensures crash { IsTrue S.told → AreDeclarations identity.now → IfWalkAt T.told
         (T.state tree.old) (part_of part.now) checkpoint kept.old (λ root.
         OnlyGoesOn S.StateFolder checkpoint folder.old folder.new) }

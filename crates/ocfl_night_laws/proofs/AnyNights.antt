@@ -20,6 +20,8 @@ use Rattle.ocfl_night_laws.specs.Nights.{Night, AreNights, AreOver, AtAnyMoment,
 use Rattle.ocfl_night.proofs.Chains.{ended_cursor, has_none, left_again, left_all, left_among}
 use Rattle.ocfl_night_laws.proofs.Around.{wrote_around}
 use Rattle.ocfl_night.proofs.Heard.{since_sound}
+use Rattle.ocfl_report.specs.declared.further.Further.{Further}
+use Rattle.ocfl_report.specs.declared.further.Further.TheVariants.{Nothing}
 
 -- ---- closed reports
 
@@ -72,6 +74,7 @@ module _ (rounds : Rounds) (t : Text) {gone : List ℕ} (goes : (cycle : ℕ) �
   tidied_stands k d c at tidied (inr (inr w)) = inr (inr (record {
     phase = w.phase;
     ends = w.ends;
+    checks = w.checks;
     empty = tidied.report ∙ w.empty;
     there = tidied.stays k at w.phase w.there;
     told = w.told;
@@ -125,12 +128,12 @@ module _ {F : Type 0} where
 
 -- ---- any nights
 
-module _ {F : Type 0} (S : state.Ghosts F) (part : Part) where
+module _ {F : Type 0} (S : state.Ghosts F) (further : Further) (part : Part) where
   module _ (known : Option Known) where
     abbrev rounds : Rounds
-    rounds = record { part = part; known = known }
+    rounds = record { part = part; further = further; known = known }
 
-    pub all_sound : (outcomes : Outcomes) (nights : List (Night F)) → AreIn known nights → AreSound rounds outcomes → AreNights S part outcomes nights
+    pub all_sound : (outcomes : Outcomes) (nights : List (Night F)) → AreIn known nights → AreSound rounds outcomes → AreNights S further part outcomes nights
         → AtAnyMoment S (IsSound rounds) nights
     all_sound outcomes [] given sound are = tt
     all_sound outcomes (n ∷ nights) given sound are =
@@ -139,13 +142,13 @@ module _ {F : Type 0} (S : state.Ghosts F) (part : Part) where
         let each : (c : Content) → S.left_since n.ended (S.moment n.began) c → IsSound rounds c = λ c left. since_sound (all.each c left) in
         (each, all_sound (S.left_since n.ended (S.moment n.began)) nights given.1 each are.2)
 
-  pub all_taken : (outcomes : Outcomes) (earlier nights : List (Night F)) → ((c : Content) → outcomes c → (t : Text) × (IsSoundAt (of_any part) t c × IsTaken earlier t))
-      → AreNights S part outcomes nights → AllTaken S (of_any part) earlier nights
+  pub all_taken : (outcomes : Outcomes) (earlier nights : List (Night F)) → ((c : Content) → outcomes c → (t : Text) × (IsSoundAt (of_any further part) t c × IsTaken earlier t))
+      → AreNights S further part outcomes nights → AllTaken S (of_any further part) earlier nights
   all_taken outcomes earlier [] taken are = tt
   all_taken outcomes earlier (n ∷ nights) taken are =
-      let kept : IsKept S (of_any part) n.began = λ c left. let x = are.0 c left in let was = taken x.0 x.1 in (was.0, tidied_sound (of_any part) was.0 (λ cycle is. tt) x.0 c x.2 was.1.0) in
+      let kept : IsKept S (of_any further part) n.began = λ c left. let x = are.0 c left in let was = taken x.0 x.1 in (was.0, tidied_sound (of_any further part) was.0 (λ cycle is. tt) x.0 c x.2 was.1.0) in
       let all = are.1 None tt kept in
-      let now : (c : Content) → S.left_since n.ended (S.moment n.began) c → (t : Text) × (IsSoundAt (of_any part) t c × IsTaken (n ∷ earlier) t) = λ c left.
+      let now : (c : Content) → S.left_since n.ended (S.moment n.began) c → (t : Text) × (IsSoundAt (of_any further part) t c × IsTaken (n ∷ earlier) t) = λ c left.
       let h = all.each c left in
       let x = are.0 h.from h.was in
       let was = taken x.0 x.1 in
@@ -159,15 +162,15 @@ at_any S (n ∷ nights) more all = ((λ c left. more c (all.0 c left)), at_any S
 
 -- ---- of one storage root
 
-pub one_cycle : (root : StorageRoot) (part : Part) (c d : Cursor) (runs : List RootRun) → AllByRecursion (λ r. r.root ≡ root) runs → EndAt part c runs d
-    → AreOneCycle root part c (map (λ r. r.run) runs) × ((cursor_after c (map (λ r. r.run) runs)).state ≡ ended)
-one_cycle root part c d [] all end = absurd end
-one_cycle root part c d (r ∷ []) all end =
-    let made : Ran root part c r.run = subst (λ (x : StorageRoot). Ran x part c r.run) all.0 end.0 in
-    (made, (ended_cursor root part c r.run made end.1).0)
-one_cycle root part c d (r ∷ q ∷ runs) all end =
-    let made : Ran root part c r.run = subst (λ (x : StorageRoot). Ran x part c r.run) all.0 end.0 in
-    let rest = one_cycle root part r.run.ran.cursor d (q ∷ runs) all.1 end.2 in
+pub one_cycle : (further : Further) (root : StorageRoot) (part : Part) (c d : Cursor) (runs : List RootRun) → AllByRecursion (λ r. r.root ≡ root) runs → EndAt further part c runs d
+    → AreOneCycle further root part c (map (λ r. r.run) runs) × ((cursor_after c (map (λ r. r.run) runs)).state ≡ ended)
+one_cycle further root part c d [] all end = absurd end
+one_cycle further root part c d (r ∷ []) all end =
+    let made : Ran further root part c r.run = subst (λ (x : StorageRoot). Ran further x part c r.run) all.0 end.0 in
+    (made, (ended_cursor further root part c r.run made end.1).0)
+one_cycle further root part c d (r ∷ q ∷ runs) all end =
+    let made : Ran further root part c r.run = subst (λ (x : StorageRoot). Ran further x part c r.run) all.0 end.0 in
+    let rest = one_cycle further root part r.run.ran.cursor d (q ∷ runs) all.1 end.2 in
     ((made, (end.1, rest.0)), rest.1)
 
 pub joined_reports : (runs : List RootRun) → joined runs ≡ reports_of (map (λ r. r.run) runs)
@@ -192,18 +195,18 @@ among_map P f [] all y among = absurd among
 among_map P f (x ∷ xs) all y (inl same) = subst P (sym same) all.0
 among_map P f (x ∷ xs) all y (inr among) = among_map P f xs all.1 y among
 
-module _ (root : StorageRoot) (known : Known) where
+module _ (further : Further) (root : StorageRoot) (known : Known) where
   -- runs within looks at one root were over it
-  pub over_one : ((l : Look) → IsAmong known.looks l → l.root ≡ root) → (runs : List RootRun) → AreLooked (Some known) runs → AllByRecursion (λ r. r.root ≡ root) runs
+  pub over_one : ((l : Look) → IsAmong known.looks l → l.root ≡ root) → (runs : List RootRun) → AreLooked further (Some known) runs → AllByRecursion (λ r. r.root ≡ root) runs
   over_one one [] looked = tt
   over_one one (r ∷ runs) looked = (looked.0.1.1.root ∙ one looked.0.0 looked.0.1.0, over_one one runs looked.1)
 
   -- and branches were left out over it
-  pub next_over : ((l : Look) → IsAmong known.looks l → l.root ≡ root) → (part : Part) (left : List Left) → AreNextIn (Some known) part left → AreNext root part left
-  next_over one part [] all = tt
-  next_over one part (l ∷ left) all =
+  pub next_over : ((l : Look) → IsAmong known.looks l → l.root ≡ root) → (part : Part) (left : List Left) → AreNextIn further (Some known) part left → further ≡ Nothing → AreNext further root part left
+  next_over one part [] all plain = tt
+  next_over one part (l ∷ left) all plain =
       let same : all.0.0 ≡ root = sym all.0.1.0.1.1 ∙ one all.0.1.0.0 all.0.1.0.1.0 in
-      (subst (λ (x : StorageRoot). NoneBefore x part l.after l.place) same all.0.1.1, next_over one (past_branch part l) left all.1)
+      (subst (λ (x : StorageRoot). NoneBefore further x part l.after l.place) same (all.0.1.1 plain), next_over one (past_branch part l) left all.1 plain)
 
   abbrev CouldNot : Place × ℕ → Type 0
   CouldNot e = (l : Look) × (IsAmong known.looks l × IsAmong l.unread e)
@@ -211,73 +214,73 @@ module _ (root : StorageRoot) (known : Known) where
   among_filter : (keeps : Place × ℕ → Bool) (u : Unread) (e : Place × ℕ) → IsAmong (filter keeps u) e → IsAmong u e
   among_filter keeps u e is = (among_from_filter keeps u e is).0
 
-  unread_among : (r : RootRun) → r.root ≡ root → IsOneOf (Some known) (look_of r) → (e : Place × ℕ) → IsAmong (unread_by root r.run) e → CouldNot e
+  unread_among : (r : RootRun) → r.root ≡ root → IsOneOf (Some known) (look_of further r) → (e : Place × ℕ) → IsAmong (unread_by further root r.run) e → CouldNot e
   unread_among r over one e is =
-      let opened : IsAmong (unread_of None r.root r.run.opened) e = subst (λ (x : StorageRoot). IsAmong (unread_of None x r.run.opened) e) (sym over) (among_filter (λ x. is_taken r.run.ran.cursor.state x.0) (unread_of None root r.run.opened) e is) in
+      let opened : IsAmong (unread_of further r.root r.run.opened) e = subst (λ (x : StorageRoot). IsAmong (unread_of further x r.run.opened) e) (sym over) (among_filter (λ x. is_taken r.run.ran.cursor.state x.0) (unread_of further root r.run.opened) e is) in
       (one.0, (one.1.0, one.1.1.unread e opened))
 
   -- what they could not read, one of the looks could not
-  pub unread_each : (runs : List RootRun) → AllByRecursion (λ r. r.root ≡ root) runs → AreLooked (Some known) runs → (e : Place × ℕ) → IsAmong (unread_together root (map (λ r. r.run) runs)) e → CouldNot e
+  pub unread_each : (runs : List RootRun) → AllByRecursion (λ r. r.root ≡ root) runs → AreLooked further (Some known) runs → (e : Place × ℕ) → IsAmong (unread_together further root (map (λ r. r.run) runs)) e → CouldNot e
   unread_each [] over looked e is = absurd is
   unread_each (r ∷ runs) over looked e is =
-      ⊎_elim (λ first. unread_among r over.0 looked.0 e first) (λ later. unread_each runs over.1 looked.1 e later) (among_either (unread_by root r.run) (unread_together root (map (λ r. r.run) runs)) e is)
+      ⊎_elim (λ first. unread_among r over.0 looked.0 e first) (λ later. unread_each runs over.1 looked.1 e later) (among_either (unread_by further root r.run) (unread_together further root (map (λ r. r.run) runs)) e is)
 
 none_among : (u : Unread) → ((e : Place × ℕ) → IsAmong u e → ⊥) → u ≡ []
 none_among [] without = refl
 none_among (e ∷ u) without = absurd (without e (inl refl))
 
-module _ {F : Type 0} (root : StorageRoot) (nights : List (Night F)) (over : AreOver root nights) where
+module _ {F : Type 0} (further : Further) (root : StorageRoot) (nights : List (Night F)) (over : AreOver root nights) where
   abbrev known : Known
   known = known_of nights
 
   pub looks_over : (l : Look) → IsAmong known.looks l → l.root ≡ root
   looks_over = among_map (λ (l : Look). l.root ≡ root) (λ n. n.look) nights over
 
-  read_none : HaveReadAll nights → (e : Place × ℕ) → CouldNot root known e → ⊥
+  read_none : HaveReadAll nights → (e : Place × ℕ) → CouldNot further root known e → ⊥
   read_none read e could =
       let all : could.0.unread ≡ [] = among_map (λ (l : Look). l.unread ≡ []) (λ n. n.look) nights read could.0 could.1.0 in
       subst (λ (u : Unread). IsAmong u e) all could.1.1
 
-  module _ (join : (root : StorageRoot) (part : Part) (c : Cursor) (runs : List PartRun) → place_in c.state ≡ None → AreOneCycle root part c runs → (cursor_after c runs).state ≡ ended → reports_of runs ≡ text (within part (audit None root (unread_together root runs)))) (part : Part) where
-    module _ (d : Closed) (w : IsReportOf (rounds_of part nights) [] d) where
+  module _ (join : (further : Further) (root : StorageRoot) (part : Part) (c : Cursor) (runs : List PartRun) → place_in c.state ≡ None → AreOneCycle further root part c runs → (cursor_after c runs).state ≡ ended → reports_of runs ≡ text (within part (audit further root (unread_together further root runs)))) (part : Part) where
+    module _ (d : Closed) (w : IsReportOf (rounds_of further part nights) [] d) where
       one_root : AllByRecursion (λ r. r.root ≡ root) w.led.runs
-      one_root = over_one root known looks_over w.led.runs w.led.looked
+      one_root = over_one further root known looks_over w.led.runs w.led.looked
 
-      audited : d.report ≡ text (within part (audit None root (unread_together root (map (λ r. r.run) w.led.runs))))
+      audited : d.report ≡ text (within part (audit further root (unread_together further root (map (λ r. r.run) w.led.runs))))
       audited =
-          let one = one_cycle root part w.led.first w.last w.led.runs one_root w.led.chain in
-          w.report ∙ joined_reports w.led.runs ∙ join root part w.led.first (map (λ r. r.run) w.led.runs) w.led.starts one.0 one.1
+          let one = one_cycle further root part w.led.first w.last w.led.runs one_root w.led.chain in
+          w.report ∙ joined_reports w.led.runs ∙ join further root part w.led.first (map (λ r. r.run) w.led.runs) w.led.starts one.0 one.1
 
-      pub is_audit_but : IsAuditBut root part known.looks d.report
+      pub is_audit_but : IsAuditBut further root part known.looks d.report
       is_audit_but = record {
-        unread = unread_together root (map (λ r. r.run) w.led.runs);
+        unread = unread_together further root (map (λ r. r.run) w.led.runs);
         is = audited;
-        each = unread_each root known w.led.runs one_root w.led.looked;
+        each = unread_each further root known w.led.runs one_root w.led.looked;
       }
 
-      pub is_audit : HaveReadAll nights → d.report ≡ text (within part (audit None root []))
+      pub is_audit : HaveReadAll nights → d.report ≡ text (within part (audit further root []))
       is_audit read =
-          audited ∙ ap (λ (u : Unread). text (within part (audit None root u))) (none_among (unread_together root (map (λ r. r.run) w.led.runs)) (λ e is. read_none read e (unread_each root known w.led.runs one_root w.led.looked e is)))
+          audited ∙ ap (λ (u : Unread). text (within part (audit further root u))) (none_among (unread_together further root (map (λ r. r.run) w.led.runs)) (λ e is. read_none read e (unread_each further root known w.led.runs one_root w.led.looked e is)))
 
     -- ---- around what was left out
 
     -- a closed report that is not called whole
-    pub is_around : HaveReadAll nights → (d : Closed) → (left : List Left) × ((left ≢ []) × IsReportOf (rounds_of part nights) left d) → IsAround root part d.report
+    pub is_around : HaveReadAll nights → (d : Closed) → (left : List Left) × ((left ≢ []) × IsReportOf (rounds_of further part nights) left d) → IsAround further root part d.report
     is_around read d (left, (some, w)) = record {
       left = left;
       some = some;
-      next = next_over root known looks_over part left w.led.next;
+      next = next_over further root known looks_over part left w.led.next;
       is =
           w.report
-          ∙ wrote_around root part w.led.first w.last w.led.runs left w.led.chain (over_one root known looks_over w.led.runs w.led.looked) (read_runs w.led.runs (over_one root known looks_over w.led.runs w.led.looked) w.led.looked)
-          ∙ ap (λ (from : Option Place). text (around part from left (audit None root []))) w.led.starts;
+          ∙ wrote_around further root part w.led.first w.last w.led.runs left w.led.chain (over_one further root known looks_over w.led.runs w.led.looked) (read_runs w.led.runs (over_one further root known looks_over w.led.runs w.led.looked) w.led.looked)
+          ∙ ap (λ (from : Option Place). text (around part from left (audit further root []))) w.led.starts;
     }
       where
-        read_run : (r : RootRun) → r.root ≡ root → IsOneOf (Some known) (look_of r) → unread_of None root r.run.opened ≡ []
+        read_run : (r : RootRun) → r.root ≡ root → IsOneOf (Some known) (look_of further r) → unread_of further root r.run.opened ≡ []
         read_run r over one =
-            none_among (unread_of None root r.run.opened) (λ e is. read_none read e (one.0, (one.1.0, one.1.1.unread e (subst (λ (x : StorageRoot). IsAmong (unread_of None x r.run.opened) e) (sym over) is))))
+            none_among (unread_of further root r.run.opened) (λ e is. read_none read e (one.0, (one.1.0, one.1.1.unread e (subst (λ (x : StorageRoot). IsAmong (unread_of further x r.run.opened) e) (sym over) is))))
 
-        read_runs : (runs : List RootRun) → AllByRecursion (λ r. r.root ≡ root) runs → AreLooked (Some known) runs → AllByRecursion (λ r. unread_of None root r.run.opened ≡ []) runs
+        read_runs : (runs : List RootRun) → AllByRecursion (λ r. r.root ≡ root) runs → AreLooked further (Some known) runs → AllByRecursion (λ r. unread_of further root r.run.opened ≡ []) runs
         read_runs [] over looked = tt
         read_runs (r ∷ runs) over looked = (read_run r over.0 looked.0, read_runs runs over.1 looked.1)
 
@@ -296,11 +299,11 @@ nothing_there : (os : List Opening) → length os ≡ 0 → os ≡ []
 nothing_there [] is = refl
 nothing_there (o ∷ os) is = absurd (omega (arith, is))
 
-no_unread : (root : StorageRoot) (os : List Opening) → failed_openings os ≡ 0 → unread_of None root os ≡ []
-no_unread root os none =
+no_unread : (further : Further) (root : StorageRoot) (os : List Opening) → failed_openings os ≡ 0 → unread_of further root os ≡ []
+no_unread further root os none =
     let failed : Opening → Bool = λ o. o.failed in
-    let content : Opening → Bool = λ o. not (is_meta None root o.place) in
+    let content : Opening → Bool = λ o. not (is_meta further root o.place) in
     ap (map (λ (o : Opening). (o.place, o.given))) (filters_turn failed content os ∙ ap (filter content) (nothing_there (filter failed os) none))
 
-pub all_read : (root : StorageRoot) (s t : Store) → Counts s t → t.failures ≡ s.failures → (look_between root s t).unread ≡ []
-all_read root s t counts same = no_unread root (opened_since s t) (omega (arith, counts.failures, same))
+pub all_read : (further : Further) (root : StorageRoot) (s t : Store) → Counts s t → t.failures ≡ s.failures → (look_between further root s t).unread ≡ []
+all_read further root s t counts same = no_unread further root (opened_since s t) (omega (arith, counts.failures, same))

@@ -21,6 +21,7 @@ use Rattle.ocfl_scrub.proofs.{PassLaws.{text_append}, RunLaws.{no_first}, RunPla
 use Rattle.ocfl_state.specs.declared.checkpoint_parts.Left.{Left}
 use Rattle.ocfl_night.specs.Chain.{RootRun, joined, LeadTo, EndAt, past_branch, LedToEnd}
 use Rattle.ocfl_night_laws.specs.Around.{up_to, around}
+use Rattle.ocfl_report.specs.declared.further.Further.{Further}
 
 -- ---- items up to a place, and those above it
 
@@ -94,17 +95,17 @@ front_up_to items from (Some q) front is = front_of (λ i. is_lt (place_cmp q i.
 
 -- ---- one run
 
-module _ (root : StorageRoot) (part : Part) where
+module _ (further : Further) (root : StorageRoot) (part : Part) where
   -- what was written from one place on, and what is left above another
   abbrev Goes : Option Place → Option Place → Text → Type 0
-  Goes from to report = (front : List Item) × ((report ≡ text front) × (front ++ after (within part (audit None root [])) to ≡ after (within part (audit None root [])) from))
+  Goes from to report = (front : List Item) × ((report ≡ text front) × (front ++ after (within part (audit further root [])) to ≡ after (within part (audit further root [])) from))
 
-  module _ (c : Cursor) (r : PartRun) (w : Ran root part c r) (all : unread_of None root r.opened ≡ []) where
+  module _ (c : Cursor) (r : PartRun) (w : Ran further root part c r) (all : unread_of further root r.opened ≡ []) where
     abbrev call : Call
-    call = known_call root w.before w.behind w.old (w.old ++ (r.report ++ w.cut))
+    call = known_call further root w.before w.behind w.old (w.old ++ (r.report ++ w.cut))
 
-    none : (trail : List Opening) → w.behind.openings ≡ w.before.openings ++ trail → unread_of None root trail ≡ []
-    none trail are = ap (unread_of None root) (append_cancel_left w.before.openings trail r.opened (sym are ∙ w.opened_is)) ∙ all
+    none : (trail : List Opening) → w.behind.openings ≡ w.before.openings ++ trail → unread_of further root trail ≡ []
+    none trail are = ap (unread_of further root) (append_cancel_left w.before.openings trail r.opened (sym are ∙ w.opened_is)) ∙ all
 
     goes_by : (last : Option Place) (limits : Limits) (spent files : ℕ) (finding : Bool) (end : RunStatus) (run : RunEndsWithin call part (place_in c.state) last limits spent files finding end)
         → end ≢ status.Ended → r.report ≡ text (items_out call part (place_in c.state) last limits spent files finding end run) → Goes (place_in c.state) last r.report
@@ -112,33 +113,33 @@ module _ (root : StorageRoot) (part : Part) where
     goes_by last limits spent files finding status.Spent run goes is =
         let from : Option Place = place_in c.state in
         let h = run.1 in
-        let empty : unread_of None root h.trail ≡ [] = none h.trail h.looks.audits.did.openings_are in
-        let items : List Item = after (within part (audit None root [])) from in
-        let last_is : last ≡ last_or from (places (cut items limits)) = h.last_is ∙ ap (λ (u : Unread). last_or from (places (cut (after (within part (audit None root u)) from) limits))) empty in
-        let rest : after (within part (audit None root [])) last ≡ left items limits =
-        ap (after (within part (audit None root []))) last_is ∙ after_front root [] part from (cut items limits) (left items limits) (sym (cut_and_left items limits)) in
-        (cut items limits, (is ∙ ap (λ (u : Unread). text (cut (after (within part (audit None root u)) from) limits)) empty, ap (λ (is : List Item). cut items limits ++ is) rest ∙ cut_and_left items limits))
+        let empty : unread_of further root h.trail ≡ [] = none h.trail h.looks.audits.did.openings_are in
+        let items : List Item = after (within part (audit further root [])) from in
+        let last_is : last ≡ last_or from (places (cut items limits)) = h.last_is ∙ ap (λ (u : Unread). last_or from (places (cut (after (within part (audit further root u)) from) limits))) empty in
+        let rest : after (within part (audit further root [])) last ≡ left items limits =
+        ap (after (within part (audit further root []))) last_is ∙ after_front further root [] part from (cut items limits) (left items limits) (sym (cut_and_left items limits)) in
+        (cut items limits, (is ∙ ap (λ (u : Unread). text (cut (after (within part (audit further root u)) from) limits)) empty, ap (λ (is : List Item). cut items limits ++ is) rest ∙ cut_and_left items limits))
     goes_by last limits spent files finding (status.Stopped why) run goes is =
         let from : Option Place = place_in c.state in
-        let empty : unread_of None root run.trail ≡ [] = none run.trail run.looks.fails.did.openings_are in
-        let items : List Item = after (within part (audit None root [])) from in
+        let empty : unread_of further root run.trail ≡ [] = none run.trail run.looks.fails.did.openings_are in
+        let items : List Item = after (within part (audit further root [])) from in
         let first : List Item = run.stops.whole in
         let more : List Item = run.stops.others ++ left items limits in
-        let taken : cut items limits ≡ first ++ run.stops.others = sym (ap (λ (u : Unread). cut (after (within part (audit None root u)) from) limits) empty) ∙ run.stops.items_are in
+        let taken : cut items limits ≡ first ++ run.stops.others = sym (ap (λ (u : Unread). cut (after (within part (audit further root u)) from) limits) empty) ∙ run.stops.items_are in
         let both : items ≡ first ++ more = sym (cut_and_left items limits) ∙ ap (λ (is : List Item). is ++ left items limits) taken ∙ append_assoc first run.stops.others (left items limits) in
-        let rest : after (within part (audit None root [])) last ≡ more = ap (after (within part (audit None root []))) run.stops.last_is ∙ after_front root [] part from first more both in
+        let rest : after (within part (audit further root [])) last ≡ more = ap (after (within part (audit further root []))) run.stops.last_is ∙ after_front further root [] part from first more both in
         (first, (is, ap (λ (is : List Item). first ++ is) rest ∙ sym both))
     goes_by last limits spent files finding status.Worn run goes is = absurd run
 
     all_by : (last : Option Place) (limits : Limits) (spent files : ℕ) (finding : Bool) (end : RunStatus) (run : RunEndsWithin call part (place_in c.state) last limits spent files finding end)
-        → end ≡ status.Ended → r.report ≡ text (items_out call part (place_in c.state) last limits spent files finding end run) → r.report ≡ text (after (within part (audit None root [])) (place_in c.state))
+        → end ≡ status.Ended → r.report ≡ text (items_out call part (place_in c.state) last limits spent files finding end run) → r.report ≡ text (after (within part (audit further root [])) (place_in c.state))
     all_by last limits spent files finding status.Ended run ends is =
         let from : Option Place = place_in c.state in
-        let empty : unread_of None root run.trail ≡ [] = none run.trail run.looks.audits.did.openings_are in
-        let items : List Item = after (within part (audit None root [])) from in
-        let next : None ≡ slice_get (places (left items limits)) 0 = run.next_is ∙ ap (λ (u : Unread). slice_get (places (left (after (within part (audit None root u)) from) limits)) 0) empty in
+        let empty : unread_of further root run.trail ≡ [] = none run.trail run.looks.audits.did.openings_are in
+        let items : List Item = after (within part (audit further root [])) from in
+        let next : None ≡ slice_get (places (left items limits)) 0 = run.next_is ∙ ap (λ (u : Unread). slice_get (places (left (after (within part (audit further root u)) from) limits)) 0) empty in
         let whole : cut items limits ≡ items = sym (append-nil (cut items limits)) ∙ ap (λ (is : List Item). cut items limits ++ is) (sym (no_first (left items limits) next)) ∙ cut_and_left items limits in
-        is ∙ ap (λ (u : Unread). text (cut (after (within part (audit None root u)) from) limits)) empty ∙ ap text whole
+        is ∙ ap (λ (u : Unread). text (cut (after (within part (audit further root u)) from) limits)) empty ∙ ap text whole
     all_by last limits spent files finding status.Spent run ends is = absurd (cc ends)
     all_by last limits spent files finding (status.Stopped why) run ends is = absurd (cc ends)
     all_by last limits spent files finding status.Worn run ends is = absurd (cc ends)
@@ -156,7 +157,7 @@ module _ (root : StorageRoot) (part : Part) where
         subst (λ (to : Option Place). Goes (place_in c.state) to r.report) (sym there) (goes_by w.runs.last r.limits r.ran.spent r.ran.files r.ran.found r.ran.end w.runs.run goes w.report_is)
 
     -- the run that ended it
-    run_ends : r.ran.end ≡ status.Ended → r.report ≡ text (after (within part (audit None root [])) (place_in c.state))
+    run_ends : r.ran.end ≡ status.Ended → r.report ≡ text (after (within part (audit further root [])) (place_in c.state))
     run_ends ends = all_by w.runs.last r.limits r.ran.spent r.ran.files r.ran.found r.ran.end w.runs.run ends w.report_is
 
 -- ---- runs one after the other
@@ -164,49 +165,49 @@ module _ (root : StorageRoot) (part : Part) where
 abbrev OverOne : StorageRoot → List RootRun → Type 0
 OverOne root runs = AllByRecursion (λ r. r.root ≡ root) runs
 
-abbrev ReadAll : StorageRoot → List RootRun → Type 0
-ReadAll root runs = AllByRecursion (λ r. unread_of None root r.run.opened ≡ []) runs
+abbrev ReadAll : Further → StorageRoot → List RootRun → Type 0
+ReadAll further root runs = AllByRecursion (λ r. unread_of further root r.run.opened ≡ []) runs
 
 split_all : (P : RootRun → Type 0) (first rest : List RootRun) → AllByRecursion P (first ++ rest) → AllByRecursion P first × AllByRecursion P rest
 split_all P [] rest all = (tt, all)
 split_all P (r ∷ first) rest all = let more = split_all P first rest all.1 in ((all.0, more.0), more.1)
 
-module _ (root : StorageRoot) where
-  over : (part : Part) (c : Cursor) (r : RootRun) → r.root ≡ root → Ran r.root part c r.run → Ran root part c r.run
-  over part c r is made = subst (λ (x : StorageRoot). Ran x part c r.run) is made
+module _ (further : Further) (root : StorageRoot) where
+  over : (part : Part) (c : Cursor) (r : RootRun) → r.root ≡ root → Ran further r.root part c r.run → Ran further root part c r.run
+  over part c r is made = subst (λ (x : StorageRoot). Ran further x part c r.run) is made
 
-  leg : (part : Part) (c e : Cursor) (runs : List RootRun) → LeadTo part c runs e → OverOne root runs → ReadAll root runs → Goes root part (place_in c.state) (place_in e.state) (joined runs)
-  leg part c e [] leads one read = ([], (refl, ap (λ (x : Cursor). after (within part (audit None root [])) (place_in x.state)) leads))
+  leg : (part : Part) (c e : Cursor) (runs : List RootRun) → LeadTo further part c runs e → OverOne root runs → ReadAll further root runs → Goes further root part (place_in c.state) (place_in e.state) (joined runs)
+  leg part c e [] leads one read = ([], (refl, ap (λ (x : Cursor). after (within part (audit further root [])) (place_in x.state)) leads))
   leg part c e (r ∷ runs) leads one read =
-      let now = run_goes root part c r.run (over part c r one.0 leads.0) read.0 leads.1 in
+      let now = run_goes further root part c r.run (over part c r one.0 leads.0) read.0 leads.1 in
       let later = leg part r.run.ran.cursor e runs leads.2 one.1 read.1 in (
         now.0 ++ later.0,
         (
           ap (λ (x : Text). x ++ joined runs) now.1.0 ∙ ap (λ (x : Text). text now.0 ++ x) later.1.0 ∙ sym (text_append now.0 later.0),
-          append_assoc now.0 later.0 (after (within part (audit None root [])) (place_in e.state)) ∙ ap (λ (is : List Item). now.0 ++ is) later.1.1 ∙ now.1.1,
+          append_assoc now.0 later.0 (after (within part (audit further root [])) (place_in e.state)) ∙ ap (λ (is : List Item). now.0 ++ is) later.1.1 ∙ now.1.1,
         ),
       )
 
-  end_leg : (part : Part) (c d : Cursor) (runs : List RootRun) → EndAt part c runs d → OverOne root runs → ReadAll root runs → joined runs ≡ text (after (within part (audit None root [])) (place_in c.state))
+  end_leg : (part : Part) (c d : Cursor) (runs : List RootRun) → EndAt further part c runs d → OverOne root runs → ReadAll further root runs → joined runs ≡ text (after (within part (audit further root [])) (place_in c.state))
   end_leg part c d [] ends one read = absurd ends
-  end_leg part c d (r ∷ []) ends one read = append-nil r.run.report ∙ run_ends root part c r.run (over part c r one.0 ends.0) read.0 ends.1
+  end_leg part c d (r ∷ []) ends one read = append-nil r.run.report ∙ run_ends further root part c r.run (over part c r one.0 ends.0) read.0 ends.1
   end_leg part c d (r ∷ q ∷ runs) ends one read =
-      let now = run_goes root part c r.run (over part c r one.0 ends.0) read.0 ends.1 in
+      let now = run_goes further root part c r.run (over part c r one.0 ends.0) read.0 ends.1 in
       let later = end_leg part r.run.ran.cursor d (q ∷ runs) ends.2 one.1 read.1 in
-      ap (λ (x : Text). x ++ joined (q ∷ runs)) now.1.0 ∙ ap (λ (x : Text). text now.0 ++ x) later ∙ sym (text_append now.0 (after (within part (audit None root [])) (place_in r.run.ran.cursor.state))) ∙ ap text now.1.1
+      ap (λ (x : Text). x ++ joined (q ∷ runs)) now.1.0 ∙ ap (λ (x : Text). text now.0 ++ x) later ∙ sym (text_append now.0 (after (within part (audit further root [])) (place_in r.run.ran.cursor.state))) ∙ ap text now.1.1
 
   -- what the runs of a cycle wrote
-  pub wrote_around : (part : Part) (c d : Cursor) (runs : List RootRun) (left : List Left) → LedToEnd part c runs left d → OverOne root runs → ReadAll root runs
-      → joined runs ≡ text (around part (place_in c.state) left (audit None root []))
+  pub wrote_around : (part : Part) (c d : Cursor) (runs : List RootRun) (left : List Left) → LedToEnd further part c runs left d → OverOne root runs → ReadAll further root runs
+      → joined runs ≡ text (around part (place_in c.state) left (audit further root []))
   wrote_around part c d runs [] led one read = end_leg part c d runs led one read
   wrote_around part c d runs (l ∷ left) (first, (rest, (e, (are, (leads, (stood, led)))))) one read =
       let ones = split_all (λ r. r.root ≡ root) first rest (subst (λ (rs : List RootRun). OverOne root rs) are one) in
-      let reads = split_all (λ r. unread_of None root r.run.opened ≡ []) first rest (subst (λ (rs : List RootRun). ReadAll root rs) are read) in
-      let items : List Item = after (within part (audit None root [])) (place_in c.state) in
+      let reads = split_all (λ r. unread_of further root r.run.opened ≡ []) first rest (subst (λ (rs : List RootRun). ReadAll further root rs) are read) in
+      let items : List Item = after (within part (audit further root [])) (place_in c.state) in
       let now = leg part c e first leads ones.0 reads.0 in
-      let front : now.0 ≡ up_to l.after items = front_up_to (within part (audit None root [])) (place_in c.state) (place_in e.state) now.0 now.1.1 ∙ ap (λ (to : Option Place). up_to to items) stood in
-      let later = wrote_around (past_branch part l) e d rest left led ones.1 reads.1 ∙ ap (λ (to : Option Place). text (around (past_branch part l) to left (audit None root []))) stood in
+      let front : now.0 ≡ up_to l.after items = front_up_to (within part (audit further root [])) (place_in c.state) (place_in e.state) now.0 now.1.1 ∙ ap (λ (to : Option Place). up_to to items) stood in
+      let later = wrote_around (past_branch part l) e d rest left led ones.1 reads.1 ∙ ap (λ (to : Option Place). text (around (past_branch part l) to left (audit further root []))) stood in
       ap joined are ∙ flat_map-append (λ (r : RootRun). r.run.report) first rest
       ∙ ap (λ (x : Text). x ++ joined rest) (now.1.0 ∙ ap text front)
       ∙ ap (λ (x : Text). text (up_to l.after items) ++ x) later
-      ∙ sym (text_append (up_to l.after items) (around (past_branch part l) l.after left (audit None root [])))
+      ∙ sym (text_append (up_to l.after items) (around (past_branch part l) l.after left (audit further root [])))

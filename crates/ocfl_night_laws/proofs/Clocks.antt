@@ -10,6 +10,7 @@ use Rattle.ocfl_night_laws.specs.Times.{times, times_before, MayBegin, BeginsInT
 use Rattle.ocfl_night.specs.Done.{Done, nothing_done}
 use Rattle.ocfl_terms.specs.Counting.{counted}
 use Rattle.ocfl_night.specs.Beginning.{Position, StandsAt}
+use Rattle.ocfl_report.specs.declared.further.Further.{Further}
 use Rattle.ocfl_night.specs.Runs.{Run, Turn, AreRunsOf, EndsBy, IsFailed, IsNight, IsPaused, IsRunOf, after_end, after_it, events_of, in_it, turn, turn_of}
 use Rattle.ocfl_terms.specs.{declared.plan.Halt.{Halt}, declared.plan.NightEnd.{NightEnd}, declared.plan.Plan.{Plan}}
 use Rattle.ocfl_night.specs.declared.pause.Pause.{Pause}
@@ -111,8 +112,8 @@ may_begin (Some e) events few = few e refl
 both_few : (x y z a b c : ℕ) → x ≤ y + b → y ≤ z + a → z ≡ 0 → c ≡ a + b → x ≤ c
 both_few x y z a b c p q none is = omega (arith, p, q, none, is)
 
-pub begins_in_time : (plan : Plan) (tells : Bool) (c d : Content) (old new : List Event) (end : NightEnd) → IsNight plan tells c d old new end → BeginsInTime plan.end old new end.runs
-begins_in_time plan tells c d old new end (inl n) =
+pub begins_in_time : (further : Further) (plan : Plan) (tells : Bool) (c d : Content) (old new : List Event) (end : NightEnd) → IsNight further plan tells c d old new end → BeginsInTime plan.end old new end.runs
+begins_in_time further plan tells c d old new end (inl n) =
     let r = n.runs in
     let events = flat_map events_of r.runs ++ r.last in
     record {
@@ -122,7 +123,7 @@ begins_in_time plan tells c d old new end (inl n) =
           both_few n.done.runs r.done.runs nothing_done.runs (begun_by e (flat_map events_of r.runs)) (begun_by e r.last) (begun_by e events)
           (few_ended (λ (p : Position). IsTrue tells → StandsAt d p) plan e r.done n.done r.checkpoint r.last end.end is r.ends) (begun plan e nothing_done n.start r.runs r.done r.checkpoint is r.made) refl (by_both e (flat_map events_of r.runs) r.last)));
     }
-begins_in_time plan tells c d old new end (inr n) = record {
+begins_in_time further plan tells c d old new end (inr n) = record {
   events = [];
   are = n.same ∙ sym (append-nil old);
   few = subst (MayBegin plan.end []) (sym n.runs) (may_begin plan.end [] (λ e is. omega arith));

@@ -11,6 +11,7 @@ use Rattle.ocfl_terms.specs.Clock.{Event, Heard}
 use Rattle.ocfl_night.specs.Halting.{AreFailed, stopped_at, stops_at}
 use Rattle.ocfl_night_laws.specs.Halts.{HaltsAt, IsHaltedAt, NothingHelps, again, asked, often, stopped, unread}
 use Rattle.ocfl_night.specs.{Leaving.{branch_at, branch_for, done_by, has_end, is_at, remedy_at, remedy_by, tried_by}, Looks.{failed_at}}
+use Rattle.ocfl_report.specs.declared.further.Further.{Further}
 use Rattle.ocfl_night.specs.Runs.{Run, Turn, AreRunsOf, EndsBy, IsBegunNight, IsHalted, after_end, after_made, events_of, turn}
 use Rattle.ocfl_terms.specs.{declared.plan.Halt.{Halt}, declared.plan.NightEnd.{NightEnd}, declared.plan.Plan.{Plan}, declared.stop.Stop.{Stop}}
 use Rattle.ocfl_night.specs.{declared.pause.Pause.{Pause}, declared.tally.Remedy.{Remedy}}
@@ -175,7 +176,7 @@ tried_stops plan p d k (r ∷ runs) e l made is = by (tried_stops plan p (turn p
     by (inl next) = let one = one_stop p r.made (flat_map events_of runs) (tried_after plan.stop_at_faults _ r.made p next) in inr (omega (arith, one))
     by (inr more) = inr (omega (arith, more))
 
-module _ {plan : Plan} {tells : Bool} {c d : Content} {old new : List Event} {end : NightEnd} (p : Place) (n : IsBegunNight plan tells c d old new end) where
+module _ {further : Further} {plan : Plan} {tells : Bool} {c d : Content} {old new : List Event} {end : NightEnd} (p : Place) (n : IsBegunNight further plan tells c d old new end) where
   pub stopped_exactly : ((why : Stop) → end.end ≢ halt.Troubled why) → (end.end ≡ halt.Stopped (fault.Store p) → IsHaltedAt plan n.runs.done n.runs.checkpoint n.runs.last p) × (IsHaltedAt plan n.runs.done n.runs.checkpoint n.runs.last p → end.end ≡ halt.Stopped (fault.Store p))
   stopped_exactly well = (
     λ is. night_halted (λ x. IsTrue tells → StandsAt d x) plan n.done n.runs.done n.runs.checkpoint n.runs.last p end.end is n.runs.ends,

@@ -13,6 +13,7 @@ use Rattle.ocfl_scrub.proofs.{AuditLaws.{places_of_items}, PartStarts.{above_in}
 use Rattle.ocfl_state.specs.declared.checkpoint_parts.Left.{Left}
 use Rattle.ocfl_night_laws.specs.Around.{AreNext, IsInBranch, around, up_to}
 use Rattle.ocfl_night.specs.Chain.{past, past_branch}
+use Rattle.ocfl_report.specs.declared.further.Further.{Further}
 
 -- ---- a place from a branch on and before its end
 
@@ -43,16 +44,16 @@ up_or_above xs from (Some p) i is = by (is_lt (place_cmp p i.place)) refl
     by true e = inr (among_filter (λ x. is_lt (place_cmp p x.place)) xs i (among_after xs from i is) e)
     by false e = inl (among_filter (λ x. not (is_lt (place_cmp p x.place))) (after xs from) i is (ap not e))
 
-module _ (root : StorageRoot) where
+module _ (further : Further) (root : StorageRoot) where
   -- an item of a part above a place is due there
-  item_due : (part : Part) (from : Option Place) (i : Item) → IsAmong (after (within part (audit None root [])) from) i → IsAmong (due_within root part from) i.place
+  item_due : (part : Part) (from : Option Place) (i : Item) → IsAmong (after (within part (audit further root [])) from) i → IsAmong (due_within further root part from) i.place
   item_due part from i is =
-      subst (λ ps. IsAmong ps i.place) (places_of_items root [] (due_within root part from))
-      (among_map (λ x. x.place) _ i (subst (λ xs. IsAmong xs i) (above_in root part from []) is))
+      subst (λ ps. IsAmong ps i.place) (places_of_items further root [] (due_within further root part from))
+      (among_map (λ x. x.place) _ i (subst (λ xs. IsAmong xs i) (above_in further root part from []) is))
 
   -- if it comes after a branch, it is one of what comes after that
-  still_there : (part : Part) (l : Left) (i : Item) → is_lt (place_cmp i.place (past l.place)) ≡ false → IsAmong (after (within part (audit None root [])) l.after) i
-      → IsAmong (after (within (past_branch part l) (audit None root [])) l.after) i
+  still_there : (part : Part) (l : Left) (i : Item) → is_lt (place_cmp i.place (past l.place)) ≡ false → IsAmong (after (within part (audit further root [])) l.after) i
+      → IsAmong (after (within (past_branch part l) (audit further root [])) l.after) i
   still_there part l i over is = by l.after is
     where
       here : (xs : List Item) → IsAmong (within part xs) i → IsAmong (within (past_branch part l) xs) i
@@ -64,32 +65,32 @@ module _ (root : StorageRoot) where
           (and_both (is_from (Some (past l.place)) i.place) (is_below part.below i.place) (ap not over) (and_second (is_from part.from i.place) (is_below part.below i.place) ends)) in
           subst (λ ys. IsAmong ys i) (sym (within_is (past_branch part l) xs)) (among_filter (λ x. lies_in (past_branch part l) x.place) xs i k.0 lies)
 
-      by : (to : Option Place) → IsAmong (after (within part (audit None root [])) to) i → IsAmong (after (within (past_branch part l) (audit None root [])) to) i
-      by None j = here (audit None root []) j
+      by : (to : Option Place) → IsAmong (after (within part (audit further root [])) to) i → IsAmong (after (within (past_branch part l) (audit further root [])) to) i
+      by None j = here (audit further root []) j
       by (Some p) j =
-          let k = among_from_filter (λ x. is_lt (place_cmp p x.place)) (within part (audit None root [])) i j in
-          among_filter (λ x. is_lt (place_cmp p x.place)) (within (past_branch part l) (audit None root [])) i (here (audit None root []) k.0) k.1
+          let k = among_from_filter (λ x. is_lt (place_cmp p x.place)) (within part (audit further root [])) i j in
+          among_filter (λ x. is_lt (place_cmp p x.place)) (within (past_branch part l) (audit further root [])) i (here (audit further root []) k.0) k.1
 
   abbrev front : Part → Option Place → Left → List Item
-  front part from l = up_to l.after (after (within part (audit None root [])) from)
+  front part from l = up_to l.after (after (within part (audit further root [])) from)
 
   abbrev rest : Part → Left → List Left → List Item
-  rest part l left = around (past_branch part l) l.after left (audit None root [])
+  rest part l left = around (past_branch part l) l.after left (audit further root [])
 
   -- each item of a part is written, or is in a branch that was left out
-  pub written_or_left : (part : Part) (from : Option Place) (left : List Left) → AreNext root part left → (i : Item) → IsPlace i.place → IsAmong (after (within part (audit None root [])) from) i
-      → IsAmong (around part from left (audit None root [])) i ⊎ IsInBranch left i.place
+  pub written_or_left : (part : Part) (from : Option Place) (left : List Left) → AreNext further root part left → (i : Item) → IsPlace i.place → IsAmong (after (within part (audit further root [])) from) i
+      → IsAmong (around part from left (audit further root [])) i ⊎ IsInBranch left i.place
   written_or_left part from [] next i v is = inl is
-  written_or_left part from (l ∷ left) next i v is = by (λ j. written_or_left (past_branch part l) l.after left next.1 i v j) (up_or_above (within part (audit None root [])) from l.after i is)
+  written_or_left part from (l ∷ left) next i v is = by (λ j. written_or_left (past_branch part l) l.after left next.1 i v j) (up_or_above (within part (audit further root [])) from l.after i is)
     where
       on : IsAmong (rest part l left) i ⊎ IsInBranch left i.place → IsAmong (front part from l ++ rest part l left) i ⊎ IsInBranch (l ∷ left) i.place
       on (inl j) = inl (among_right (front part from l) (rest part l left) i j)
       on (inr j) = inr (inr j)
 
-      beyond : (IsAmong (after (within (past_branch part l) (audit None root [])) l.after) i → IsAmong (rest part l left) i ⊎ IsInBranch left i.place) → IsAmong (after (within part (audit None root [])) l.after) i → (b : Bool) → is_lt (place_cmp i.place (past l.place)) ≡ b → IsAmong (front part from l ++ rest part l left) i ⊎ IsInBranch (l ∷ left) i.place
+      beyond : (IsAmong (after (within (past_branch part l) (audit further root [])) l.after) i → IsAmong (rest part l left) i ⊎ IsInBranch left i.place) → IsAmong (after (within part (audit further root [])) l.after) i → (b : Bool) → is_lt (place_cmp i.place (past l.place)) ≡ b → IsAmong (front part from l ++ rest part l left) i ⊎ IsInBranch (l ∷ left) i.place
       beyond later j true e = inr (inl (in_branch l.place i.place v (next.0 i.place (item_due part l.after i j)) e))
       beyond later j false e = on (later (still_there part l i e j))
 
-      by : (IsAmong (after (within (past_branch part l) (audit None root [])) l.after) i → IsAmong (rest part l left) i ⊎ IsInBranch left i.place) → IsAmong (front part from l) i ⊎ IsAmong (after (within part (audit None root [])) l.after) i → IsAmong (front part from l ++ rest part l left) i ⊎ IsInBranch (l ∷ left) i.place
+      by : (IsAmong (after (within (past_branch part l) (audit further root [])) l.after) i → IsAmong (rest part l left) i ⊎ IsInBranch left i.place) → IsAmong (front part from l) i ⊎ IsAmong (after (within part (audit further root [])) l.after) i → IsAmong (front part from l ++ rest part l left) i ⊎ IsInBranch (l ∷ left) i.place
       by later (inl j) = inl (among_left (front part from l) (rest part l left) i j)
       by later (inr j) = beyond later j (is_lt (place_cmp i.place (past l.place))) refl

@@ -8,7 +8,8 @@ use Rattle.ocfl_cursor.specs.Cursor.{Cursor, State}
 use Rattle.ocfl_scrub.specs.{Joining.{is_taken}, Running.{begun}}
 use Rattle.ocfl_state.specs.{Checkpoint.{Checkpoint}, Content.{Content}}
 use Rattle.ocfl_state.specs.declared.checkpoint_parts.Phase.TheVariants.{Open}
-use Rattle.ocfl_night.specs.{Again.{HasDone}, Beginning.{BeginsAt, Position, StandsAt, first, further, position}, Ending.{cycle_of}, Promises.{IfThere}, Sound.{IsAt}}
+use Rattle.ocfl_report.specs.declared.further.Further.{Further}
+use Rattle.ocfl_night.specs.{Again.{HasDone}, Beginning.{BeginsAt, Position, StandsAt, first, position, stored}, Ending.{cycle_of}, Promises.{IfThere}, Sound.{IsAt}}
 use Rattle.ocfl_night.specs.Reading.{AreBeyond, AreReadOnce, IsRead, ReadsBeyond, came_to, reached, reached_in}
 use Rattle.ocfl_terms.specs.declared.plan.Halt.{Halt}
 use Rattle.ocfl_terms.specs.declared.plan.Halt.TheVariants as halt
@@ -78,8 +79,8 @@ not_again cycle taken qs c k done at going same beyond p i j = by (done k at)
 
 -- ---- where the next one begins
 
-pub begins_there : (create : Bool) (d e : Content) (start : Checkpoint) (p : Position) → BeginsAt create e start → e.checkpoint ≡ d.checkpoint → StandsAt d p → position start ≡ p
-begins_there create d e start p (first is at) same stands = let there = stands.1.0.is in let none = is.none in absurd (cc (none, same, there))
-begins_there create d e start p (further k found at) same stands =
+pub begins_there : (further : Further) (create : Bool) (d e : Content) (start : Checkpoint) (p : Position) → BeginsAt further create e start → e.checkpoint ≡ d.checkpoint → StandsAt d p → position start ≡ p
+begins_there further create d e start p (first is at) same stands = let there = stands.1.0.is in let none = is.none in absurd (cc (none, same, there))
+begins_there further create d e start p (stored k found at) same stands =
     let there : IsAt stands.0 e = record { bytes = stands.1.0.bytes; is = same ∙ stands.1.0.is; text = stands.1.0.text } in
     at ∙ ap position (at_once found there) ∙ stands.1.1

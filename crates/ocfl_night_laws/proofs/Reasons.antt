@@ -2,6 +2,7 @@
 use Rattle.std.proofs.Common.{◌≡◌, ◌≢◌, ◌⊎◌, ◌+◌, ◌<◌, ◌∙◌, [], inl, inr, Bool, false, true, IsTrue, Some, None, ℕ, length, subst, arith}
 use Rattle.ocfl_tree.specs.{Listing.{entries_in}, Place.{Place, Text}, Store.{Store, IfTold}}
 use Rattle.ocfl_identity.specs.Identity.{declarations_among, declared_by}
+use Rattle.ocfl_report.specs.declared.further.Further.{Further}
 use Rattle.ocfl_cursor.specs.declared.refused.Refused.{Refused}
 use Rattle.ocfl_state.specs.{Checkpoint.{Checkpoint}, CheckpointRefusal.{RefusedRightly}, Content.{Content, is_closed}}
 use Rattle.ocfl_night.specs.{Older.{IsOlder}, Promises.{IfThere}}
@@ -69,6 +70,16 @@ module _ {tells : Bool} {s : Store} {site : Site} {plan : Plan} {c : Content} wh
   other_part_is (in_folder id tells (not_own l there (inl by))) k at = subst (λ (x : Checkpoint). (x.root.path ≡ site.path) × (x.part ≢ site.ends)) (at_once there at) by
   other_part_is (in_folder id tells (not_own l there (inr by))) k at = absurd by.1.1
   other_part_is (in_folder id tells (outdated l there own by)) k at = absurd by
+
+  pub other_audit_is : (further : Further) → IsRefused tells s site plan c (refusal.OtherAudit further)
+      → IfThere c (λ k. (k.root.path ≡ site.path) × (k.part ≡ site.ends) × (k.cursor.further ≡ further) × (further ≢ site.further))
+  other_audit_is further (no_root is bare) k at = cc is
+  other_audit_is further (in_folder id tells (none empty by)) k at = absurd by
+  other_audit_is further (in_folder id tells (unread h)) k at = absurd h.1.1
+  other_audit_is further (in_folder id tells (not_own l there (inl by))) k at =
+      subst (λ (x : Checkpoint). (x.root.path ≡ site.path) × (x.part ≡ site.ends) × (x.cursor.further ≡ further) × (further ≢ site.further)) (at_once there at) by
+  other_audit_is further (in_folder id tells (not_own l there (inr by))) k at = absurd by.1.1
+  other_audit_is further (in_folder id tells (outdated l there own by)) k at = absurd by
 
   pub other_declaration_is : IsRefused tells s site plan c refusal.OtherDeclaration → IfThere c (λ k. (plan.force_root ≡ false) × IfTold tells s (λ root. declared_by root (declarations_among (entries_in root [])) ≢ Some k.root.declared))
   other_declaration_is (no_root is bare) k at = cc is

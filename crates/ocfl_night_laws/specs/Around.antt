@@ -2,16 +2,16 @@
 use Rattle.std.specs.Prelude.{⊤, ◌≡◌, ◌⊎◌, List, [], ◌∷◌, ◌++◌, true, not, Option, Some, None, filter}
 use Rattle.std.specs.Ordering.{is_lt}
 use Rattle.ocfl_tree.specs.{Place.{Place, begins, place_cmp}, StorageRoot.{StorageRoot}}
-use Rattle.ocfl_report.specs.Line.{Item}
+use Rattle.ocfl_report.specs.{Line.{Item}, declared.further.Further.{Further}}
 use Rattle.ocfl_rules.specs.{Audit.{after}, Parts.{Part, within}}
 use Rattle.ocfl_state.specs.declared.checkpoint_parts.Left.{Left}
 use Rattle.ocfl_night.specs.Chain.{NoneBefore, past_branch}
 
 -- So between where each of some branches was left out and that branch there was no item: what was
 -- lost with it is its own.
-abbrev pub AreNext : StorageRoot → Part → List Left → Type 0
-AreNext root part [] = ⊤
-AreNext root part (l ∷ left) = NoneBefore root part l.after l.place × AreNext root (past_branch part l) left
+abbrev pub AreNext : Further → StorageRoot → Part → List Left → Type 0
+AreNext further root part [] = ⊤
+AreNext further root part (l ∷ left) = NoneBefore further root part l.after l.place × AreNext further root (past_branch part l) left
 
 -- a place is in one of some branches
 abbrev pub IsInBranch : List Left → Place → Type 0

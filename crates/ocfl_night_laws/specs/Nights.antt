@@ -2,7 +2,8 @@
 use Rattle.std.specs.Prelude.{⊤, ℕ, ◌≡◌, ◌≢◌, ◌++◌, List, [], ◌∷◌, None, Some, IsTrue, true, false, map, flat_map}
 use Rattle.std.specs.List.{AllByRecursion}
 use Rattle.ocfl_tree.specs.{Place.{Place, Text}, Ascending.{IsAmong}, StorageRoot.{StorageRoot}}
-use Rattle.ocfl_report.specs.Text.{text}
+use Rattle.ocfl_report.specs.{Text.{text}, declared.further.Further.{Further}}
+use Rattle.ocfl_report.specs.declared.further.Further.TheVariants.{Nothing}
 use Rattle.ocfl_rules.specs.{Audit.{Unread, audit}, Parts.{Part, within}}
 use Rattle.ocfl_state.specs.{Content.{Content, Closed, is_closed}, Crash.{Outcomes, Follows}}
 use Rattle.ocfl_state.specs.Checkpoint.{Checkpoint}
@@ -31,15 +32,15 @@ pub record IsTidied (gone : List ℕ) (old new : Content) : Type 0 where
   pub closed : AreLeft (IsAmong gone) old.closed new.closed
   pub stays : (k : Checkpoint) → IsAt k old → k.phase ≡ Closing → IsTrue (is_closed old.closed k.cursor.cycle) → IsTrue (is_closed new.closed k.cursor.cycle)
 
--- Nights over a part. The first begins on one of these outcomes, and each other one on what a crash of
+-- Nights over a part, whose audit checks this. The first begins on one of these outcomes, and each other one on what a crash of
 -- the one before it, at any moment, may have left, or on its end; but closed reports may have been
 -- taken away meanwhile.
-abbrev pub AreNights : {F : Type 0} → state.Ghosts F → Part → Outcomes → List (Night F) → Type 0
-AreNights S part outcomes [] = ⊤
-AreNights S part outcomes (n ∷ nights) =
+abbrev pub AreNights : {F : Type 0} → state.Ghosts F → Further → Part → Outcomes → List (Night F) → Type 0
+AreNights S further part outcomes [] = ⊤
+AreNights S further part outcomes (n ∷ nights) =
     Follows (IsTidied n.gone) outcomes (S.may_leave n.began)
-    × IsSafeNight S part n.look n.began n.ended n.before n.said
-    × AreNights S part (S.left_since n.ended (S.moment n.began)) nights
+    × IsSafeNight S further part n.look n.began n.ended n.before n.said
+    × AreNights S further part (S.left_since n.ended (S.moment n.began)) nights
 
 -- whatever a crash at any moment of each night may have left
 abbrev pub AtAnyMoment : {F : Type 0} → state.Ghosts F → (Content → Type 0) → List (Night F) → Type 0
@@ -55,11 +56,11 @@ AreWhole rounds closed = (next : ℕ) × HasClosed rounds next closed
 abbrev pub EachWhole : (Text → Type 0) → List Closed → Type 0
 EachWhole Holds closed = (d : Closed) → IsAmong closed d → d.whole ≡ true → Holds d.report
 
--- a text is the audit of a part, in which a file is called unreadable only if one of these looks
--- could not read it
-pub record IsAuditBut (root : StorageRoot) (part : Part) (looks : List Look) (report : Text) : Type 0 where
+-- a text is the audit of a part that checks this, in which a file is called unreadable only if one of
+-- these looks could not read it
+pub record IsAuditBut (further : Further) (root : StorageRoot) (part : Part) (looks : List Look) (report : Text) : Type 0 where
   pub unread : Unread
-  pub is : report ≡ text (within part (audit None root unread))
+  pub is : report ≡ text (within part (audit further root unread))
   pub each : (e : Place × ℕ) → IsAmong unread e → (l : Look) × (IsAmong looks l × IsAmong l.unread e)
 
 -- all nights looked at this storage root
@@ -71,12 +72,13 @@ abbrev pub HaveReadAll : {F : Type 0} → List (Night F) → Type 0
 HaveReadAll nights = AllByRecursion (λ n. n.look.unread ≡ []) nights
 
 -- A text is the audit of a part but for branches that were left out, at least one: up to where each
--- was, and then what comes after it. Between the two no item is lost but the branch's
-pub record IsAround (root : StorageRoot) (part : Part) (report : Text) : Type 0 where
+-- was, and then what comes after it. Between the two no item is lost but the branch's: so it is known
+-- of an audit that checks nothing further
+pub record IsAround (further : Further) (root : StorageRoot) (part : Part) (report : Text) : Type 0 where
   pub left : List Left
   pub some : left ≢ []
-  pub next : AreNext root part left
-  pub is : report ≡ text (around part None left (audit None root []))
+  pub next : further ≡ Nothing → AreNext further root part left
+  pub is : report ≡ text (around part None left (audit further root []))
 
 -- of each other one this holds
 abbrev pub EachOther : (Text → Type 0) → List Closed → Type 0
@@ -87,8 +89,8 @@ abbrev pub known_of : {F : Type 0} → List (Night F) → Known
 known_of nights = record { looks = map (λ n. n.look) nights; gone = flat_map (λ n. n.gone) nights }
 
 -- the rounds that they are
-abbrev pub rounds_of : {F : Type 0} → Part → List (Night F) → Rounds
-rounds_of part nights = record { part = part; known = Some (known_of nights) }
+abbrev pub rounds_of : {F : Type 0} → Further → Part → List (Night F) → Rounds
+rounds_of further part nights = record { part = part; further = further; known = Some (known_of nights) }
 
 -- a text is joined from what each of these nights' outputs was given first and has committed, the last
 -- night first

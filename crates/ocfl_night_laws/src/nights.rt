@@ -1,10 +1,9 @@
 //! The laws of nights.
-ghost use Rattle.std.specs.Prelude.{None};
 ghost use Rattle.std.specs.{Prelude.{◌≡◌, ◌≢◌, ◌⊎◌, ◌++◌, ℕ, [], Bool, Option, IsTrue, List, Some, flat_map, map, true}, List.{AllByRecursion}};
 ghost use Rattle.ocfl_tree.specs.{Ascending.{IsAmong, IsAscending}, Name.{IsPlace}, Place.{Place, place_cmp}};
 ghost use Rattle.ocfl_tree.specs.{StorageRoot.{StorageRoot}, Store.{Store}};
 ghost use Rattle.ocfl_item.specs.Judging.{HasShortFiles};
-ghost use Rattle.ocfl_report.specs.{Line.{Item}, Text.{text}};
+ghost use Rattle.ocfl_report.specs.{Line.{Item}, Text.{text}, declared.further.Further.{Further}};
 ghost use Rattle.ocfl_rules.specs.{Audit.{after, audit}, Parts.{Part, within}, Trail.{unread_of}};
 ghost use Rattle.ocfl_cursor.specs.Cursor.{Cursor};
 ghost use Rattle.ocfl_scrub.specs.{Joining.{unread_together}, Running.{place_in}};
@@ -45,35 +44,35 @@ use std::alloc::Global;
 /// Between two nights closed reports may have been taken away, but not that of a checkpoint's cycle
 /// while the checkpoint says that it is to be closed.
 pub fn nights_are_sound<S: StateFolder>()
-    ensures sound { (part : Part) (nights : List (Night S))
-        → AreNights S.StateFolder part (λ c. c ≡ empty) nights
-        → AtAnyMoment S.StateFolder (IsSound (rounds_of part nights)) nights }
-    ensures whole { (part : Part) (nights : List (Night S))
-        → AreNights S.StateFolder part (λ c. c ≡ empty) nights
-        → AtAnyMoment S.StateFolder (λ c. AreWhole (rounds_of part nights) c.closed)
+    ensures sound { (further : Further) (part : Part) (nights : List (Night S))
+        → AreNights S.StateFolder further part (λ c. c ≡ empty) nights
+        → AtAnyMoment S.StateFolder (IsSound (rounds_of further part nights)) nights }
+    ensures whole { (further : Further) (part : Part) (nights : List (Night S))
+        → AreNights S.StateFolder further part (λ c. c ≡ empty) nights
+        → AtAnyMoment S.StateFolder (λ c. AreWhole (rounds_of further part nights) c.closed)
         nights }
 {}
 
 /// Whatever such nights there were: what was told at any moment is what their outputs have
 /// committed.
 pub fn what_was_told_was_taken<S: StateFolder>()
-    ensures { (part : Part) (nights : List (Night S))
-        → AreNights S.StateFolder part (λ c. c ≡ empty) nights
-        → AllTaken S.StateFolder (of_any part) [] nights }
+    ensures { (further : Further) (part : Part) (nights : List (Night S))
+        → AreNights S.StateFolder further part (λ c. c ≡ empty) nights
+        → AllTaken S.StateFolder (of_any further part) [] nights }
 {}
 
 /// A report that is closed as whole, all of whose runs were over one storage root, is the audit of
-/// the part, in which just the files are called unreadable that could not be read by the run that
-/// took them. It is exactly the audit if all could be read.
+/// the part that checks what the rounds do. In it just the files are called unreadable that could
+/// not be read by the run that took them. It is exactly the audit if all could be read.
 pub fn a_whole_report_is_the_audit()
     ensures unread { (root : StorageRoot) (rounds : Rounds) (d : Closed)
         (w : IsReportOf rounds [] d) → AllByRecursion (λ r. r.root ≡ root) w.led.runs
-        → d.report ≡ text (within rounds.part (audit None root
-        (unread_together root (map (λ r. r.run) w.led.runs)))) }
+        → d.report ≡ text (within rounds.part (audit rounds.further root
+        (unread_together rounds.further root (map (λ r. r.run) w.led.runs)))) }
     ensures exact { (root : StorageRoot) (rounds : Rounds) (d : Closed)
         (w : IsReportOf rounds [] d) → AllByRecursion (λ r. r.root ≡ root) w.led.runs
-        → unread_together root (map (λ r. r.run) w.led.runs) ≡ []
-        → d.report ≡ text (within rounds.part (audit None root [])) }
+        → unread_together rounds.further root (map (λ r. r.run) w.led.runs) ≡ []
+        → d.report ≡ text (within rounds.part (audit rounds.further root [])) }
 {
     runs_that_stop_join();
 }
@@ -83,15 +82,16 @@ pub fn a_whole_report_is_the_audit()
 /// part, in which only files are called unreadable that one of the nights could not read. It is
 /// exactly the audit if the nights could read each content file that they opened.
 pub fn each_whole_report_is_the_audit<S: StateFolder>()
-    ensures unread { (root : StorageRoot) (part : Part) (nights : List (Night S))
-        → AreNights S.StateFolder part (λ c. c ≡ empty) nights
+    ensures unread { (further : Further) (root : StorageRoot) (part : Part) (nights : List
+        (Night S))
+        → AreNights S.StateFolder further part (λ c. c ≡ empty) nights
         → AreOver root nights → AtAnyMoment S.StateFolder (λ c. EachWhole
-        (IsAuditBut root part (map (λ n. n.look) nights)) c.closed) nights }
-    ensures exact { (root : StorageRoot) (part : Part) (nights : List (Night S))
-        → AreNights S.StateFolder part (λ c. c ≡ empty) nights
+        (IsAuditBut further root part (map (λ n. n.look) nights)) c.closed) nights }
+    ensures exact { (further : Further) (root : StorageRoot) (part : Part) (nights : List (Night S))
+        → AreNights S.StateFolder further part (λ c. c ≡ empty) nights
         → AreOver root nights → HaveReadAll nights
         → AtAnyMoment S.StateFolder (λ c. EachWhole
-        (λ report. report ≡ text (within part (audit None root []))) c.closed) nights }
+        (λ report. report ≡ text (within part (audit further root []))) c.closed) nights }
 {
     runs_that_stop_join();
 }
@@ -100,18 +100,18 @@ pub fn each_whole_report_is_the_audit<S: StateFolder>()
 /// report that is not called whole is exactly the audit of the part but for branches that were left
 /// out, of which there is one at least. Nothing of it was lost.
 pub fn each_other_report_is_the_audit_around_what_was_left_out<S: StateFolder>()
-    ensures { (root : StorageRoot) (part : Part) (nights : List (Night S))
-        → AreNights S.StateFolder part (λ c. c ≡ empty) nights
+    ensures { (further : Further) (root : StorageRoot) (part : Part) (nights : List (Night S))
+        → AreNights S.StateFolder further part (λ c. c ≡ empty) nights
         → AreOver root nights → HaveReadAll nights → AtAnyMoment S.StateFolder
-        (λ c. EachOther (IsAround root part) c.closed) nights }
+        (λ c. EachOther (IsAround further root part) c.closed) nights }
 {
     runs_that_stop_join();
 }
 
 /// No run of a night is begun but where the clock has answered that the end has not come.
 pub fn runs_begin_before_the_end()
-    ensures { (plan : ModelPlan) (tells : Bool) (c d : Content) (old new : List Event)
-        (end : ModelEnd) → IsNight plan tells c d old new end
+    ensures { (further : Further) (plan : ModelPlan) (tells : Bool) (c d : Content)
+        (old new : List Event) (end : ModelEnd) → IsNight further plan tells c d old new end
         → BeginsInTime plan.end old new end.runs }
 {}
 
@@ -130,17 +130,18 @@ pub fn a_slice_keeps_its_run()
 /// A night begins just where the last run of the one before it led, or if that one ended its cycle,
 /// at the beginning of the next. Nothing is said of what comes after a night that was troubled.
 pub fn the_next_night_goes_on()
-    ensures { (plan next : ModelPlan) (c d e f : Content) (old new later last : List Event)
-        (one two : ModelEnd) (first : IsBegunNight plan true c d old new one)
-        (second : IsBegunNight next true e f later last two) → e.checkpoint ≡ d.checkpoint
+    ensures { (further : Further) (plan next : ModelPlan) (c d e f : Content)
+        (old new later last : List Event) (one two : ModelEnd)
+        (first : IsBegunNight further plan true c d old new one)
+        (second : IsBegunNight further next true e f later last two) → e.checkpoint ≡ d.checkpoint
         → AreMade plan old new nothing_done first.start
         (EndsBy (λ p. position second.start ≡ p) plan one.end first.done) }
 {}
 
 /// If no failure of a store was counted, each content file that was opened meanwhile was read.
 pub fn where_nothing_failed_all_was_read()
-    ensures { (root : StorageRoot) (s t : Store) → Counts s t → t.failures ≡ s.failures
-        → (look_between root s t).unread ≡ [] }
+    ensures { (further : Further) (root : StorageRoot) (s t : Store) → Counts s t
+        → t.failures ≡ s.failures → (look_between further root s t).unread ≡ [] }
 {}
 
 /// Nights of one cycle, one after the other, each of which ended in order and without a failure of
@@ -189,7 +190,7 @@ pub fn two_nights<S: StateFolder, T: Tree, C: Clock, O: Output>(
         → (T.state first.new).failures ≡ (T.state first.old).failures
         → (T.state second.new).failures ≡ (T.state second.old).failures
         → (c : Content) → S.may_leave folder.new c → EachWhole (λ report. report
-        ≡ text (within (part_at site.now.ends) (audit None root []))) c.closed }
+        ≡ text (within (part_at site.now.ends) (audit site.now.further root []))) c.closed }
 
     // If both ended in order, and the first one did not end the cycle, they open no content file
     // twice.
@@ -200,8 +201,8 @@ pub fn two_nights<S: StateFolder, T: Tree, C: Clock, O: Output>(
         → (T.state second.new).failures ≡ (T.state second.old).failures
         → EndsInOrder result.0.end → ((cycle : ℕ) → result.0.end ≢ halt.CycleEnded cycle)
         → EndsInOrder result.1.end → IsAscending place_cmp
-        (content_since root (T.state first.old) (T.state first.new)
-        ++ content_since root (T.state second.old) (T.state second.new)) }
+        (content_since site.now.further root (T.state first.old) (T.state first.new)
+        ++ content_since site.now.further root (T.state second.old) (T.state second.new)) }
 {
     each_whole_report_is_the_audit::<S>();
     where_nothing_failed_all_was_read();
@@ -215,13 +216,14 @@ pub fn two_nights<S: StateFolder, T: Tree, C: Clock, O: Output>(
 /// runs were over one storage root, and could read each content file that they opened. Each item of
 /// the part is in that, or in a branch that was left out.
 pub fn what_is_left_out_is_missing_alone()
-    ensures wrote { (root : StorageRoot) (part : Part) (first last : Cursor) (runs : List RootRun)
-        (left : List Left) → LedToEnd part first runs left last
+    ensures wrote { (further : Further) (root : StorageRoot) (part : Part) (first last : Cursor)
+        (runs : List RootRun) (left : List Left) → LedToEnd further part first runs left last
         → AllByRecursion (λ r. r.root ≡ root) runs
-        → AllByRecursion (λ r. unread_of None root r.run.opened ≡ []) runs
-        → joined runs ≡ text (around part (place_in first.state) left (audit None root [])) }
-    ensures missing { (root : StorageRoot) (part : Part) (from : Option Place) (left : List Left)
-        → AreNext root part left → (i : Item) → IsPlace i.place
-        → IsAmong (after (within part (audit None root [])) from) i
-        → IsAmong (around part from left (audit None root [])) i ⊎ IsInBranch left i.place }
+        → AllByRecursion (λ r. unread_of further root r.run.opened ≡ []) runs
+        → joined runs ≡ text (around part (place_in first.state) left (audit further root [])) }
+    ensures missing { (further : Further) (root : StorageRoot) (part : Part)
+        (from : Option Place) (left : List Left) → AreNext further root part left
+        → (i : Item) → IsPlace i.place
+        → IsAmong (after (within part (audit further root [])) from) i
+        → IsAmong (around part from left (audit further root [])) i ⊎ IsInBranch left i.place }
 {}

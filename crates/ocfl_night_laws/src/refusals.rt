@@ -2,6 +2,7 @@
 ghost use Rattle.std.specs.Prelude.{◌≡◌, ◌≢◌, ◌⊎◌, ◌+◌, ◌<◌, [], Bool, IsTrue, None, Some, false, length, true, ℕ};
 ghost use Rattle.ocfl_tree.specs.{Listing.{entries_in}, Place.{Place, Text}, Store.{IfTold, Store}};
 ghost use Rattle.ocfl_identity.specs.Identity.{declarations_among, declared_by};
+ghost use Rattle.ocfl_report.specs.declared.further.Further.{Further};
 ghost use Rattle.ocfl_cursor.specs.declared.refused.Refused.{Refused};
 ghost use Rattle.ocfl_state.specs.{Content.{Content, is_closed}, CheckpointRefusal.{RefusedRightly}};
 ghost use Rattle.ocfl_night.specs.{Older.{IsOlder}, Promises.{IfThere}, Refusing.{IsRefused}};
@@ -27,8 +28,8 @@ pub fn each_refusal_of_a_folder_is_for_its_reason()
         → IfThere c (λ k. IsOlder k c cycle) }
 {}
 
-/// One that is refused since the folder is another root's or part's, or the root is not as it was,
-/// was over a folder with such a checkpoint.
+/// One that is refused since the folder is another root's, part's or audit's, or the root is not as
+/// it was, was over a folder with such a checkpoint.
 pub fn each_refusal_of_a_root_is_for_its_reason()
     ensures no_root { (tells : Bool) (s : Store) (site : Site) (plan : Plan) (c : Content)
         → IsRefused tells s site plan c refusal.NoRoot
@@ -39,6 +40,10 @@ pub fn each_refusal_of_a_root_is_for_its_reason()
     ensures other_part { (tells : Bool) (s : Store) (site : Site) (plan : Plan) (c : Content)
         → IsRefused tells s site plan c refusal.OtherPart
         → IfThere c (λ k. (k.root.path ≡ site.path) × (k.part ≢ site.ends)) }
+    ensures other_audit { (tells : Bool) (s : Store) (site : Site) (plan : Plan) (c : Content)
+        (further : Further) → IsRefused tells s site plan c (refusal.OtherAudit further)
+        → IfThere c (λ k. (k.root.path ≡ site.path) × (k.part ≡ site.ends)
+        × (k.cursor.further ≡ further) × (further ≢ site.further)) }
     ensures other_declaration { (tells : Bool) (s : Store) (site : Site) (plan : Plan)
         (c : Content) → IsRefused tells s site plan c refusal.OtherDeclaration
         → IfThere c (λ k. (plan.force_root ≡ false) × IfTold tells s (λ root.

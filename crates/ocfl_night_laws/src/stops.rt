@@ -2,6 +2,7 @@
 ghost use Rattle.std.specs.Prelude.{◌≡◌, ◌≢◌, ◌+◌, ◌<◌, ◌≤◌, ◌↔◌, Bool, List, Some, false};
 ghost use Rattle.ocfl_tree.specs.{Place.{Place}, Store.{Store}};
 ghost use Rattle.ocfl_item.specs.declared.fault.Fault.TheVariants as fault;
+ghost use Rattle.ocfl_report.specs.declared.further.Further.{Further};
 ghost use Rattle.ocfl_state.specs.Content.{Content};
 ghost use Rattle.ocfl_terms.specs.Clock.{Event};
 ghost use Rattle.ocfl_night.specs.{Done.{Done}, Looks.{failed_at}};
@@ -23,8 +24,9 @@ pub fn a_night_stops_where_nothing_helps()
     ensures run { (strict : Bool) (d : Done) (made : Made) (p : Place)
         → ((after_made strict d made).pause ≡ Some (pause.Stopped (fault.Store p)))
         ↔ HaltsAt strict d made p }
-    ensures night { (plan : Plan) (tells : Bool) (c d : Content) (old new : List Event)
-        (end : NightEnd) (p : Place) (n : IsBegunNight plan tells c d old new end)
+    ensures night { (further : Further) (plan : Plan) (tells : Bool) (c d : Content)
+        (old new : List Event) (end : NightEnd) (p : Place)
+        (n : IsBegunNight further plan tells c d old new end)
         → ((why : Stop) → end.end ≢ halt.Troubled why)
         → (end.end ≡ halt.Stopped (fault.Store p))
         ↔ IsHaltedAt plan n.runs.done n.runs.checkpoint n.runs.last p }
@@ -33,12 +35,14 @@ pub fn a_night_stops_where_nothing_helps()
 /// Where a night stops, the store has failed: once at least, and twice if it stopped there though
 /// it may leave branches out, fewer than 64 runs had stopped before, and the root could be looked at.
 pub fn a_night_stops_where_the_store_failed()
-    ensures once { (plan : Plan) (tells : Bool) (c d : Content) (old new : List Event)
-        (end : NightEnd) (p : Place) (n : IsBegunNight plan tells c d old new end) (s t : Store)
+    ensures once { (further : Further) (plan : Plan) (tells : Bool) (c d : Content)
+        (old new : List Event) (end : NightEnd) (p : Place)
+        (n : IsBegunNight further plan tells c d old new end) (s t : Store)
         → AreFailed old new s t → IsHaltedAt plan n.runs.done n.runs.checkpoint n.runs.last p
         → failed_at p s + 1 ≤ failed_at p t }
-    ensures twice { (plan : Plan) (tells : Bool) (c d : Content) (old new : List Event)
-        (end : NightEnd) (p : Place) (n : IsBegunNight plan tells c d old new end) (s t : Store)
+    ensures twice { (further : Further) (plan : Plan) (tells : Bool) (c d : Content)
+        (old new : List Event) (end : NightEnd) (p : Place)
+        (n : IsBegunNight further plan tells c d old new end) (s t : Store)
         → AreFailed old new s t
         → (h : IsHaltedAt plan n.runs.done n.runs.checkpoint n.runs.last p)
         → h.run.made.end ≡ slice.Stopped (fault.Store p)

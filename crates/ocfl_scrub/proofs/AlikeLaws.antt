@@ -8,6 +8,7 @@ use Rattle.ocfl_item.specs.Looking.{failures_at}
 use Rattle.ocfl_item.specs.Auditing.{Audits, Fails, FailedAt, in_listing, in_opening}
 use Rattle.ocfl_item.specs.{declared.pending.Pending.{Pending}}
 use Rattle.ocfl_item.specs.declared.fault.Fault.{Fault}
+use Rattle.ocfl_report.specs.declared.further.Further.{Further}
 use Rattle.ocfl_scrub.specs.Types.{ReportStop}
 use Rattle.ocfl_walk.specs.{WalkCalls.{FailsOut, Walks, WalksOut}, Walks.{GivesOut}}
 use Rattle.ocfl_walk.specs.{declared.end.End.{End}, declared.walk.Walk.{Walk}}
@@ -118,12 +119,12 @@ module _ (s t a : Store) (os : List Opening) (ls : List Place) (f : ℕ) (h : Di
     each_failed = h.each_failed;
   }
 
-module _ (root : StorageRoot) (s t a : Store) (over : a.tree ≡ root) where
-  audits_with : (rest : Option Text) (largest : ℕ) (ps ls hs : List Place) (os : List Opening) (h : Audits None root s t ps ls hs os)
-      → Audits None root a (done_with s t a os ls (length (unread_of None root os)) h.did rest largest) ps ls hs os
+module _ (further : Further) (root : StorageRoot) (s t a : Store) (over : a.tree ≡ root) where
+  audits_with : (rest : Option Text) (largest : ℕ) (ps ls hs : List Place) (os : List Opening) (h : Audits further root s t ps ls hs os)
+      → Audits further root a (done_with s t a os ls (length (unread_of further root os)) h.did rest largest) ps ls hs os
   audits_with rest largest ps ls hs os h = record {
     over = over;
-    did = did_there s t a os ls (length (unread_of None root os)) h.did rest largest;
+    did = did_there s t a os ls (length (unread_of further root os)) h.did rest largest;
     read = h.read;
     opened = h.opened;
     heads_are = h.heads_are;
@@ -131,18 +132,18 @@ module _ (root : StorageRoot) (s t a : Store) (over : a.tree ≡ root) where
   }
 
   failed_there : (b : Store) (ls : List Place) (os : List Opening) (q : Place) (fs : List Place) → t.failed_listings ≡ s.failed_listings ++ fs → b.failed_listings ≡ a.failed_listings ++ fs
-      → FailedAt None root s t ls os q → FailedAt None root a b ls os q
+      → FailedAt further root s t ls os q → FailedAt further root a b ls os q
   failed_there b ls os q fs e f (in_listing before is failed read) =
       in_listing before is (f ∙ ap (λ x. a.failed_listings ++ x) (append_cancel_left s.failed_listings fs (q ∷ []) (sym e ∙ failed))) read
   failed_there b ls os q fs e f (in_opening before given is none) =
       in_opening before given is
       (f ∙ ap (λ x. a.failed_listings ++ x) (append_cancel_left s.failed_listings fs [] (sym e ∙ none ∙ sym (append-nil s.failed_listings))) ∙ append-nil a.failed_listings)
 
-  fails_there : (ps ls hs : List Place) (os : List Opening) (failed : Option Place) (h : Fails None root s t ps ls hs os failed)
-      → Fails None root a (elsewhere s t a os ls (length (unread_of None root os) + failures_at failed) h.did) ps ls hs os failed
+  fails_there : (ps ls hs : List Place) (os : List Opening) (failed : Option Place) (h : Fails further root s t ps ls hs os failed)
+      → Fails further root a (elsewhere s t a os ls (length (unread_of further root os) + failures_at failed) h.did) ps ls hs os failed
   fails_there ps ls hs os failed h = record {
     over = over;
-    did = did_there s t a os ls (length (unread_of None root os) + failures_at failed) h.did t.rest t.largest;
+    did = did_there s t a os ls (length (unread_of further root os) + failures_at failed) h.did t.rest t.largest;
     opened = h.opened;
     heads_are = h.heads_are;
     near = h.near;
@@ -150,30 +151,30 @@ module _ (root : StorageRoot) (s t a : Store) (over : a.tree ≡ root) where
   }
 
   -- what is so after calls there, is so after calls here
-  audits_alike : (X : Store → Type 0) {ps ls hs : List Place} {os : List Opening} → Audits None root s t ps ls hs os → ((b : Store) → Audits None root a b ps ls hs os → X b)
+  audits_alike : (X : Store → Type 0) {ps ls hs : List Place} {os : List Opening} → Audits further root s t ps ls hs os → ((b : Store) → Audits further root a b ps ls hs os → X b)
       → (b : Store) × (IsAlike s t a b × X b)
   audits_alike X h then = (elsewhere s t a _ _ _ h.did, (alike_did s t a _ _ _ h.did, then _ (audits_with t.rest t.largest _ _ _ _ h)))
 
-  fails_alike : (X : Store → Type 0) {ps ls hs : List Place} {os : List Opening} {failed : Option Place} → Fails None root s t ps ls hs os failed
-      → ((b : Store) → Fails None root a b ps ls hs os failed → X b) → (b : Store) × (IsAlike s t a b × X b)
+  fails_alike : (X : Store → Type 0) {ps ls hs : List Place} {os : List Opening} {failed : Option Place} → Fails further root s t ps ls hs os failed
+      → ((b : Store) → Fails further root a b ps ls hs os failed → X b) → (b : Store) × (IsAlike s t a b × X b)
   fails_alike X h then = (elsewhere s t a _ _ _ h.did, (alike_did s t a _ _ _ h.did, then _ (fails_there _ _ _ _ _ h)))
 
   -- ---- a walk
 
-  pub walks_elsewhere : (from to : Option Place) → Walks None root s t from to → (b : Store) × (IsAlike s t a b × Walks None root a b from to)
-  walks_elsewhere from to w = audits_alike (λ b. Walks None root a b from to) w.audits (λ b h. record { trail = w.trail; audits = h })
+  pub walks_elsewhere : (from to : Option Place) → Walks further root s t from to → (b : Store) × (IsAlike s t a b × Walks further root a b from to)
+  walks_elsewhere from to w = audits_alike (λ b. Walks further root a b from to) w.audits (λ b h. record { trail = w.trail; audits = h })
 
   -- with this left of the open file and of the largest read
-  pub walks_with : (rest : Option Text) (largest : ℕ) (from to : Option Place) → Walks None root s t from to → (b : Store) × ((b.rest ≡ rest) × (b.largest ≡ largest) × Walks None root a b from to)
+  pub walks_with : (rest : Option Text) (largest : ℕ) (from to : Option Place) → Walks further root s t from to → (b : Store) × ((b.rest ≡ rest) × (b.largest ≡ largest) × Walks further root a b from to)
   walks_with rest largest from to w =
       let b : Store = done_with s t a _ _ _ w.audits.did rest largest in
       (b, (refl, refl, record { trail = w.trail; audits = audits_with rest largest _ _ _ _ w.audits }))
 
-  pub out_elsewhere : (from : Option Place) (e : End) → WalksOut None root s t from e → (b : Store) × (IsAlike s t a b × WalksOut None root a b from e)
-  out_elsewhere from e w = audits_alike (λ b. WalksOut None root a b from e) w.audits (λ b h. record { trail = w.trail; audits = h })
+  pub out_elsewhere : (from : Option Place) (e : End) → WalksOut further root s t from e → (b : Store) × (IsAlike s t a b × WalksOut further root a b from e)
+  out_elsewhere from e w = audits_alike (λ b. WalksOut further root a b from e) w.audits (λ b h. record { trail = w.trail; audits = h })
 
-  pub lost_elsewhere : (from : Option Place) (e : End) (why : Fault) → FailsOut None root s t from e why → (b : Store) × (IsAlike s t a b × FailsOut None root a b from e why)
-  lost_elsewhere from e why w = fails_alike (λ b. FailsOut None root a b from e why) w.fails (λ b h. record {
+  pub lost_elsewhere : (from : Option Place) (e : End) (why : Fault) → FailsOut further root s t from e why → (b : Store) × (IsAlike s t a b × FailsOut further root a b from e why)
+  lost_elsewhere from e why w = fails_alike (λ b. FailsOut further root a b from e why) w.fails (λ b h. record {
     trail = w.trail;
     listed = w.listed;
     heads = w.heads;
@@ -182,15 +183,15 @@ module _ (root : StorageRoot) (s t a : Store) (over : a.tree ≡ root) where
     heads_front = w.heads_front;
   })
 
-  pub gives_elsewhere : (last : Option Place) (e : End) (next : Walk) (o : Option Pending) → GivesOut None root s t last e next o → (b : Store) × (IsAlike s t a b × GivesOut None root a b last e next o)
+  pub gives_elsewhere : (last : Option Place) (e : End) (next : Walk) (o : Option Pending) → GivesOut further root s t last e next o → (b : Store) × (IsAlike s t a b × GivesOut further root a b last e next o)
   gives_elsewhere last e next None g = let w = out_elsewhere last e g.0 in (w.0, (w.1.0, (w.1.1, g.1, g.2)))
   gives_elsewhere last e next (Some p) g = let w = walks_elsewhere last (Some p.place) g.0 in (w.0, (w.1.0, (w.1.1, g.1, g.2, g.3)))
 
   -- ---- an item
 
-  pub takes_elsewhere : (old new : Option (List ℕ)) (p : Place) (cost : ℕ) (more : Bool) → Takes (call_of root s t old new) p cost more
-      → (b : Store) × (IsAlike s t a b × Takes (call_of root a b old new) p cost more)
-  takes_elsewhere old new p cost more k = audits_alike (λ b. Takes (call_of root a b old new) p cost more) k.audits (λ b h. record {
+  pub takes_elsewhere : (old new : Option (List ℕ)) (p : Place) (cost : ℕ) (more : Bool) → Takes (call_of further root s t old new) p cost more
+      → (b : Store) × (IsAlike s t a b × Takes (call_of further root a b old new) p cost more)
+  takes_elsewhere old new p cost more k = audits_alike (λ b. Takes (call_of further root a b old new) p cost more) k.audits (λ b h. record {
     trail = k.trail;
     audits = h;
     alone = k.alone;
@@ -199,9 +200,9 @@ module _ (root : StorageRoot) (s t a : Store) (over : a.tree ≡ root) where
     found_is = k.found_is;
   })
 
-  pub misses_elsewhere : (old new : Option (List ℕ)) (p : Place) (why : ReportStop) → Misses (call_of root s t old new) p why
-      → (b : Store) × (IsAlike s t a b × Misses (call_of root a b old new) p why)
-  misses_elsewhere old new p why k = fails_alike (λ b. Misses (call_of root a b old new) p why) k.fails (λ b h. record {
+  pub misses_elsewhere : (old new : Option (List ℕ)) (p : Place) (why : ReportStop) → Misses (call_of further root s t old new) p why
+      → (b : Store) × (IsAlike s t a b × Misses (call_of further root a b old new) p why)
+  misses_elsewhere old new p why k = fails_alike (λ b. Misses (call_of further root a b old new) p why) k.fails (λ b h. record {
     trail = k.trail;
     begun = k.begun;
     one = k.one;

@@ -7,6 +7,7 @@ use Rattle.ocfl_rules.specs.Between.{IsBeyond, IsWithin, between, looked_between
 use Rattle.ocfl_rules.proofs.{BetweenLaws.{looked_on, read_on}, Trails.{filter_append}}
 use Rattle.ocfl_item.specs.{Looking.{IsFront}, declared.fault.Fault.{Fault}}
 use Rattle.ocfl_item.proofs.AuditingLaws.{front_all, front_more}
+use Rattle.ocfl_report.specs.declared.further.Further.{Further}
 use Rattle.ocfl_walk.specs.{Ends.{is_past, before_end}, WalkCalls.{FailsOut, next_due}, declared.end.End.{End}}
 use Rattle.ocfl_walk.proofs.{BeforeLaws.{not_below}, EndLaws.{looked_out, read_out}, NextLaws.{next_beyond}}
 use Rattle.ocfl_scrub.proofs.{Passing.{up_to_last}, Lists.{filter_none}}
@@ -94,12 +95,12 @@ next_front f joins e from (Some b) far =
     (before_end e (f (Some b) None), ap (before_end e) (sym (joins from None b (far b refl) tt)) ∙ filter_append (λ z. not (is_past e z)) (f from (Some b)) (f (Some b) None))
 
 -- a walk that failed looked at that
-module _ (root : StorageRoot) (s t : Store) (from : Option Place) (e : End) (why : Fault) (w : FailsOut None root s t from e why) where
+module _ (further : Further) (root : StorageRoot) (s t : Store) (from : Option Place) (e : End) (why : Fault) (w : FailsOut further root s t from e why) where
   pub lost_listed : IsFront w.listed (before_end e (looked_between root from None))
-  lost_listed = let k = next_front (looked_between root) (looked_on root) e from (next_due None root from) (next_beyond None root from) in front_more w.listed _ k.0 _ (sym k.1) w.listed_front
+  lost_listed = let k = next_front (looked_between root) (looked_on root) e from (next_due further root from) (next_beyond further root from) in front_more w.listed _ k.0 _ (sym k.1) w.listed_front
 
   pub lost_heads : IsFront w.heads (before_end e (read_between root from None))
-  lost_heads = let k = next_front (read_between root) (read_on root) e from (next_due None root from) (next_beyond None root from) in front_more w.heads _ k.0 _ (sym k.1) w.heads_front
+  lost_heads = let k = next_front (read_between root) (read_on root) e from (next_due further root from) (next_beyond further root from) in front_more w.heads _ k.0 _ (sym k.1) w.heads_front
 
 -- a front of what is left is one of the whole after what was before
 pub front_behind : (before front left whole : List Place) → before ++ left ≡ whole → IsFront front left → IsFront (before ++ front) whole

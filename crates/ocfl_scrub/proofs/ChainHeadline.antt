@@ -9,6 +9,7 @@ use Rattle.ocfl_rules.specs.Parts.{Part, whole, within}
 use Rattle.ocfl_rules.specs.Runs.{Limits, files_of, total_files, StaysWithin, cut, left, runs, runs_after}
 use Rattle.ocfl_rules.specs.Trail.{unread_of}
 use Rattle.ocfl_cursor.specs.Cursor.{Cursor, new_cursor}
+use Rattle.ocfl_report.specs.declared.further.Further.{Further}
 use Rattle.ocfl_scrub.specs.Call.{Call, call_of, IsUnfailing}
 use Rattle.ocfl_scrub.specs.Chaining.{MadeRun, IsMadeOf, CycleOfRunsWithin}
 use Rattle.ocfl_scrub.specs.Cycling.{StartsBelow, EachStartsBelow, HeadlineOf, HeadlineOfPart}
@@ -43,22 +44,22 @@ module _ (l : Limits) where
   stays_within : (items : List Item) → Paid l 0 0 items → StaysWithin items l (length items)
   stays_within items h k i fits e c = let r = paid_within 0 0 items h k i fits e c in (omega (arith, r.0), omega (arith, r.1))
 
-module _ (root : StorageRoot) (part : Part) where
+module _ (further : Further) (root : StorageRoot) (part : Part) where
   -- ---- failures
 
   grows : (s t : Store) (old new : Option (List ℕ)) (from last : Option Place) (l : Limits) (spent files : ℕ) (finding : Bool) (end : RunStatus)
-      → RunEndsWithin (call_of root s t old new) part from last l spent files finding end → s.failures ≤ t.failures
+      → RunEndsWithin (call_of further root s t old new) part from last l spent files finding end → s.failures ≤ t.failures
   grows s t old new from last l spent files finding run.Ended h = let e = h.looks.audits.did.failures_are in omega (arith, e)
   grows s t old new from last l spent files finding run.Spent h = let e = h.1.looks.audits.did.failures_are in omega (arith, e)
   grows s t old new from last l spent files finding (run.Stopped why) h = let e = h.looks.fails.did.failures_are in omega (arith, e)
   grows s t old new from last l spent files finding run.Worn h = absurd h
 
   -- what a run of a chain did
-  pub now : (s : Store) (old : Option (List ℕ)) (c : Cursor) (r : MadeRun) → RunsFromWithin r.call part c r.limits r.ran → r.call ≡ call_of root s r.call.after old r.call.new
-      → RunsFromWithin (call_of root s r.call.after old r.call.new) part c r.limits r.ran
+  pub now : (s : Store) (old : Option (List ℕ)) (c : Cursor) (r : MadeRun) → RunsFromWithin r.call part c r.limits r.ran → r.call ≡ call_of further root s r.call.after old r.call.new
+      → RunsFromWithin (call_of further root s r.call.after old r.call.new) part c r.limits r.ran
   now s old c r did is = subst (λ k. RunsFromWithin k part c r.limits r.ran) is did
 
-  all_grow : (made : List MadeRun) (c : Cursor) (s t : Store) (old new : Option (List ℕ)) → AreMade part c made → IsMadeOf (call_of root s t old new) (calls_of made)
+  all_grow : (made : List MadeRun) (c : Cursor) (s t : Store) (old new : Option (List ℕ)) → AreMade part c made → IsMadeOf (call_of further root s t old new) (calls_of made)
       → s.failures ≤ t.failures
   all_grow [] c s t old new h m = let e : t.failures ≡ s.failures = ap (λ x. x.failures) m.0 in omega (arith, e)
   all_grow (r ∷ rest) c s t old new h m =
@@ -71,7 +72,7 @@ module _ (root : StorageRoot) (part : Part) where
 
   -- what the part has above a place
   abbrev above : Option Place → List Item
-  above from = after (within part (audit None root [])) from
+  above from = after (within part (audit further root [])) from
 
   record Step (k : Call) (from : Option Place) (l : Limits) (next last : Option Place) : Type 0 where
     below : StartsBelow l k (cut (above from) l)
@@ -79,36 +80,36 @@ module _ (root : StorageRoot) (part : Part) where
     goes_on : above last ≡ left (above from) l
 
   step : (s t : Store) (old new : Option (List ℕ)) (from last : Option Place) (l : Limits) (spent files : ℕ) (finding : Bool) (next : Option Place)
-      → RunsWithin (call_of root s t old new) part from last l spent files finding next → t.failures ≡ s.failures → Step (call_of root s t old new) from l next last
+      → RunsWithin (call_of further root s t old new) part from last l spent files finding next → t.failures ≡ s.failures → Step (call_of further root s t old new) from l next last
   step s t old new from last l spent files finding next h same =
-      let none : unread_of None root h.trail ≡ [] = none_left (unread_of None root h.trail) s.failures (sym same ∙ h.looks.audits.did.failures_are) in
-      let last_is : last ≡ last_or from (places (cut (above from) l)) = h.last_is ∙ ap (λ u. last_or from (places (cut (after (within part (audit None root u)) from) l))) none in
+      let none : unread_of further root h.trail ≡ [] = none_left (unread_of further root h.trail) s.failures (sym same ∙ h.looks.audits.did.failures_are) in
+      let last_is : last ≡ last_or from (places (cut (above from) l)) = h.last_is ∙ ap (λ u. last_or from (places (cut (after (within part (audit further root u)) from) l))) none in
       record {
         below = record {
-          wrote = subst (λ u. Appends old new (text (cut (after (within part (audit None root u)) from) l))) none h.wrote;
+          wrote = subst (λ u. Appends old new (text (cut (after (within part (audit further root u)) from) l))) none h.wrote;
           trail = h.trail;
           opened = h.looks.audits.did.openings_are;
-          files = h.looks.audits.opened ∙ ap (λ u. hashed_among None root (places (cut (after (within part (audit None root u)) from) l))) none;
+          files = h.looks.audits.opened ∙ ap (λ u. hashed_among further root (places (cut (after (within part (audit further root u)) from) l))) none;
           below = stays_within l (cut (above from) l) (cut_paid l (above from));
         };
-        next_is = h.next_is ∙ ap (λ u. slice_get (places (left (after (within part (audit None root u)) from) l)) 0) none;
-        goes_on = ap above last_is ∙ after_front root [] part from (cut (above from) l) (left (above from) l) (sym (cut_and_left (above from) l));
+        next_is = h.next_is ∙ ap (λ u. slice_get (places (left (after (within part (audit further root u)) from) l)) 0) none;
+        goes_on = ap above last_is ∙ after_front further root [] part from (cut (above from) l) (left (above from) l) (sym (cut_and_left (above from) l));
       }
 
   -- ---- the runs of a chain
 
   module _ (s : Store) (old : Option (List ℕ)) (c : Cursor) (r : MadeRun) (did : RunsFromWithin r.call part c r.limits r.ran)
-      (is_call : r.call ≡ call_of root s r.call.after old r.call.new) (same : r.call.after.failures ≡ s.failures) where
+      (is_call : r.call ≡ call_of further root s r.call.after old r.call.new) (same : r.call.after.failures ≡ s.failures) where
     abbrev from : Option Place
     from = place_in c.state
 
-    abbrev k : RunsFromWithin (call_of root s r.call.after old r.call.new) part c r.limits r.ran
+    abbrev k : RunsFromWithin (call_of further root s r.call.after old r.call.new) part c r.limits r.ran
     k = now s old c r did is_call
 
-    abbrev run_as : (end : RunStatus) → r.ran.end ≡ end → RunEndsWithin (call_of root s r.call.after old r.call.new) part from k.last r.limits r.ran.spent r.ran.files r.ran.found end
-    run_as end e = subst (RunEndsWithin (call_of root s r.call.after old r.call.new) part from k.last r.limits r.ran.spent r.ran.files r.ran.found) e k.run
+    abbrev run_as : (end : RunStatus) → r.ran.end ≡ end → RunEndsWithin (call_of further root s r.call.after old r.call.new) part from k.last r.limits r.ran.spent r.ran.files r.ran.found end
+    run_as end e = subst (RunEndsWithin (call_of further root s r.call.after old r.call.new) part from k.last r.limits r.ran.spent r.ran.files r.ran.found) e k.run
 
-    here : (next : Option Place) → RunsWithin (call_of root s r.call.after old r.call.new) part from k.last r.limits r.ran.spent r.ran.files r.ran.found next
+    here : (next : Option Place) → RunsWithin (call_of further root s r.call.after old r.call.new) part from k.last r.limits r.ran.spent r.ran.files r.ran.found next
         → Step r.call from r.limits next k.last
     here next h = subst (λ x. Step x from r.limits next k.last) (sym is_call) (step s r.call.after old r.call.new from k.last r.limits r.ran.spent r.ran.files r.ran.found next h same)
 
@@ -139,7 +140,7 @@ module _ (root : StorageRoot) (part : Part) where
 
   -- in a chain that counts no failure, its first run counts none
   same_here : (r : MadeRun) (rest : List MadeRun) (c : Cursor) (s t : Store) (old new : Option (List ℕ)) → AreMade part c (r ∷ rest)
-      → IsMadeOf (call_of root s t old new) (calls_of (r ∷ rest)) → t.failures ≡ s.failures → r.call.after.failures ≡ s.failures
+      → IsMadeOf (call_of further root s t old new) (calls_of (r ∷ rest)) → t.failures ≡ s.failures → r.call.after.failures ≡ s.failures
   same_here r rest c s t old new h m same =
       let k = now s old c r h.0 m.0 in
       let a = grows s r.call.after old r.call.new (place_in c.state) k.last r.limits r.ran.spent r.ran.files r.ran.found r.ran.end k.run in
@@ -147,7 +148,7 @@ module _ (root : StorageRoot) (part : Part) where
       omega (arith, a, b, same)
 
   starts : (made : List MadeRun) (unused : List Limits) (c : Cursor) (s t : Store) (old new : Option (List ℕ)) → AreMade part c made
-      → IsMadeOf (call_of root s t old new) (calls_of made) → AreSpent made → (last_end made ≡ run.Ended) ⊎ ((last_end made ≡ run.Spent) × (unused ≡ []))
+      → IsMadeOf (call_of further root s t old new) (calls_of made) → AreSpent made → (last_end made ≡ run.Ended) ⊎ ((last_end made ≡ run.Spent) × (unused ≡ []))
       → t.failures ≡ s.failures → EachStartsBelow (given made unused) (calls_of made) (runs (above (place_in c.state)) (given made unused))
   starts [] unused c s t old new h m spent (inl e) same = absurd (spent_not_ended e)
   starts [] unused c s t old new h m spent (inr e) same = ap (runs (above (place_in c.state))) e.1
@@ -165,16 +166,16 @@ module _ (call : Call) (part : Part) (limits : List Limits) (ran : CycleEnd) (h 
   a = apart call part limits ran h
 
   each_below : (last_end a.runs ≡ run.Ended) ⊎ ((last_end a.runs ≡ run.Spent) × (a.unused ≡ []))
-      → EachStartsBelow limits (calls_of a.runs) (runs (within part (audit None call.root [])) limits)
-  each_below ends = subst (λ ls. EachStartsBelow ls (calls_of a.runs) (runs (within part (audit None call.root [])) ls)) (sym a.limits_are)
-      (starts call.root part a.runs a.unused new_cursor call.before call.after call.old call.new a.chained a.made_of a.spent ends same)
+      → EachStartsBelow limits (calls_of a.runs) (runs (within part (audit call.further call.root [])) limits)
+  each_below ends = subst (λ ls. EachStartsBelow ls (calls_of a.runs) (runs (within part (audit call.further call.root [])) ls)) (sym a.limits_are)
+      (starts call.further call.root part a.runs a.unused (new_cursor call.further) call.before call.after call.old call.new a.chained a.made_of a.spent ends same)
 
   by_end : (end : CycleStatus) → CyclesToWithin call part limits ran.cursor ran.found end → LastEnds a.runs a.unused end → HeadlineOfPart call part limits ran.runs end
   by_end cycle.Ended k ends = subst (λ n. HeadlineOfPart call part limits n cycle.Ended) (sym (counted call part limits ran h))
-      (part_headline call.root part call.before call.after call.old call.new k.last limits ran.cursor.spent ran.cursor.files ran.found ran.cursor.runs true k.cycle
+      (part_headline call.further call.root part call.before call.after call.old call.new k.last limits ran.cursor.spent ran.cursor.files ran.found ran.cursor.runs true k.cycle
       (calls_of a.runs) a.made_of (each_below (inl ends)) same)
   by_end cycle.Spent k ends = subst (λ n. HeadlineOfPart call part limits n cycle.Spent) (sym (counted call part limits ran h))
-      (part_headline call.root part call.before call.after call.old call.new k.last limits ran.cursor.spent ran.cursor.files ran.found ran.cursor.runs false k.cycle
+      (part_headline call.further call.root part call.before call.after call.old call.new k.last limits ran.cursor.spent ran.cursor.files ran.found ran.cursor.runs false k.cycle
       (calls_of a.runs) a.made_of (each_below (inr ends)) same)
   by_end (cycle.Stopped why) k ends = tt
 

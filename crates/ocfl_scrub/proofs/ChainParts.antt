@@ -39,14 +39,14 @@ LastEnds runs unused end = ChainEnds runs (last_end runs) unused end
 pub record Apart (call : Call) (part : Part) (limits : List Limits) (ran : CycleEnd) : Type 0 where
   pub over : call.before.tree ≡ call.root
   pub runs : List MadeRun
-  pub chained : AreMade part new_cursor runs
+  pub chained : AreMade part (new_cursor call.further) runs
   pub made_of : IsMadeOf call (calls_of runs)
   pub unused : List Limits
   pub limits_are : limits ≡ map (λ r. r.limits) runs ++ unused
   pub spent : AreSpent runs
   pub ends : LastEnds runs unused ran.end
   pub count_is : ran.runs ≡ length runs
-  pub cursor_is : ran.cursor ≡ last_cursor new_cursor runs
+  pub cursor_is : ran.cursor ≡ last_cursor (new_cursor call.further) runs
   pub found_is : ran.found ≡ list_any (λ r. r.ran.found) runs
 
 -- ---- the runs
@@ -64,13 +64,13 @@ chain_apart : (part : Part) (call : Call) (c to : Cursor) (so end : RunStatus) (
     → AreMade part c runs × (IsMadeOf call (calls_of runs) × (to ≡ last_cursor c runs))
 chain_apart part call c to so end [] h = (tt, ((h.0, h.1.0), h.1.1.0))
 chain_apart part call c to so end (r ∷ runs) h =
-    let k = chain_apart part (call_of call.root r.call.after call.after r.call.new call.new) r.ran.cursor to r.ran.end end runs h.1.1.1 in ((h.1.1.0, k.0), ((h.1.0, k.1.0), k.1.1))
+    let k = chain_apart part (call_of call.further call.root r.call.after call.after r.call.new call.new) r.ran.cursor to r.ran.end end runs h.1.1.1 in ((h.1.1.0, k.0), ((h.1.0, k.1.0), k.1.1))
 
 ends_apart : (part : Part) (call : Call) (c to : Cursor) (so end : RunStatus) (r : MadeRun) (runs : List MadeRun) → AreChained part call c so (r ∷ runs) to end
     → AreSpent (r ∷ runs) × (last_end (r ∷ runs) ≡ end)
 ends_apart part call c to so end r [] h = (tt, h.1.1.1.1.1.1)
 ends_apart part call c to so end r (q ∷ runs) h =
-    let k = ends_apart part (call_of call.root r.call.after call.after r.call.new call.new) r.ran.cursor to r.ran.end end q runs h.1.1.1 in ((h.1.1.1.0, k.0), k.1)
+    let k = ends_apart part (call_of call.further call.root r.call.after call.after r.call.new call.new) r.ran.cursor to r.ran.end end q runs h.1.1.1 in ((h.1.1.1.0, k.0), k.1)
 
 all_apart : (part : Part) (call : Call) (c to : Cursor) (end : RunStatus) (runs : List MadeRun) → AreChained part call c run.Spent runs to end
     → AreSpent runs × (last_end runs ≡ end)
@@ -81,7 +81,7 @@ chain_of : (part : Part) (call : Call) (c to : Cursor) (so : RunStatus) (runs : 
     → SpentFrom so runs → AreChained part call c so runs to (end_from so runs)
 chain_of part call c to so [] h m e s = (m.0, (m.1, (e, refl)))
 chain_of part call c to so (r ∷ runs) h m e s =
-    (s.0, (m.0, (h.0, chain_of part (call_of call.root r.call.after call.after r.call.new call.new) r.ran.cursor to r.ran.end runs h.1 m.1 e s.1)))
+    (s.0, (m.0, (h.0, chain_of part (call_of call.further call.root r.call.after call.after r.call.new call.new) r.ran.cursor to r.ran.end runs h.1 m.1 e s.1)))
 
 spent_then : (r : MadeRun) (runs : List MadeRun) → AreSpent (r ∷ runs) → SpentFrom r.ran.end runs
 spent_then r [] h = tt
@@ -103,8 +103,8 @@ end_is (r ∷ runs) = end_then r runs
 
 pub apart : (call : Call) (part : Part) (limits : List Limits) (ran : CycleEnd) → CycleOfRunsWithin call part limits ran → Apart call part limits ran
 apart call part limits ran h =
-    let k = chain_apart part call new_cursor ran.cursor run.Spent h.end h.runs h.chained in
-    let e = all_apart part call new_cursor ran.cursor h.end h.runs h.chained in
+    let k = chain_apart part call (new_cursor call.further) ran.cursor run.Spent h.end h.runs h.chained in
+    let e = all_apart part call (new_cursor call.further) ran.cursor h.end h.runs h.chained in
     record {
       over = h.over;
       runs = h.runs;
@@ -124,7 +124,7 @@ put_together call part limits ran a = record {
   over = a.over;
   runs = a.runs;
   end = end_from run.Spent a.runs;
-  chained = chain_of part call new_cursor ran.cursor run.Spent a.runs a.chained a.made_of a.cursor_is (spent_from a.runs a.spent);
+  chained = chain_of part call (new_cursor call.further) ran.cursor run.Spent a.runs a.chained a.made_of a.cursor_is (spent_from a.runs a.spent);
   unused = a.unused;
   limits_are = a.limits_are;
   ends = subst (λ x. ChainEnds a.runs x a.unused ran.end) (sym (end_is a.runs)) a.ends;

@@ -2,12 +2,14 @@
 use Rattle.std.proofs.Common.{◌≡◌, ℕ, zero, suc, ◌+◌, ◌<◌, ◌≤◌, List, [], ◌∷◌, ◌++◌, refl, sym, ◌∙◌, ap, subst, true, false, Bool, Some, None, Option, append-nil, length, take, drop, arith, eqb-true, ltb-true, ltb-false}
 use Rattle.std.proofs.{lemmas.Bool.{eqb-false, lt-ltb, or_right}}
 use Rattle.std.specs.Prelude.{if◌then◌else◌, cond, ◌==◌, ◌||◌, ◌&&◌, nat_lt}
-use Rattle.ocfl_tree.specs.{Place.{Place}, StorageRoot.{StorageRoot, Leaf, file, dir, other}}
+use Rattle.ocfl_tree.specs.{Place.{Place, Text}, StorageRoot.{StorageRoot, Leaf, file, dir, other}}
 use Rattle.ocfl_report.specs.Line.{Item}
 use Rattle.ocfl_inventory.specs.Table.{Named}
+use Rattle.ocfl_report.specs.declared.further.Further.{Further}
+use Rattle.ocfl_report.specs.declared.further.Further.TheVariants.{Nothing, Inventories}
 use Rattle.ocfl_rules.specs.Zone.{seen}
-use Rattle.ocfl_rules.specs.Lines.{named_at, cost_of}
-use Rattle.ocfl_rules.specs.Inventories.{cost, is_hashed}
+use Rattle.ocfl_rules.specs.Lines.{named_at, common_cost, cost_of}
+use Rattle.ocfl_rules.specs.Inventories.{Expected, VersionInventory, cost, expected_of, further_cost, inventory_cost, is_hashed, version_cost, version_inventory}
 use Rattle.ocfl_rules.specs.Audit.{total_cost}
 use Rattle.ocfl_rules.specs.Runs.{Limits, files_of, total_files, may_take, cut_len, cut, left}
 pub use Rattle.ocfl_rules.proofs.RunLaws.{cut_and_left, taken_test}
@@ -108,15 +110,33 @@ cost_is (n ∷ ns) (Some g) (Some (file bytes)) = more (length bytes) ∙ sym (m
 cost_is (n ∷ ns) (Some g) (Some dir) = refl
 cost_is (n ∷ ns) (Some g) (Some other) = refl
 
+-- the same of the inventory of a version
+inventory_cost_is : (bytes : Text) (es : List Expected) (u : Option ℕ) → nat_lt 0 (inventory_cost bytes es None) ≡ nat_lt 0 (inventory_cost bytes es u)
+inventory_cost_is bytes [] u = refl
+inventory_cost_is bytes (e ∷ es) None = refl
+inventory_cost_is bytes (e ∷ es) (Some g) = lt-ltb 0 (length bytes + 1) (omega arith) ∙ sym (lt-ltb 0 (g + 1) (omega arith))
+
+version_cost_is : (root : StorageRoot) (u : Option ℕ) (x : Option VersionInventory) → nat_lt 0 (version_cost root None x) ≡ nat_lt 0 (version_cost root u x)
+version_cost_is root u None = refl
+version_cost_is root u (Some x) = inventory_cost_is x.2 (expected_of root x.0 x.1) u
+
+either_costs : (a b : ℕ) → nat_lt 0 (a + b) ≡ (nat_lt 0 a || nat_lt 0 b)
+either_costs zero b = ap (nat_lt 0) (let none : zero + b ≡ b = omega arith in none)
+either_costs (suc a) b = lt-ltb 0 (suc a + b) (omega arith) ∙ ap (λ t. t || nat_lt 0 b) (sym (lt-ltb 0 (suc a) (omega arith)))
+
 -- a hashed item costs something, whatever could be read, and another nothing
-cost_read_or_not : (root : StorageRoot) (u : Option ℕ) (p : Place) → is_hashed None root p ≡ nat_lt 0 (cost None root u p)
-cost_read_or_not root u p = cost_is (named_at root p) u (seen root p)
+cost_read_or_not : (further : Further) (root : StorageRoot) (u : Option ℕ) (p : Place) → is_hashed further root p ≡ nat_lt 0 (cost further root u p)
+cost_read_or_not Nothing root u p = cost_is (named_at root p) u (seen root p)
+cost_read_or_not Inventories root u p =
+    either_costs (common_cost root None p) (further_cost root None p)
+    ∙ (λ i. cost_is (named_at root p) u (seen root p) i || version_cost_is root u (version_inventory root p) i)
+    ∙ sym (either_costs (common_cost root u p) (further_cost root u p))
 
-pub hashed_costs : (root : StorageRoot) (u : Option ℕ) (p : Place) → is_hashed None root p ≡ true → 0 < cost None root u p
-hashed_costs root u p h = ltb-true 0 (cost None root u p) (sym (cost_read_or_not root u p) ∙ h)
+pub hashed_costs : (further : Further) (root : StorageRoot) (u : Option ℕ) (p : Place) → is_hashed further root p ≡ true → 0 < cost further root u p
+hashed_costs further root u p h = ltb-true 0 (cost further root u p) (sym (cost_read_or_not further root u p) ∙ h)
 
-pub free_costs : (root : StorageRoot) (u : Option ℕ) (p : Place) → is_hashed None root p ≡ false → cost None root u p ≡ 0
-free_costs root u p h = let l : cost None root u p ≤ 0 = ltb-false 0 (cost None root u p) (sym (cost_read_or_not root u p) ∙ h) in omega (arith, l)
+pub free_costs : (further : Further) (root : StorageRoot) (u : Option ℕ) (p : Place) → is_hashed further root p ≡ false → cost further root u p ≡ 0
+free_costs further root u p h = let l : cost further root u p ≤ 0 = ltb-false 0 (cost further root u p) (sym (cost_read_or_not further root u p) ∙ h) in omega (arith, l)
 
 -- ---- by how much what was spent passes the budget
 

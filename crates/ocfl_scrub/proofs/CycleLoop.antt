@@ -3,6 +3,7 @@ use Rattle.std.proofs.Common.{◌≡◌, ◌≢◌, ◌<◌, ◌≤◌, ℕ, ◌
 use Rattle.std.proofs.{lemmas.List.{length-map}, Math.ListN.{drop_of_length-le}}
 use Rattle.ocfl_tree.specs.Place.{Place}
 use Rattle.ocfl_tree.proofs.Lists.{drop_item}
+use Rattle.ocfl_report.specs.declared.further.Further.{Further}
 use Rattle.ocfl_cursor.specs.Cursor.{State, start, behind, ended, Cursor, new_cursor}
 use Rattle.ocfl_cursor.specs.{Moves.{after_run}, declared.limits.Limits.{Limits as MadeLimits}}
 use Rattle.ocfl_scrub.specs.declared.stop.ReportStop.TheVariants.{Output}
@@ -47,8 +48,8 @@ stopped_wrote end why last_end e f other g = let same : why ≡ Output = cc in o
 
 -- ---- cursors
 
-pub new_unended : (c : Cursor) → c ≡ new_cursor → c.state ≢ ended
-new_unended c e f = let two : start ≡ ended = sym (ap (λ x. x.state) e) ∙ f in cc
+pub new_unended : (further : Further) (c : Cursor) → c ≡ new_cursor further → c.state ≢ ended
+new_unended further c e f = let two : start ≡ ended = sym (ap (λ x. x.state) e) ∙ f in cc
 
 begun_same : (c : Cursor) (s : State) → s ≢ ended → begun_in c s ≡ c
 begun_same c start h = refl
@@ -70,6 +71,9 @@ module _ (c now reached : Cursor) (cost opened : ℕ) (end : RunStatus) (last : 
 
   pub same_cycle : c.cycle ≡ 1 → reached.cycle ≡ 1
   same_cycle e = ap (λ x. x.cycle) reached_is ∙ e
+
+  pub same_option : (further : Further) → c.further ≡ further → reached.further ≡ further
+  same_option further e = ap (λ x. x.further) reached_is ∙ e
 
   pub spent_unended : end ≡ run.Spent → reached.state ≢ ended
   spent_unended e f = state_unended last (sym (ap (λ x. x.state) reached_is ∙ ap (λ w. state_after w last) e) ∙ f)

@@ -7,6 +7,7 @@ use Rattle.ocfl_tree.specs.Store.{Store, Did}
 use Rattle.ocfl_tree.proofs.Orders.{among_from_filter, among_left}
 use Rattle.ocfl_rules.specs.{Due.{due}, Parts.{Part, lies_in}, Runs.{Limits}}
 use Rattle.ocfl_item.proofs.AuditingLaws.{audits_meta, front_all, front_none, near_none, none_once}
+use Rattle.ocfl_report.specs.declared.further.Further.{Further}
 use Rattle.ocfl_walk.specs.{Ends.{is_past}, WalkCalls.{GoesDown, IsRootFirst, way_of}}
 use Rattle.ocfl_walk.specs.Walks.{Gives}
 use Rattle.ocfl_scrub.specs.{Keeping.{IsMet}, Passes.{IsAhead}, Starting.{end_of, entry, stand}}
@@ -23,21 +24,21 @@ stood_at root part from last stood (p ∷ ps) e f lie =
     let m = last_among p ps in
     e ∙ m.1.0 ∙ sym (stand_there root part m.0 (lie m.0 m.1.1)) ∙ ap (stand root part) (sym m.1.0 ∙ sym f)
 
-module _ {root : StorageRoot} {part : Part} {s t : Store} {old new : Option (List ℕ)} {from last : Option Place} {l : Limits} {spent files : ℕ} {finding : Bool} where
-  stood_is : (h : HasPaid root part s t old new from last l spent files finding) → h.stood ≡ stand root part last
+module _ {further : Further} {root : StorageRoot} {part : Part} {s t : Store} {old new : Option (List ℕ)} {from last : Option Place} {l : Limits} {spent files : ℕ} {finding : Bool} where
+  stood_is : (h : HasPaid further root part s t old new from last l spent files finding) → h.stood ≡ stand root part last
   stood_is h =
       let p = h.pays.passes in
       stood_at root part from last h.stood p.done p.last_is h.last_is (λ q i.
       let inside = among_from_filter (λ z. not (is_past (end_of part) z)) p.done q (subst (λ ps. IsAmong ps q) (sym p.inside) i) in
-      due_lies root part from q (subst (λ ps. IsAmong ps q) (sym p.due_are) (among_left p.done (due None root h.stood) q i)) (not-true (is_past (end_of part) q) inside.1))
+      due_lies further root part from q (subst (λ ps. IsAmong ps q) (sym p.due_are) (among_left p.done (due further root h.stood) q i)) (not-true (is_past (end_of part) q) inside.1))
 
-module _ {root : StorageRoot} {part : Part} {s t : Store} {old new : Option (List ℕ)} {from last : Option Place} {l : Limits} {spent files : ℕ} {finding : Bool} where
+module _ {further : Further} {root : StorageRoot} {part : Part} {s t : Store} {old new : Option (List ℕ)} {from last : Option Place} {l : Limits} {spent files : ℕ} {finding : Bool} where
   -- a run above the last item may go on with it
-  pub met_ready : (m : Met) → HasMet root part s t old new m.walk m.item from last l spent files finding → IsMet root part last m
+  pub met_ready : (m : Met) → HasMet further root part s t old new m.walk m.item from last l spent files finding → IsMet further root part last m
   met_ready m h = record {
     before = h.there;
     after = t;
-    gives = subst (λ o. Gives None root h.there t o m.walk (Some m.item)) (stood_is h.paid) h.item.gives;
+    gives = subst (λ o. Gives further root h.there t o m.walk (Some m.item)) (stood_is h.paid) h.item.gives;
     in_front = h.item.in_front;
   }
 
@@ -66,12 +67,12 @@ root_listed None = tt
 root_listed (Some []) = ([], refl)
 root_listed (Some (n ∷ q)) = (_, refl)
 
-goes_down : (root : StorageRoot) (p : Option Place) → GoesDown None root (nothing_asked root) (all_listed root (way_of p)) p
-goes_down root p = record {
+goes_down : (further : Further) (root : StorageRoot) (p : Option Place) → GoesDown further root (nothing_asked root) (all_listed root (way_of p)) p
+goes_down further root p = record {
   trail = [];
   listed = way_of p;
   heads = [];
-  audits = audits_meta None root (nothing_asked root) (all_listed root (way_of p)) (way_of p) [] [] refl (did_list root (way_of p)) refl refl refl (near_none None root (way_of p));
+  audits = audits_meta further root (nothing_asked root) (all_listed root (way_of p)) (way_of p) [] [] refl (did_list root (way_of p)) refl refl refl (near_none further root (way_of p));
   root_first = root_listed p;
   all_listed = λ d i reached. i;
   listed_front = front_all (way_of p);
@@ -80,11 +81,11 @@ goes_down root p = record {
 }
 
 -- with this left of the open file and of the largest read
-pub ahead_of : (root : StorageRoot) (part : Part) (from : Option Place) (m : Met) (rest : Option Text) (largest : ℕ) → IsMet root part from m
-    → (s : Store) × ((t : Store) × ((t.rest ≡ rest) × (t.largest ≡ largest) × IsAhead root part from m s t))
-ahead_of root part from m rest largest h =
+pub ahead_of : (further : Further) (root : StorageRoot) (part : Part) (from : Option Place) (m : Met) (rest : Option Text) (largest : ℕ) → IsMet further root part from m
+    → (s : Store) × ((t : Store) × ((t.rest ≡ rest) × (t.largest ≡ largest) × IsAhead further root part from m s t))
+ahead_of further root part from m rest largest h =
     let begun : Store = all_listed root (way_of (entry part from)) in
-    let w = walks_with root h.before h.after begun refl rest largest (stand root part from) (Some m.item.place) h.gives.0 in (
+    let w = walks_with further root h.before h.after begun refl rest largest (stand root part from) (Some m.item.place) h.gives.0 in (
       nothing_asked root,
       (
         w.0,
@@ -93,7 +94,7 @@ ahead_of root part from m rest largest h =
           w.1.1,
           record {
             begun = begun;
-            down = goes_down root (entry part from);
+            down = goes_down further root (entry part from);
             gives = (w.1.2, h.gives.1, h.gives.2, h.gives.3);
             in_front = h.in_front;
           },

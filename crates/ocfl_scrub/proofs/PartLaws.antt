@@ -1,11 +1,12 @@
 -- A cut by its parts: what it takes is paid for, and the first item after it is not. What could be
 -- read has no part in the latter.
-use Rattle.std.proofs.Common.{◌≡◌, ℕ, suc, ◌+◌, ◌<◌, List, [], ◌∷◌, refl, sym, ◌∙◌, ap, subst, true, false, Bool, take, drop, arith, eqb-true, None}
+use Rattle.std.proofs.Common.{◌≡◌, ℕ, suc, ◌+◌, ◌<◌, List, [], ◌∷◌, refl, sym, ◌∙◌, ap, subst, true, false, Bool, take, drop, arith, eqb-true}
 use Rattle.std.specs.Prelude.{cond, ◌==◌, ◌||◌, ◌&&◌, nat_lt}
 use Rattle.ocfl_tree.specs.{Place.{Place}, StorageRoot.{StorageRoot}}
 use Rattle.ocfl_tree.specs.declared.store.Opening.{Opening}
 use Rattle.ocfl_tree.proofs.Orders.{true_not_false}
 use Rattle.ocfl_report.specs.Line.{Item}
+use Rattle.ocfl_report.specs.declared.further.Further.{Further}
 use Rattle.ocfl_rules.specs.Inventories.{is_hashed}
 use Rattle.ocfl_rules.specs.Audit.{given_by, total_cost}
 use Rattle.ocfl_rules.specs.Trail.{unread_of}
@@ -56,13 +57,13 @@ module _ (l : Limits) where
 -- ---- whatever could be read
 
 -- what is not paid for is a hashed file
-pub stop_hashed : (root : StorageRoot) (os : List Opening) (l : Limits) (s f : ℕ) (p : Place) (ps : List Place) → IsStop l s f (items_at None root os (p ∷ ps)) → is_hashed None root p ≡ true
+pub stop_hashed : (further : Further) (root : StorageRoot) (os : List Opening) (l : Limits) (s f : ℕ) (p : Place) (ps : List Place) → IsStop l s f (items_at further root os (p ∷ ps)) → is_hashed further root p ≡ true
 unfolding items_at
-stop_hashed root os l s f p ps h = by (is_hashed None root p) refl
+stop_hashed further root os l s f p ps h = by (is_hashed further root p) refl
   where
-    by : (b : Bool) → is_hashed None root p ≡ b → b ≡ true
+    by : (b : Bool) → is_hashed further root p ≡ b → b ≡ true
     by true e = refl
-    by false e = absurd (true_not_false (sym (test_free l s f _ (free_costs root (given_by (unread_of None root os) p) p e)) ∙ h))
+    by false e = absurd (true_not_false (sym (test_free l s f _ (free_costs further root (given_by (unread_of further root os) p) p e)) ∙ h))
 
 some_cost : (c : ℕ) → 0 < c → (c == 0) ≡ false
 some_cost c h = by (c == 0) refl
@@ -74,9 +75,9 @@ some_cost c h = by (c == 0) refl
 same_test : (l : Limits) (s f c d : ℕ) → 0 < c → 0 < d → may_take l s f c ≡ may_take l s f d
 same_test l s f c d h k = ap (λ b. b || (nat_lt s l.budget && nat_lt f l.files)) (some_cost c h ∙ sym (some_cost d k))
 
-pub stop_alike : (root : StorageRoot) (os os' : List Opening) (l : Limits) (s f : ℕ) (ps : List Place) → IsStop l s f (items_at None root os ps) → IsStop l s f (items_at None root os' ps)
+pub stop_alike : (further : Further) (root : StorageRoot) (os os' : List Opening) (l : Limits) (s f : ℕ) (ps : List Place) → IsStop l s f (items_at further root os ps) → IsStop l s f (items_at further root os' ps)
 unfolding items_at
-stop_alike root os os' l s f [] h = tt
-stop_alike root os os' l s f (p ∷ ps) h =
-    let hashed : is_hashed None root p ≡ true = stop_hashed root os l s f p ps h in
-    same_test l s f _ _ (hashed_costs root (given_by (unread_of None root os') p) p hashed) (hashed_costs root (given_by (unread_of None root os) p) p hashed) ∙ h
+stop_alike further root os os' l s f [] h = tt
+stop_alike further root os os' l s f (p ∷ ps) h =
+    let hashed : is_hashed further root p ≡ true = stop_hashed further root os l s f p ps h in
+    same_test l s f _ _ (hashed_costs further root (given_by (unread_of further root os') p) p hashed) (hashed_costs further root (given_by (unread_of further root os) p) p hashed) ∙ h

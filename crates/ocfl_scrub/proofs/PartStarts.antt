@@ -1,5 +1,6 @@
 -- Where the walk over a part begins: what is left there before its end is what the part has above
 -- the place that it is given.
+use Rattle.ocfl_report.specs.declared.further.Further.{Further}
 use Rattle.std.proofs.Common.{◌≡◌, List, [], ◌∷◌, ◌++◌, refl, sym, ◌∙◌, ap, subst, true, false, Bool, Option, Some, None, map, filter, append-nil}
 use Rattle.std.proofs.Math.Bool.{and-true, and-false, and_comm}
 use Rattle.std.specs.{Prelude.{cond, not, ◌&&◌, ◌||◌}, Option.{option_map}, Ordering.{is_lt}}
@@ -193,10 +194,10 @@ filter_up_to test ps None = refl
 filter_up_to test ps (Some b) =
     filter_twice (λ q. not (is_lt (place_cmp b q))) test ps ∙ filter_same _ _ (λ x. and_comm (test x) (not (is_lt (place_cmp b x)))) ps ∙ sym (filter_twice test (λ q. not (is_lt (place_cmp b q))) ps)
 
-module _ (root : StorageRoot) (part : Part) (above : Option Place) where
-  pub due_starts : before_end (end_of part) (due None root (stand root part above)) ≡ due_within root part above
+module _ (further : Further) (root : StorageRoot) (part : Part) (above : Option Place) where
+  pub due_starts : before_end (end_of part) (due further root (stand root part above)) ≡ due_within further root part above
   unfolding due
-  due_starts = leaves root part (due None root) (due_from None root) (λ p. refl) above
+  due_starts = leaves root part (due further root) (due_from further root) (λ p. refl) above
 
   pub looked_starts : (to : Option Place) → before_end (end_of part) (looked_between root (stand root part above) to) ≡ looked_in root part above to
   unfolding looked_between
@@ -229,13 +230,13 @@ module _ (root : StorageRoot) (part : Part) (above : Option Place) where
     read_to = sym read_before ∙ read_starts (Some next)
 
   -- the items of the part above the place
-  pub above_in : (os : List Opening) → items_in root os part above ≡ items_at None root os (due_within root part above)
+  pub above_in : (os : List Opening) → items_in further root os part above ≡ items_at further root os (due_within further root part above)
   unfolding items_at
   above_in os =
-      part_goes_on part above (audit None root (unread_of None root os)) ∙ ap (within part) (after_is_due None root os above)
-      ∙ within_is part (map (item_of None root (unread_of None root os)) (due None root above))
-      ∙ map_filter (λ i. lies_in part i.place) (item_of None root (unread_of None root os)) (due None root above)
-      ∙ ap (map (item_of None root (unread_of None root os))) (sym (places_within_is part (due None root above)))
+      part_goes_on part above (audit further root (unread_of further root os)) ∙ ap (within part) (after_is_due further root os above)
+      ∙ within_is part (map (item_of further root (unread_of further root os)) (due further root above))
+      ∙ map_filter (λ i. lies_in part i.place) (item_of further root (unread_of further root os)) (due further root above)
+      ∙ ap (map (item_of further root (unread_of further root os))) (sym (places_within_is part (due further root above)))
 
 -- ---- what is in the part there is above the place that is gone down to
 
@@ -284,21 +285,21 @@ looked_in_ascends root part above to = within_ascends part (looked_between root 
 pub read_in_ascends : (root : StorageRoot) (part : Part) (above to : Option Place) → IsAscending place_cmp (read_in root part above to)
 read_in_ascends root part above to = within_ascends part (read_between root above to) (read_ascend root above to)
 
-pub due_within_ascends : (root : StorageRoot) (part : Part) (above : Option Place) → IsAscending place_cmp (due_within root part above)
-due_within_ascends root part above = within_ascends part (due None root above) (due_ascends root above)
+pub due_within_ascends : (further : Further) (root : StorageRoot) (part : Part) (above : Option Place) → IsAscending place_cmp (due_within further root part above)
+due_within_ascends further root part above = within_ascends part (due further root above) (due_ascends further root above)
 
-placed : (root : StorageRoot) (unread : Unread) (ps : List Place) → map (λ i. i.place) (map (item_of None root unread) ps) ≡ ps
-placed root unread [] = refl
-placed root unread (p ∷ ps) = ap (λ xs. p ∷ xs) (placed root unread ps)
+placed : (further : Further) (root : StorageRoot) (unread : Unread) (ps : List Place) → map (λ i. i.place) (map (item_of further root unread) ps) ≡ ps
+placed further root unread [] = refl
+placed further root unread (p ∷ ps) = ap (λ xs. p ∷ xs) (placed further root unread ps)
 
-audit_ascends : (root : StorageRoot) (unread : Unread) → IsAscending place_cmp (map (λ i. i.place) (audit None root unread))
+audit_ascends : (further : Further) (root : StorageRoot) (unread : Unread) → IsAscending place_cmp (map (λ i. i.place) (audit further root unread))
 unfolding due
-audit_ascends root unread =
-    subst (λ is. IsAscending place_cmp (map (λ i. i.place) is)) (sym (audit_by_places None root unread))
-    (subst (IsAscending place_cmp) (sym (placed root unread (item_places None root))) (due_ascends root None))
+audit_ascends further root unread =
+    subst (λ is. IsAscending place_cmp (map (λ i. i.place) is)) (sym (audit_by_places further root unread))
+    (subst (IsAscending place_cmp) (sym (placed further root unread (item_places further root))) (due_ascends further root None))
 
 -- and so do the items of a part
-pub items_ascend : (root : StorageRoot) (unread : Unread) (part : Part) → IsAscending place_cmp (map (λ i. i.place) (within part (audit None root unread)))
-items_ascend root unread part =
-    subst (λ is. IsAscending place_cmp (map (λ i. i.place) is)) (sym (within_is part (audit None root unread)))
-    (subst (IsAscending place_cmp) (map_filter (lies_in part) (λ i. i.place) (audit None root unread)) (ascends_filter place_cmp (lies_in part) _ (audit_ascends root unread)))
+pub items_ascend : (further : Further) (root : StorageRoot) (unread : Unread) (part : Part) → IsAscending place_cmp (map (λ i. i.place) (within part (audit further root unread)))
+items_ascend further root unread part =
+    subst (λ is. IsAscending place_cmp (map (λ i. i.place) is)) (sym (within_is part (audit further root unread)))
+    (subst (IsAscending place_cmp) (map_filter (lies_in part) (λ i. i.place) (audit further root unread)) (ascends_filter place_cmp (lies_in part) _ (audit_ascends further root unread)))

@@ -26,23 +26,24 @@ use Rattle.ocfl_scrub.proofs.CutLaws.{paid_append, test_paid, test_free, free_co
 use Rattle.ocfl_scrub.proofs.PassLaws.{no_items, halves, due_next, passes_none, passes_took, took_items, passes_missed, missed_items, next_is, passes_lost, walked_on, passes_finish, finished_items}
 use Rattle.ocfl_scrub.proofs.TakeLaws.{fault_other}
 use Rattle.ocfl_item.proofs.AuditingLaws.{audits_on}
+use Rattle.ocfl_report.specs.declared.further.Further.{Further}
 
 -- ---- what items cost
 
 -- a hashed item is paid for below both limits, and another is free
-pub payable : (root : StorageRoot) (p : Place) (l : Limits) (spent files : ℕ) (os : List Opening) → (is_hashed None root p ≡ true → IsWithinBoth l spent files)
-    → Paid l spent files (items_at None root os (p ∷ []))
+pub payable : (further : Further) (root : StorageRoot) (p : Place) (l : Limits) (spent files : ℕ) (os : List Opening) → (is_hashed further root p ≡ true → IsWithinBoth l spent files)
+    → Paid l spent files (items_at further root os (p ∷ []))
 unfolding items_at
-payable root p l spent files os h = (by (is_hashed None root p) refl h, tt)
+payable further root p l spent files os h = (by (is_hashed further root p) refl h, tt)
   where
-    by : (b : Bool) → is_hashed None root p ≡ b → (b ≡ true → IsWithinBoth l spent files) → may_take l spent files (cost None root (given_by (unread_of None root os) p) p) ≡ true
+    by : (b : Bool) → is_hashed further root p ≡ b → (b ≡ true → IsWithinBoth l spent files) → may_take l spent files (cost further root (given_by (unread_of further root os) p) p) ≡ true
     by true e k = test_paid l spent files _ (k refl).0 (k refl).1
-    by false e k = test_free l spent files _ (free_costs root _ p e)
+    by false e k = test_free l spent files _ (free_costs further root _ p e)
 
-pub files_of_one : (root : StorageRoot) (p : Place) (os : List Opening) → total_files (items_at None root os (p ∷ [])) ≡ files_of (total_cost (items_at None root os (p ∷ [])))
+pub files_of_one : (further : Further) (root : StorageRoot) (p : Place) (os : List Opening) → total_files (items_at further root os (p ∷ [])) ≡ files_of (total_cost (items_at further root os (p ∷ [])))
 unfolding items_at
-files_of_one root p os =
-    let c : ℕ = cost None root (given_by (unread_of None root os) p) p in
+files_of_one further root p os =
+    let c : ℕ = cost further root (given_by (unread_of further root os) p) p in
     let e : files_of c + 0 ≡ files_of c = omega arith in
     let f : c ≡ c + 0 = omega arith in
     e ∙ ap files_of f
@@ -70,57 +71,57 @@ counts_same l spent files xs ys e h = subst (Counts l spent files) (sym e) h
 
 -- ---- a pass begins
 
-unfoldable pub pays_none : (root : StorageRoot) (end : End) (s : Store) (old : Option (List ℕ)) (from : Option Place) (l : Limits) (spent files : ℕ)
-    → s.tree ≡ root → spent ≡ 0 → files ≡ 0 → Pays root end s s old old from from l spent files false
+unfoldable pub pays_none : (further : Further) (root : StorageRoot) (end : End) (s : Store) (old : Option (List ℕ)) (from : Option Place) (l : Limits) (spent files : ℕ)
+    → s.tree ≡ root → spent ≡ 0 → files ≡ 0 → Pays further root end s s old old from from l spent files false
 unfolding passes_none
-pays_none root end s old from l spent files over e f = record {
-  passes = passes_none root end s old from over;
-  counts = counts_same l spent files _ [] (no_items root []) (counts_none l spent files e f);
+pays_none further root end s old from l spent files over e f = record {
+  passes = passes_none further root end s old from over;
+  counts = counts_same l spent files _ [] (no_items further root []) (counts_none l spent files e f);
 }
 
 -- ---- a pass goes on
 
-module _ (root : StorageRoot) (end : End) (s t u : Store) (old mid : Option (List ℕ)) (from last : Option Place) (l : Limits) (spent files : ℕ)
-    (finding : Bool) (low : HasGoneOn end from last) (h : Pays root end s t old mid from last l spent files finding) where
-  module _ (p : Place) (up : IsBeyond last p) (least : due None root last ≡ p ∷ due None root (Some p)) (in_front : is_past end p ≡ false) (w : Walks None root t u last (Some p)) where
-    module _ (v : Store) (new : Option (List ℕ)) (may : is_hashed None root p ≡ true → IsWithinBoth l spent files) where
-      unfoldable pub pays_took : (cost charged started : ℕ) (more either : Bool) → Takes (call_of root u v mid new) p cost more → charged ≡ spent + cost
+module _ (further : Further) (root : StorageRoot) (end : End) (s t u : Store) (old mid : Option (List ℕ)) (from last : Option Place) (l : Limits) (spent files : ℕ)
+    (finding : Bool) (low : HasGoneOn end from last) (h : Pays further root end s t old mid from last l spent files finding) where
+  module _ (p : Place) (up : IsBeyond last p) (least : due further root last ≡ p ∷ due further root (Some p)) (in_front : is_past end p ≡ false) (w : Walks further root t u last (Some p)) where
+    module _ (v : Store) (new : Option (List ℕ)) (may : is_hashed further root p ≡ true → IsWithinBoth l spent files) where
+      unfoldable pub pays_took : (cost charged started : ℕ) (more either : Bool) → Takes (call_of further root u v mid new) p cost more → charged ≡ spent + cost
           → started ≡ files + files_of cost → either ≡ (finding || more)
-          → Pays root end s v old new from (Some p) l charged started either
+          → Pays further root end s v old new from (Some p) l charged started either
       unfolding passes_took
       pays_took cost charged started more either k e g f = record {
-        passes = passes_took root end s t u old mid from last finding low h.passes p up least in_front w v new cost more either k f;
-        counts = counts_more l spent files cost charged started (items_at None root h.passes.trail h.passes.done) (items_at None root k.trail (p ∷ [])) _
-            (took_items root end s t u old mid from last finding low h.passes p up least in_front w v new cost more k) h.counts (payable root p l spent files k.trail may)
-            k.cost_is (files_of_one root p k.trail ∙ ap files_of (sym k.cost_is)) e g;
+        passes = passes_took further root end s t u old mid from last finding low h.passes p up least in_front w v new cost more either k f;
+        counts = counts_more l spent files cost charged started (items_at further root h.passes.trail h.passes.done) (items_at further root k.trail (p ∷ [])) _
+            (took_items further root end s t u old mid from last finding low h.passes p up least in_front w v new cost more k) h.counts (payable further root p l spent files k.trail may)
+            k.cost_is (files_of_one further root p k.trail ∙ ap files_of (sym k.cost_is)) e g;
       }
 
       -- the item was not taken
-      unfoldable pub pays_missed : (why : ReportStop) → Misses (call_of root u v mid new) p why → PaysHalting root end s v old new from last l spent files finding why
+      unfoldable pub pays_missed : (why : ReportStop) → Misses (call_of further root u v mid new) p why → PaysHalting further root end s v old new from last l spent files finding why
       unfolding passes_missed
       pays_missed why k =
           let trail : List Opening = h.passes.trail ++ (w.trail ++ k.trail) in
-          let one : take 1 (due_in root end last) ≡ p ∷ [] = next_is root end s t u old mid from last finding low h.passes p up least in_front w v new in
+          let one : take 1 (due_in further root end last) ≡ p ∷ [] = next_is further root end s t u old mid from last finding low h.passes p up least in_front w v new in
           record {
-            halts = passes_missed root end s t u old mid from last finding low h.passes p up least in_front w v new why k;
-            counts = counts_same l spent files _ _ (missed_items root end s t u old mid from last finding low h.passes p up least in_front w v new why k) h.counts;
-            next = inl (subst (λ ps. Paid l spent files (items_at None root trail ps)) (sym one) (payable root p l spent files trail may));
+            halts = passes_missed further root end s t u old mid from last finding low h.passes p up least in_front w v new why k;
+            counts = counts_same l spent files _ _ (missed_items further root end s t u old mid from last finding low h.passes p up least in_front w v new why k) h.counts;
+            next = inl (subst (λ ps. Paid l spent files (items_at further root trail ps)) (sym one) (payable further root p l spent files trail may));
           }
 
     -- the item is not to be taken
-    unfoldable pub pays_up_to : is_hashed None root p ≡ true → (IsWithinBoth l spent files → ⊥) → PaysUpTo root end s u old mid from last l spent files finding
+    unfoldable pub pays_up_to : is_hashed further root p ≡ true → (IsWithinBoth l spent files → ⊥) → PaysUpTo further root end s u old mid from last l spent files finding
     pays_up_to hashed reached =
         let g = h.passes in
         let trail : List Opening = g.trail ++ w.trail in
-        let before : items_at None root trail g.done ≡ items_at None root g.trail g.done = walked_on root end s t u old mid from last finding low g w.trail w.audits.opened in
-        let joined = audits_on None root s t u g.done [] _ _ _ _ g.trail w.trail g.audits w.audits in
+        let before : items_at further root trail g.done ≡ items_at further root g.trail g.done = walked_on further root end s t u old mid from last finding low g w.trail w.audits.opened in
+        let joined = audits_on further root s t u g.done [] _ _ _ _ g.trail w.trail g.audits w.audits in
         record {
           next = p;
           done = g.done;
           trail = trail;
-          audits = subst (λ ps. Audits None root s u ps (looked_between root from (Some p)) (read_between root from (Some p)) trail) (append-nil g.done)
-              (audits_as None (looked_next root end from last low p up) (read_next root end from last low p up) joined);
-          due_are = halves root end s t u old mid from last finding low g ∙ ap (λ ps. g.done ++ ps) (due_next root end s t u old mid from last finding low g p up least in_front w u mid);
+          audits = subst (λ ps. Audits further root s u ps (looked_between root from (Some p)) (read_between root from (Some p)) trail) (append-nil g.done)
+              (audits_as further (looked_next root end from last low p up) (read_next root end from last low p up) joined);
+          due_are = halves further root end s t u old mid from last finding low g ∙ ap (λ ps. g.done ++ ps) (due_next further root end s t u old mid from last finding low g p up least in_front w u mid);
           in_front = in_front;
           last_is = g.last_is;
           wrote = subst (λ is. Appends old mid (text is)) (sym before) g.wrote;
@@ -131,18 +132,18 @@ module _ (root : StorageRoot) (end : End) (s t u : Store) (old mid : Option (Lis
         }
 
   -- the walk did not get there
-  unfoldable pub pays_lost : (why : Fault) → FailsOut None root t u last end why → PaysHalting root end s u old mid from last l spent files finding (halt.Fault why)
+  unfoldable pub pays_lost : (why : Fault) → FailsOut further root t u last end why → PaysHalting further root end s u old mid from last l spent files finding (halt.Fault why)
   unfolding passes_lost
   pays_lost why w = record {
-    halts = passes_lost root end s t u old mid from last finding low h.passes why w;
-    counts = counts_same l spent files _ _ (walked_on root end s t u old mid from last finding low h.passes w.trail w.fails.opened) h.counts;
+    halts = passes_lost further root end s t u old mid from last finding low h.passes why w;
+    counts = counts_same l spent files _ _ (walked_on further root end s t u old mid from last finding low h.passes w.trail w.fails.opened) h.counts;
     next = inr (fault_other why, refl);
   }
 
   -- nothing is left
-  pub pays_finish : WalksOut None root t u last end → due_in root end last ≡ [] → PaysAll root end s u old mid from last l spent files finding
+  pub pays_finish : WalksOut further root t u last end → due_in further root end last ≡ [] → PaysAll further root end s u old mid from last l spent files finding
   unfolding passes_finish
   pays_finish w none = record {
-    finishes = passes_finish root end s t u old mid from last finding low h.passes w none;
-    counts = counts_same l spent files _ _ (sym (finished_items root end s t u old mid from last finding low h.passes w none)) h.counts;
+    finishes = passes_finish further root end s t u old mid from last finding low h.passes w none;
+    counts = counts_same l spent files _ _ (sym (finished_items further root end s t u old mid from last finding low h.passes w none)) h.counts;
   }

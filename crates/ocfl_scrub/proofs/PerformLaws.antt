@@ -1,8 +1,9 @@
 -- What is said and handed back after a run.
-use Rattle.std.proofs.Common.{◌≡◌, refl, ap, subst, ℕ, List, [], Option, Some, None, Vec, inl, inr}
+use Rattle.std.proofs.Common.{◌≡◌, refl, sym, ◌∙◌, ap, subst, ℕ, List, [], Option, Some, None, Vec, inl, inr}
 use Rattle.std.specs.Prelude.{◌≢◌, IsNone, IsSome, IfSome, ◌⊎◌, String, string_bytes}
 use Rattle.std.specs.declared.alloc.Global.{Global}
-use Rattle.ocfl_tree.specs.{Place.{Text, Place}, Store.{Store}}
+use Rattle.ocfl_tree.specs.{Place.{Text, Place}, StorageRoot.{StorageRoot}, Store.{Store}}
+use Rattle.ocfl_report.specs.declared.further.Further.{Further}
 use Rattle.ocfl_report.specs.{Line.{found}, Text.{text}}
 use Rattle.ocfl_rules.specs.{Audit.{audit}, Parts.{Part, whole}, Runs.{Limits}}
 use Rattle.ocfl_cursor.specs.{Cursor.{Cursor, IsCursor}, Moves.{after_run}}
@@ -11,9 +12,11 @@ use Rattle.ocfl_deed.specs.declared.deed.Deed.{Deed}
 use Rattle.ocfl_deed.specs.declared.deed.Deed.TheVariants as deed
 use Rattle.ocfl_scrub.specs.declared.stop.ReportStop.TheVariants as halt
 use Rattle.ocfl_scope.specs.Finding.{IsNoPath}
-use Rattle.ocfl_scrub.specs.Call.{Call, IsUnfailing, Writes}
+use Rattle.ocfl_cursor.specs.declared.ends.PartEnds.{PartEnds}
+use Rattle.ocfl_scrub.specs.Call.{Call, IsUnfailing, Writes, call_of}
 use Rattle.ocfl_scrub.specs.Noting.{AuditsWithNote, IsAuditNote, IsRanSaid, IsRefused, IsStatus, IsStoredNote, status_of}
-use Rattle.ocfl_scrub.specs.Performing.{AnswersOnAnyStore, Performs, HandedBack, IsKept, IsSilent, IsWhole, IsWithoutFile, RefusesPath, RunMade, RunUnmade, RunWorn}
+use Rattle.ocfl_scrub.specs.Scoping.{BeginsPartWith, IsPartFirst, IsPartOfOther}
+use Rattle.ocfl_scrub.specs.Performing.{AnswersOnAnyStore, AuditPerformed, BeginsWith, Performs, HandedBack, IsFirst, IsOfOther, further_of, IsKept, IsSilent, IsWhole, IsWithoutFile, RefusesPath, RunMade, RunUnmade, RunWorn}
 use Rattle.ocfl_scrub.specs.Running.{IsPaid, IsWorn, RunsCleanlyWithin, RunsFromWithin, RunsOnAnyStore, begun, limits_of, state_after}
 use Rattle.ocfl_scrub.specs.{declared.note.Note.{Note}, declared.performing.Performed.{Performed}}
 use Rattle.ocfl_scrub.specs.declared.running.RunEnd.{RunEnd}
@@ -65,27 +68,28 @@ silent_worn note.BadPath h k = absurd h
 silent_worn note.CursorFileFailed h k = absurd h
 silent_worn (note.CursorRefused why) h k = absurd h
 silent_worn (note.PartCursorRefused why) h k = absurd h
+silent_worn (note.OtherAudit other) h k = absurd h
 silent_worn n h k = absurd k
 
-no_file_failed : (known : Option (Option Text)) (limits : MadeLimits) (n : Note) → IsRanSaid n → IsWithoutFile known (deed.Run limits) n
-no_file_failed None limits n h = λ e. subst IsRanSaid e h
-no_file_failed (Some known) limits n h = tt
+no_file_failed : (known : Option (Option Text)) (further : Further) (limits : MadeLimits) (n : Note) → IsRanSaid n → IsWithoutFile known (deed.Run further limits) n
+no_file_failed None further limits n h = λ e. subst IsRanSaid e h
+no_file_failed (Some known) further limits n h = tt
 
 -- a run answers on any store as what is said of it
 module _ {S O : Type 0} {contents : O → Option (List ℕ)} {before after : S} {old new : O} {from : Cursor} {limits : MadeLimits} {ran : RunEnd}
     (r : RunsOnAnyStore contents before after old new from limits ran) where
-  pub run_answers : (known : Option (Option Text)) (said : Performed) → IsStatus said.status said.note → IsRanSaid said.note → (said.note ≡ note.CursorWorn → ran.end ≡ run.Worn)
+  pub run_answers : (further : Further) (known : Option (Option Text)) (said : Performed) → IsStatus said.status said.note → IsRanSaid said.note → (said.note ≡ note.CursorWorn → ran.end ≡ run.Worn)
       → IsKept said.note said.cursor → (IsWhole said.note → (ran.end ≢ run.Stopped halt.Output) × (said.status ≡ status_of ran.found))
       → (said.note ≢ note.OutputFailed → (said.note ≢ note.OutOfMemory) ⊎ IsSome said.cursor → ran.end ≢ run.Stopped halt.Output)
-      → AnswersOnAnyStore contents before after old new known (deed.Run limits) said
-  run_answers known said status says worn kept whole uncut = record {
+      → AnswersOnAnyStore contents before after old new known (deed.Run further limits) said
+  run_answers further known said status says worn kept whole uncut = record {
     status = status;
     silent = λ h. r.worn_silent (worn (silent_worn said.note says h));
-    show_calls = λ e. absurd (let two : deed.Run limits ≡ deed.Show = e in cc);
-    show_ends = λ e. absurd (let two : deed.Run limits ≡ deed.Show = e in cc);
+    show_calls = λ e. absurd (let two : deed.Run further limits ≡ deed.Show = e in cc);
+    show_ends = λ e. absurd (let two : deed.Run further limits ≡ deed.Show = e in cc);
     unshown = tt;
     kept = kept;
-    without_file = no_file_failed known limits said.note says;
+    without_file = no_file_failed known further limits said.note says;
     bad_path = tt;
     bad_path_silent = λ h. absurd h;
     lines = record {
@@ -143,15 +147,49 @@ module _ {Begins : Cursor → Type 0} {text_of : Cursor → Text} {limits : Limi
         };
       })
 
+  -- it was made from a cursor with this option
+  pub run_performed_with : {Why : Type 0} (further : Further) (root : StorageRoot) (s t : Store) (old new : Option (List ℕ)) (made part : Part) → from.further ≡ further → made ≡ part
+      → (RunWorn Begins said.status said.note → Why) → (ran.end ≡ run.Worn → (t ≡ s) × (new ≡ old))
+      → (ran.end ≢ run.Worn → RunsFromWithin (call_of from.further root s t old new) made from limits ran)
+      → (t.failures ≡ s.failures → RunsCleanlyWithin (call_of from.further root s t old new) made from limits ran.spent ran.files ran.found ran.end)
+      → RunMade Begins text_of (call_of further root s t old new) part limits said.status said.note said.cursor ⊎ RunUnmade Why (call_of further root s t old new) said.cursor
+  run_performed_with {Why} further root s t old new made part e same unmade silent runs clean =
+      subst (λ o. RunMade Begins text_of (call_of o root s t old new) part limits said.status said.note said.cursor ⊎ RunUnmade Why (call_of o root s t old new) said.cursor) e
+      (run_performed (call_of from.further root s t old new) made part same unmade silent runs clean)
+
+-- the cursor that is stored is of an audit with the option
+pub begins_with : (further : Further) (known : Option (Option Text)) (read c : Cursor) → IsFirst further known read → (c ≡ read) × (read.further ≡ further) → BeginsWith further known c
+begins_with further known read c is same = (ap (λ x. x.further) same.0 ∙ same.1, subst (IsFirst further known) (sym same.0) is)
+
+pub begins_part_with : (further : Further) (e : PartEnds) (known : Option (Option Text)) (read c : Cursor) → IsPartFirst further e known read → (c ≡ read) × (read.further ≡ further)
+    → BeginsPartWith further e known c
+begins_part_with further e known read c is same = (ap (λ x. x.further) same.0 ∙ same.1, subst (IsPartFirst further e known) (sym same.0) is)
+
+-- or of one with the other option
+pub other_stored : (further : Further) (known : Option (Option Text)) (c : Cursor) (other : Further) → IsFirst further known c → c.further ≡ other → other ≢ further → IsOfOther further known other
+other_stored further None c other is e differs = absurd (differs (sym e ∙ ap (λ x. x.further) is))
+other_stored further (Some None) c other is e differs = (differs, tt)
+other_stored further (Some (Some bytes)) c other is e differs = (differs, (c, (is, e)))
+
+pub other_part_stored : (further : Further) (e : PartEnds) (known : Option (Option Text)) (c : Cursor) (other : Further) → IsPartFirst further e known c → c.further ≡ other → other ≢ further → IsPartOfOther further e known other
+other_part_stored further e None c other is of differs = absurd (differs (sym of ∙ ap (λ x. x.further) is))
+other_part_stored further e (Some None) c other is of differs = (differs, tt)
+other_part_stored further e (Some (Some bytes)) c other is of differs = (differs, (c, (is, of)))
+
+-- a deed that is another one was done by a call with its option
+pub performs_as : (root : StorageRoot) (s t : Store) (old new : Option (List ℕ)) (known : Option (Option Text)) (d e : Deed) (status : ℕ) (n : Note) (stored : Option (Vec ℕ Global))
+    → d ≡ e → Performs (call_of (further_of e) root s t old new) known e status n stored → Performs (call_of (further_of d) root s t old new) known d status n stored
+performs_as root s t old new known d e status n stored is h = subst (λ x. Performs (call_of (further_of x) root s t old new) known x status n stored) (sym is) h
+
 -- a whole root that was audited, as it is said
-pub audit_performed : (call : Call) (known : Option (Option Text)) (d : Deed) (status status' : ℕ) (n n' : Note) (stored : Option (Vec ℕ Global))
-    → d ≡ deed.Audit → status ≡ status' → n ≡ n' → AuditsWithNote (λ ran. IsAuditNote ran.found ran.end status' n') call whole
-    → (n' ≡ note.Nothing → IsUnfailing call → Writes call (text (audit None call.root [])) × (status' ≡ status_of (found (audit None call.root []))))
-    → Performs call known d status n stored
-audit_performed call known d status status' n n' stored e s m audits clean = rw (e, s, m) (record { audits = audits; clean = clean })
+pub audit_performed : (call : Call) (status status' : ℕ) (n n' : Note)
+    → status ≡ status' → n ≡ n' → AuditsWithNote (λ ran. IsAuditNote ran.found ran.end status' n') call whole
+    → (n' ≡ note.Nothing → IsUnfailing call → Writes call (text (audit call.further call.root [])) × (status' ≡ status_of (found (audit call.further call.root []))))
+    → AuditPerformed call status n
+audit_performed call status status' n n' s m audits clean = rw (s, m) (record { audits = audits; clean = clean })
 
 -- a path that was checked is refused as the check refuses it
-pub path_refused : (d : Deed) (path : String Global) (read : Text) (status status' : ℕ) (n n' : Note)
-    → d ≡ deed.Check path → read ≡ string_bytes path → status ≡ status' → n ≡ n'
+pub path_refused : (d : Deed) (further : Further) (path : String Global) (read : Text) (status status' : ℕ) (n n' : Note)
+    → d ≡ deed.Check further path → read ≡ string_bytes path → status ≡ status' → n ≡ n'
     → (IsNoPath read → IsRefused status' n') → (n' ≡ note.BadPath → IsNoPath read) → RefusesPath d status n
-path_refused d path read status status' n n' e r s m bad only = rw (e, s, m, ← r) (bad, only)
+path_refused d further path read status status' n n' e r s m bad only = rw (e, s, m, ← r) (bad, only)

@@ -36,6 +36,7 @@ use Rattle.ocfl_scrub.proofs.WayOrder.{held_in}
 use Rattle.ocfl_scrub.proofs.RunPlaces.{Took, Turn, front_is, rest_is, due_parts, front_length}
 use Rattle.ocfl_item.proofs.AuditingLaws.{audits_fail, audits_nothing, audits_on}
 use Rattle.ocfl_item.proofs.AuditingLaws.{fails_nothing}
+use Rattle.ocfl_report.specs.declared.further.Further.{Further}
 
 -- ---- some runs
 
@@ -46,17 +47,17 @@ pub record ReadFew (root : StorageRoot) (part : Part) (from : Option Place) (hea
   pub some : 1 ≤ count → length heads < length (holder root (entry part from)) + length (read_in root part from None) + count
 
 -- from s to t the runs of the limits took the items above from up to last
-pub record Parts (root : StorageRoot) (part : Part) (s t : Store) (old new : Option (List ℕ)) (from last : Option Place) (limits : List Limits)
+pub record Parts (further : Further) (root : StorageRoot) (part : Part) (s t : Store) (old new : Option (List ℕ)) (from last : Option Place) (limits : List Limits)
     (spent files : ℕ) (finding : Bool) (count : ℕ) (ended : Bool) : Type 0 where
-  pub took : Took root part s t old new from last spent files finding
-  pub runs_are : joined (runs (items_at None root took.trail (due_within root part from)) limits) ≡ items_at None root took.trail took.done
-  pub count_is : count ≡ length (runs (items_at None root took.trail (due_within root part from)) limits)
+  pub took : Took further root part s t old new from last spent files finding
+  pub runs_are : joined (runs (items_at further root took.trail (due_within further root part from)) limits) ≡ items_at further root took.trail took.done
+  pub count_is : count ≡ length (runs (items_at further root took.trail (due_within further root part from)) limits)
   pub read : ReadFew root part from took.heads count
-  pub ended_is : ended ≡ is_empty (due_within root part last)
+  pub ended_is : ended ≡ is_empty (due_within further root part last)
   pub made : ended ≡ true → 1 ≤ count
 
 -- from s to t they took the items above from up to last, and then there was a fault
-pub record PartsStop (root : StorageRoot) (part : Part) (s t : Store) (old new : Option (List ℕ)) (from last : Option Place) (limits : List Limits)
+pub record PartsStop (further : Further) (root : StorageRoot) (part : Part) (s t : Store) (old new : Option (List ℕ)) (from last : Option Place) (limits : List Limits)
     (spent files : ℕ) (finding : Bool) (count : ℕ) (why : ReportStop) : Type 0 where
   pub done : List Place
   pub begun : List Place
@@ -64,23 +65,23 @@ pub record PartsStop (root : StorageRoot) (part : Part) (s t : Store) (old new :
   pub others : List Item
   pub listed : List Place
   pub heads : List Place
-  pub fails : Fails None root s t (done ++ begun) listed heads trail (stop_place why)
-  pub first_due : IsFront (done ++ begun) (due_within root part from)
+  pub fails : Fails further root s t (done ++ begun) listed heads trail (stop_place why)
+  pub first_due : IsFront (done ++ begun) (due_within further root part from)
   pub last_is : last ≡ last_or from done
-  pub runs_begin : joined (take count (runs (items_at None root trail (due_within root part from)) limits)) ≡ items_at None root trail done ++ others
-  pub runs_before : IsFront (joined (take (count - 1) (runs (items_at None root trail (due_within root part from)) limits))) (items_at None root trail done)
+  pub runs_begin : joined (take count (runs (items_at further root trail (due_within further root part from)) limits)) ≡ items_at further root trail done ++ others
+  pub runs_before : IsFront (joined (take (count - 1) (runs (items_at further root trail (due_within further root part from)) limits))) (items_at further root trail done)
   pub one : IsFront begun (places (take 1 others))
   pub gone : Text
-  pub wrote : Appends old new (text (items_at None root trail done) ++ gone)
+  pub wrote : Appends old new (text (items_at further root trail done) ++ gone)
   pub part_of : PartOf why (text (take 1 others)) gone
-  pub count_fits : count ≤ length (runs (items_at None root trail (due_within root part from)) limits)
-  pub figures : Figures (items_at None root trail done) spent files finding
+  pub count_fits : count ≤ length (runs (items_at further root trail (due_within further root part from)) limits)
+  pub figures : Figures (items_at further root trail done) spent files finding
   pub read : ReadFew root part from heads count
 
-abbrev pub PartsEnd : StorageRoot → Part → Store → Store → Option (List ℕ) → Option (List ℕ) → Option Place → Option Place → List Limits → ℕ → ℕ → Bool → ℕ → CycleStatus → Type 0
-PartsEnd root part s t old new from last limits spent files finding count Ended = Parts root part s t old new from last limits spent files finding count true
-PartsEnd root part s t old new from last limits spent files finding count Spent = Parts root part s t old new from last limits spent files finding count false
-PartsEnd root part s t old new from last limits spent files finding count (Stopped why) = PartsStop root part s t old new from last limits spent files finding count why
+abbrev pub PartsEnd : Further → StorageRoot → Part → Store → Store → Option (List ℕ) → Option (List ℕ) → Option Place → Option Place → List Limits → ℕ → ℕ → Bool → ℕ → CycleStatus → Type 0
+PartsEnd further root part s t old new from last limits spent files finding count Ended = Parts further root part s t old new from last limits spent files finding count true
+PartsEnd further root part s t old new from last limits spent files finding count Spent = Parts further root part s t old new from last limits spent files finding count false
+PartsEnd further root part s t old new from last limits spent files finding count (Stopped why) = PartsStop further root part s t old new from last limits spent files finding count why
 
 -- ---- lists
 
@@ -92,9 +93,9 @@ none_empty : (ps : List Place) → ps ≡ [] → is_empty ps ≡ true
 none_empty [] h = refl
 none_empty (p ∷ ps) h = absurd cc
 
-some_items : (root : StorageRoot) (os : List Opening) (p : Place) (ps : List Place) → is_empty (items_at None root os (p ∷ ps)) ≡ false
+some_items : (further : Further) (root : StorageRoot) (os : List Opening) (p : Place) (ps : List Place) → is_empty (items_at further root os (p ∷ ps)) ≡ false
 unfolding items_at
-some_items root os p ps = refl
+some_items further root os p ps = refl
 
 -- none of some lists
 joined_none : (xs : List (List Item)) → joined (take 0 xs) ≡ []
@@ -139,16 +140,16 @@ runs_end [] = refl
 runs_end (l ∷ ls) = refl
 
 -- no limits are left
-pub parts_none : (root : StorageRoot) (part : Part) (s : Store) (old : Option (List ℕ)) (last : Option Place) → s.tree ≡ root
-    → is_empty (due_within root part last) ≡ false → Parts root part s s old old last last [] 0 0 false 0 false
+pub parts_none : (further : Further) (root : StorageRoot) (part : Part) (s : Store) (old : Option (List ℕ)) (last : Option Place) → s.tree ≡ root
+    → is_empty (due_within further root part last) ≡ false → Parts further root part s s old old last last [] 0 0 false 0 false
 unfolding items_at
-parts_none root part s old last over some = record {
+parts_none further root part s old last over some = record {
   took = record {
     done = [];
     trail = [];
     listed = [];
     heads = [];
-    audits = audits_nothing None root s over;
+    audits = audits_nothing further root s over;
     due_are = refl;
     last_is = refl;
     wrote = Appends-nil old;
@@ -162,11 +163,11 @@ parts_none root part s old last over some = record {
 }
 
 -- out of memory before a run
-pub parts_unbegun : (root : StorageRoot) (part : Part) (s : Store) (old : Option (List ℕ)) (last : Option Place) (limits : List Limits) → s.tree ≡ root
-    → PartsStop root part s s old old last last limits 0 0 false 0 (halt.Fault Memory)
+pub parts_unbegun : (further : Further) (root : StorageRoot) (part : Part) (s : Store) (old : Option (List ℕ)) (last : Option Place) (limits : List Limits) → s.tree ≡ root
+    → PartsStop further root part s s old old last last limits 0 0 false 0 (halt.Fault Memory)
 unfolding items_at
-parts_unbegun root part s old last limits over =
-    let all : List (List Item) = runs (items_at None root [] (due_within root part last)) limits in
+parts_unbegun further root part s old last limits over =
+    let all : List (List Item) = runs (items_at further root [] (due_within further root part last)) limits in
     record {
       done = [];
       begun = [];
@@ -174,8 +175,8 @@ parts_unbegun root part s old last limits over =
       others = [];
       listed = [];
       heads = [];
-      fails = fails_nothing None root s over;
-      first_due = (due_within root part last, refl);
+      fails = fails_nothing further root s over;
+      first_due = (due_within further root part last, refl);
       last_is = refl;
       runs_begin = joined_none all;
       runs_before = front_none all [];
@@ -194,47 +195,47 @@ first_none : (ps : List Place) → None ≡ slice_get ps 0 → ps ≡ []
 first_none [] e = refl
 first_none (p ∷ ps) e = absurd cc
 
-module _ (root : StorageRoot) (part : Part) (s t : Store) (old mid : Option (List ℕ)) (from mid_last : Option Place) (l : Limits) (spent files : ℕ) (finding : Bool) (ls : List Limits) where
+module _ (further : Further) (root : StorageRoot) (part : Part) (s t : Store) (old mid : Option (List ℕ)) (from mid_last : Option Place) (l : Limits) (spent files : ℕ) (finding : Bool) (ls : List Limits) where
   -- it took all that was left
-  pub parts_ended : Turn root part s t old mid from mid_last l spent files finding None → Parts root part s t old mid from mid_last (l ∷ ls) spent files finding 1 true
+  pub parts_ended : Turn further root part s t old mid from mid_last l spent files finding None → Parts further root part s t old mid from mid_last (l ∷ ls) spent files finding 1 true
   parts_ended h =
-      let none : due_within root part mid_last ≡ [] = first_none (due_within root part mid_last) h.next_is in
-      let split : items_at None root h.took.trail (due_within root part from) ≡ items_at None root h.took.trail h.took.done ++ items_at None root h.took.trail
-      (due_within root part mid_last) = ap (items_at None root h.took.trail) h.took.due_are ∙ items_append root h.took.trail h.took.done (due_within root part mid_last) in
-      let is_cut : cut (items_at None root h.took.trail (due_within root part from)) l ≡ items_at None root h.took.trail h.took.done = ap (λ is. cut is l) split ∙ cut_of_paid l _ _ h.paid h.stops in
-      let is_left : left (items_at None root h.took.trail (due_within root part from)) l ≡ [] =
-      ap (λ is. left is l) split ∙ left_of_paid l _ _ h.paid h.stops ∙ ap (items_at None root h.took.trail) none ∙ no_items root h.took.trail in
-      let are : runs (items_at None root h.took.trail (due_within root part from)) (l ∷ ls) ≡ cut (items_at None root h.took.trail (due_within root part from)) l ∷ [] =
-      ap (λ xs. cut (items_at None root h.took.trail (due_within root part from)) l ∷ runs_after ls xs) is_left ∙ ap
-      (λ xs. cut (items_at None root h.took.trail (due_within root part from)) l ∷ xs) (runs_end ls) in
+      let none : due_within further root part mid_last ≡ [] = first_none (due_within further root part mid_last) h.next_is in
+      let split : items_at further root h.took.trail (due_within further root part from) ≡ items_at further root h.took.trail h.took.done ++ items_at further root h.took.trail
+      (due_within further root part mid_last) = ap (items_at further root h.took.trail) h.took.due_are ∙ items_append further root h.took.trail h.took.done (due_within further root part mid_last) in
+      let is_cut : cut (items_at further root h.took.trail (due_within further root part from)) l ≡ items_at further root h.took.trail h.took.done = ap (λ is. cut is l) split ∙ cut_of_paid l _ _ h.paid h.stops in
+      let is_left : left (items_at further root h.took.trail (due_within further root part from)) l ≡ [] =
+      ap (λ is. left is l) split ∙ left_of_paid l _ _ h.paid h.stops ∙ ap (items_at further root h.took.trail) none ∙ no_items further root h.took.trail in
+      let are : runs (items_at further root h.took.trail (due_within further root part from)) (l ∷ ls) ≡ cut (items_at further root h.took.trail (due_within further root part from)) l ∷ [] =
+      ap (λ xs. cut (items_at further root h.took.trail (due_within further root part from)) l ∷ runs_after ls xs) is_left ∙ ap
+      (λ xs. cut (items_at further root h.took.trail (due_within further root part from)) l ∷ xs) (runs_end ls) in
       record {
         took = h.took;
         runs_are = ap joined are ∙ append-nil _ ∙ is_cut;
         count_is = sym (ap length are);
         read = record { none = λ e. absurd (omega (arith, e)); some = λ e. let r = h.read in omega (arith, r) };
-        ended_is = sym (none_empty (due_within root part mid_last) none);
+        ended_is = sym (none_empty (due_within further root part mid_last) none);
         made = λ e. omega arith;
       }
 
   -- it stopped
-  pub parts_stopped : (why : ReportStop) → RunStopsWithin (call_of root s t old mid) part from mid_last l spent files finding why
-      → PartsStop root part s t old mid from mid_last (l ∷ ls) spent files finding 1 why
+  pub parts_stopped : (why : ReportStop) → RunStopsWithin (call_of further root s t old mid) part from mid_last l spent files finding why
+      → PartsStop further root part s t old mid from mid_last (l ∷ ls) spent files finding 1 why
   parts_stopped why h =
       let w = h.stops in
-      let above : List Item = items_in root h.trail part from in
-      let left_items : List Item = left (items_in root h.trail part from) l in
-      let later : List (List Item) = runs_after ls (left (items_at None root h.trail (due_within root part from)) l) in
+      let above : List Item = items_in further root h.trail part from in
+      let left_items : List Item = left (items_in further root h.trail part from) l in
+      let later : List (List Item) = runs_after ls (left (items_at further root h.trail (due_within further root part from)) l) in
       let split : above ≡ w.whole ++ (w.others ++ left_items) =
       sym (cut_and_left above l) ∙ ap (λ is. is ++ left_items) w.items_are ∙ append_assoc w.whole w.others left_items in
       let done : List Place = places w.whole in
-      let done_is : w.whole ≡ items_at None root h.trail done = sym (front_is root part h.trail from w.whole (w.others ++ left_items) split) in
-      let next_is : due_within root part (last_or from done) ≡ places (w.others ++ left_items) =
-      sym (places_of_items root h.trail (due_within root part (last_or from done))) ∙ ap places (rest_is root part h.trail from w.whole (w.others ++ left_items) split) in
+      let done_is : w.whole ≡ items_at further root h.trail done = sym (front_is further root part h.trail from w.whole (w.others ++ left_items) split) in
+      let next_is : due_within further root part (last_or from done) ≡ places (w.others ++ left_items) =
+      sym (places_of_items further root h.trail (due_within further root part (last_or from done))) ∙ ap places (rest_is further root part h.trail from w.whole (w.others ++ left_items) split) in
       let first : places w.others ≡ w.begun ++ (w.one.0 ++ places (drop 1 w.others)) =
       ap places (sym (take-append-drop 1 w.others)) ∙ map-append (λ i. i.place) (take 1 w.others) (drop 1 w.others)
       ∙ ap (λ ps. ps ++ places (drop 1 w.others)) w.one.1 ∙ append_assoc w.begun w.one.0 (places (drop 1 w.others)) in
       let behind : List Place = (w.one.0 ++ places (drop 1 w.others)) ++ places left_items in
-      let next_begun : due_within root part (last_or from done) ≡ w.begun ++ behind =
+      let next_begun : due_within further root part (last_or from done) ≡ w.begun ++ behind =
       next_is ∙ map-append (λ i. i.place) w.others left_items ∙ ap (λ ps. ps ++ places left_items) first ∙ append_assoc w.begun (w.one.0 ++ places (drop 1 w.others)) (places left_items) in
       record {
         done = done;
@@ -244,10 +245,10 @@ module _ (root : StorageRoot) (part : Part) (s t : Store) (old mid : Option (Lis
         listed = h.looks.down ++ h.looks.listed;
         heads = h.looks.held ++ h.looks.heads;
         fails = h.looks.fails;
-        first_due = (behind, due_parts root part h.trail from w.whole (w.others ++ left_items) split ∙ ap (λ ps. done ++ ps) next_begun ∙ sym (append_assoc done w.begun behind));
+        first_due = (behind, due_parts further root part h.trail from w.whole (w.others ++ left_items) split ∙ ap (λ ps. done ++ ps) next_begun ∙ sym (append_assoc done w.begun behind));
         last_is = w.last_is;
-        runs_begin = joined_one _ later ∙ ap (λ is. cut is l) (sym (above_in root part from h.trail)) ∙ w.items_are ∙ ap (λ is. is ++ w.others) done_is;
-        runs_before = front_none (cut (items_at None root h.trail (due_within root part from)) l ∷ later) (items_at None root h.trail done);
+        runs_begin = joined_one _ later ∙ ap (λ is. cut is l) (sym (above_in further root part from h.trail)) ∙ w.items_are ∙ ap (λ is. is ++ w.others) done_is;
+        runs_before = front_none (cut (items_at further root h.trail (due_within further root part from)) l ∷ later) (items_at further root h.trail done);
         one = w.one;
         gone = w.part;
         wrote = subst (λ is. Appends old mid (text is ++ w.part)) done_is w.wrote;
@@ -287,35 +288,35 @@ among_behind : (ps : List Place) (p : Place) (qs : List Place) → IsAmong (ps +
 among_behind [] p qs = inl refl
 among_behind (x ∷ ps) p qs = inr (among_behind ps p qs)
 
-module _ (root : StorageRoot) (part : Part) (s t : Store) (old mid : Option (List ℕ)) (from mid_last : Option Place) (l : Limits) (spent files : ℕ)
-    (finding : Bool) (ls : List Limits) (next : Place) (h : Turn root part s t old mid from mid_last l spent files finding (Some next)) where
+module _ (further : Further) (root : StorageRoot) (part : Part) (s t : Store) (old mid : Option (List ℕ)) (from mid_last : Option Place) (l : Limits) (spent files : ℕ)
+    (finding : Bool) (ls : List Limits) (next : Place) (h : Turn further root part s t old mid from mid_last l spent files finding (Some next)) where
   -- what is next is a hashed file
   pub record IsNext : Type 0 where
     pub behind : List Place
-    pub due_is : due_within root part mid_last ≡ next ∷ behind
-    pub hashed : is_hashed None root next ≡ true
+    pub due_is : due_within further root part mid_last ≡ next ∷ behind
+    pub hashed : is_hashed further root next ≡ true
 
   pub next_there : IsNext
   next_there =
-      let spent_here : ℕ = total_cost (items_at None root h.took.trail h.took.done) in
-      let opened_here : ℕ = total_files (items_at None root h.took.trail h.took.done) in
-      let first = first_some next (due_within root part mid_last) h.next_is in
+      let spent_here : ℕ = total_cost (items_at further root h.took.trail h.took.done) in
+      let opened_here : ℕ = total_files (items_at further root h.took.trail h.took.done) in
+      let first = first_some next (due_within further root part mid_last) h.next_is in
       record {
         behind = first.0;
         due_is = first.1;
         hashed =
-            stop_hashed root h.took.trail l spent_here opened_here next first.0 (subst (λ qs. IsStop l spent_here opened_here (items_at None root h.took.trail qs)) first.1 h.stops);
+            stop_hashed further root h.took.trail l spent_here opened_here next first.0 (subst (λ qs. IsStop l spent_here opened_here (items_at further root h.took.trail qs)) first.1 h.stops);
       }
 
-  pub next_some : is_empty (due_within root part mid_last) ≡ false
+  pub next_some : is_empty (due_within further root part mid_last) ≡ false
   next_some = ap is_empty next_there.due_is
 
   -- what both read
   reads_then : (heads : List Place) (count : ℕ) → ReadFew root part mid_last heads count → ReadFew root part from (h.took.heads ++ heads) (1 + count)
   reads_then heads count k =
-      let there : IsAmong (due_within root part from) next = subst (λ ps. IsAmong ps next)
+      let there : IsAmong (due_within further root part from) next = subst (λ ps. IsAmong ps next)
       (sym (h.took.due_are ∙ ap (λ ps. h.took.done ++ ps) next_there.due_is)) (among_behind h.took.done next next_there.behind) in
-      let parts = read_parts root part mid_last next next_there.behind next_there.due_is next_there.hashed from there in
+      let parts = read_parts further root part mid_last next next_there.behind next_there.due_is next_there.hashed from there in
       record { none = λ e. absurd (omega (arith, e)); some = λ e. by count k.none k.some parts }
     where
       by : (n : ℕ) → (n ≡ 0 → length heads ≡ 0) → (1 ≤ n → length heads < length (holder root (entry part mid_last)) + length (read_in root part mid_last None) + n)
@@ -332,77 +333,77 @@ module _ (root : StorageRoot) (part : Part) (s t : Store) (old mid : Option (Lis
   module _ (u : Store) (new : Option (List ℕ)) (last : Option Place) (spent' files' : ℕ) (finding' : Bool) (count : ℕ) where
     -- at a trail that goes on over places that follow, the runs are the first cut and those of the
     -- rest
-    runs_then : (os : List Opening) (ps rest : List Place) → content_trail None root os ≡ hashed_among None root ps → due_within root part mid_last ≡ ps ++ rest
-        → runs (items_at None root (h.took.trail ++ os) (due_within root part from)) (l ∷ ls) ≡ items_at None root h.took.trail h.took.done ∷ runs (items_at None root os (due_within root part mid_last)) ls
+    runs_then : (os : List Opening) (ps rest : List Place) → content_trail further root os ≡ hashed_among further root ps → due_within further root part mid_last ≡ ps ++ rest
+        → runs (items_at further root (h.took.trail ++ os) (due_within further root part from)) (l ∷ ls) ≡ items_at further root h.took.trail h.took.done ∷ runs (items_at further root os (due_within further root part mid_last)) ls
     runs_then os ps rest opened is =
-        let up : IsAscending place_cmp (h.took.done ++ due_within root part mid_last) = subst (IsAscending place_cmp) h.took.due_are (due_within_ascends root part from) in
+        let up : IsAscending place_cmp (h.took.done ++ due_within further root part mid_last) = subst (IsAscending place_cmp) h.took.due_are (due_within_ascends further root part from) in
         let up_front : IsAscending place_cmp (h.took.done ++ ps) =
         ascends_left place_cmp (h.took.done ++ ps) rest (subst (IsAscending place_cmp) (ap (λ qs. h.took.done ++ qs) is ∙ sym (append_assoc h.took.done ps rest)) up) in
-        let first : items_at None root (h.took.trail ++ os) h.took.done ≡ items_at None root h.took.trail h.took.done = items_before root h.took.trail os h.took.done ps up_front opened in
-        let then : items_at None root (h.took.trail ++ os) (due_within root part mid_last) ≡ items_at None root os (due_within root part mid_last) =
-        items_behind root h.took.trail os h.took.done (due_within root part mid_last) up h.took.audits.opened in
-        let split : items_at None root (h.took.trail ++ os) (due_within root part from) ≡ items_at None root h.took.trail h.took.done ++ items_at None root os (due_within root part mid_last) =
-        ap (items_at None root (h.took.trail ++ os)) h.took.due_are ∙ items_append root (h.took.trail ++ os) h.took.done (due_within root part mid_last)
-        ∙ ap (λ is. is ++ items_at None root (h.took.trail ++ os) (due_within root part mid_last)) first ∙ ap (λ is. items_at None root h.took.trail h.took.done ++ is) then in
-        let stop = stop_alike root h.took.trail os l _ _ (due_within root part mid_last) h.stops in
-        let some : is_empty (items_at None root os (due_within root part mid_last)) ≡ false = ap (λ qs. is_empty (items_at None root os qs)) next_there.due_is ∙ some_items root os next next_there.behind in
+        let first : items_at further root (h.took.trail ++ os) h.took.done ≡ items_at further root h.took.trail h.took.done = items_before further root h.took.trail os h.took.done ps up_front opened in
+        let then : items_at further root (h.took.trail ++ os) (due_within further root part mid_last) ≡ items_at further root os (due_within further root part mid_last) =
+        items_behind further root h.took.trail os h.took.done (due_within further root part mid_last) up h.took.audits.opened in
+        let split : items_at further root (h.took.trail ++ os) (due_within further root part from) ≡ items_at further root h.took.trail h.took.done ++ items_at further root os (due_within further root part mid_last) =
+        ap (items_at further root (h.took.trail ++ os)) h.took.due_are ∙ items_append further root (h.took.trail ++ os) h.took.done (due_within further root part mid_last)
+        ∙ ap (λ is. is ++ items_at further root (h.took.trail ++ os) (due_within further root part mid_last)) first ∙ ap (λ is. items_at further root h.took.trail h.took.done ++ is) then in
+        let stop = stop_alike further root h.took.trail os l _ _ (due_within further root part mid_last) h.stops in
+        let some : is_empty (items_at further root os (due_within further root part mid_last)) ≡ false = ap (λ qs. is_empty (items_at further root os qs)) next_there.due_is ∙ some_items further root os next next_there.behind in
         ap (λ is. runs is (l ∷ ls)) split
-        ∙ ap (λ xs. xs ∷ runs_after ls (left (items_at None root h.took.trail h.took.done ++ items_at None root os (due_within root part mid_last)) l)) (cut_of_paid l _ _ h.paid stop)
-        ∙ ap (λ xs. items_at None root h.took.trail h.took.done ∷ runs_after ls xs) (left_of_paid l _ _ h.paid stop)
-        ∙ ap (λ xs. items_at None root h.took.trail h.took.done ∷ xs) (runs_go_on (items_at None root os (due_within root part mid_last)) ls some)
+        ∙ ap (λ xs. xs ∷ runs_after ls (left (items_at further root h.took.trail h.took.done ++ items_at further root os (due_within further root part mid_last)) l)) (cut_of_paid l _ _ h.paid stop)
+        ∙ ap (λ xs. items_at further root h.took.trail h.took.done ∷ runs_after ls xs) (left_of_paid l _ _ h.paid stop)
+        ∙ ap (λ xs. items_at further root h.took.trail h.took.done ∷ xs) (runs_go_on (items_at further root os (due_within further root part mid_last)) ls some)
 
-    parts_then : (ended : Bool) → Parts root part t u mid new mid_last last ls spent' files' finding' count ended
-        → Parts root part s u old new from last (l ∷ ls) (spent + spent') (files + files') (finding || finding') (1 + count) ended
+    parts_then : (ended : Bool) → Parts further root part t u mid new mid_last last ls spent' files' finding' count ended
+        → Parts further root part s u old new from last (l ∷ ls) (spent + spent') (files + files') (finding || finding') (1 + count) ended
     parts_then ended k =
         let a = h.took in
         let b = k.took in
-        let due_are : due_within root part from ≡ (a.done ++ b.done) ++ due_within root part last =
-        a.due_are ∙ ap (λ qs. a.done ++ qs) b.due_are ∙ sym (append_assoc a.done b.done (due_within root part last)) in
-        let up : IsAscending place_cmp (a.done ++ b.done) = ascends_left place_cmp (a.done ++ b.done) (due_within root part last)
-        (subst (IsAscending place_cmp) due_are (due_within_ascends root part from)) in
-        let first : List Item = items_at None root a.trail a.done in
-        let second : List Item = items_at None root b.trail b.done in
-        let same : items_at None root (a.trail ++ b.trail) (a.done ++ b.done) ≡ first ++ second = items_then root a.trail b.trail a.done b.done up a.audits.opened b.audits.opened in
-        let are = runs_then b.trail b.done (due_within root part last) b.audits.opened b.due_are in
+        let due_are : due_within further root part from ≡ (a.done ++ b.done) ++ due_within further root part last =
+        a.due_are ∙ ap (λ qs. a.done ++ qs) b.due_are ∙ sym (append_assoc a.done b.done (due_within further root part last)) in
+        let up : IsAscending place_cmp (a.done ++ b.done) = ascends_left place_cmp (a.done ++ b.done) (due_within further root part last)
+        (subst (IsAscending place_cmp) due_are (due_within_ascends further root part from)) in
+        let first : List Item = items_at further root a.trail a.done in
+        let second : List Item = items_at further root b.trail b.done in
+        let same : items_at further root (a.trail ++ b.trail) (a.done ++ b.done) ≡ first ++ second = items_then further root a.trail b.trail a.done b.done up a.audits.opened b.audits.opened in
+        let are = runs_then b.trail b.done (due_within further root part last) b.audits.opened b.due_are in
         record {
           took = record {
             done = a.done ++ b.done;
             trail = a.trail ++ b.trail;
             listed = a.listed ++ b.listed;
             heads = a.heads ++ b.heads;
-            audits = audits_on None root s t u a.done b.done a.listed b.listed a.heads b.heads a.trail b.trail a.audits b.audits;
+            audits = audits_on further root s t u a.done b.done a.listed b.listed a.heads b.heads a.trail b.trail a.audits b.audits;
             due_are = due_are;
             last_is = b.last_is ∙ ap (λ x. last_or x b.done) a.last_is ∙ last_then from a.done b.done;
             wrote = subst (Appends old new) (sym (text_append first second) ∙ ap text (sym same)) (Appends-trans old mid new _ _ a.wrote b.wrote);
             figures = figures_then same a.figures b.figures;
           };
           runs_are = ap joined are ∙ ap (λ is. first ++ is) k.runs_are ∙ sym same;
-          count_is = let n : length (runs (items_at None root (a.trail ++ b.trail) (due_within root part from)) (l ∷ ls)) ≡ suc
-              (length (runs (items_at None root b.trail (due_within root part mid_last)) ls)) = ap length are in let c = k.count_is in omega (arith, n, c);
+          count_is = let n : length (runs (items_at further root (a.trail ++ b.trail) (due_within further root part from)) (l ∷ ls)) ≡ suc
+              (length (runs (items_at further root b.trail (due_within further root part mid_last)) ls)) = ap length are in let c = k.count_is in omega (arith, n, c);
           read = reads_then b.heads count k.read;
           ended_is = k.ended_is;
           made = λ e. omega arith;
         }
 
-    stops_then : (why : ReportStop) → PartsStop root part t u mid new mid_last last ls spent' files' finding' count why
-        → PartsStop root part s u old new from last (l ∷ ls) (spent + spent') (files + files') (finding || finding') (1 + count) why
+    stops_then : (why : ReportStop) → PartsStop further root part t u mid new mid_last last ls spent' files' finding' count why
+        → PartsStop further root part s u old new from last (l ∷ ls) (spent + spent') (files + files') (finding || finding') (1 + count) why
     stops_then why k =
         let rest : List Place = k.first_due.0 in
         let both : (h.took.done ++ k.done) ++ k.begun ≡ h.took.done ++ (k.done ++ k.begun) = append_assoc h.took.done k.done k.begun in
-        let due_are : due_within root part from ≡ (h.took.done ++ (k.done ++ k.begun)) ++ rest =
+        let due_are : due_within further root part from ≡ (h.took.done ++ (k.done ++ k.begun)) ++ rest =
         h.took.due_are ∙ ap (λ qs. h.took.done ++ qs) k.first_due.1 ∙ sym (append_assoc h.took.done (k.done ++ k.begun) rest) in
         let all_up : IsAscending place_cmp (h.took.done ++ (k.done ++ k.begun)) =
-        ascends_left place_cmp (h.took.done ++ (k.done ++ k.begun)) rest (subst (IsAscending place_cmp) due_are (due_within_ascends root part from)) in
+        ascends_left place_cmp (h.took.done ++ (k.done ++ k.begun)) rest (subst (IsAscending place_cmp) due_are (due_within_ascends further root part from)) in
         let up : IsAscending place_cmp (h.took.done ++ k.done) = ascends_left place_cmp (h.took.done ++ k.done) k.begun (subst (IsAscending place_cmp) (sym both) all_up) in
-        let first : List Item = items_at None root h.took.trail h.took.done in
-        let second : List Item = items_at None root k.trail k.done in
-        let before : items_at None root (h.took.trail ++ k.trail) h.took.done ≡ first = items_before root h.took.trail k.trail h.took.done (k.done ++ k.begun) all_up k.fails.opened in
-        let behind : items_at None root (h.took.trail ++ k.trail) k.done ≡ second = items_behind root h.took.trail k.trail h.took.done k.done up h.took.audits.opened in
-        let same : items_at None root (h.took.trail ++ k.trail) (h.took.done ++ k.done) ≡ first ++ second =
-        items_append root (h.took.trail ++ k.trail) h.took.done k.done ∙ ap (λ is. is ++ items_at None root (h.took.trail ++ k.trail) k.done) before ∙ ap (λ is. first ++ is) behind in
-        let later : List (List Item) = runs (items_at None root k.trail (due_within root part mid_last)) ls in
+        let first : List Item = items_at further root h.took.trail h.took.done in
+        let second : List Item = items_at further root k.trail k.done in
+        let before : items_at further root (h.took.trail ++ k.trail) h.took.done ≡ first = items_before further root h.took.trail k.trail h.took.done (k.done ++ k.begun) all_up k.fails.opened in
+        let behind : items_at further root (h.took.trail ++ k.trail) k.done ≡ second = items_behind further root h.took.trail k.trail h.took.done k.done up h.took.audits.opened in
+        let same : items_at further root (h.took.trail ++ k.trail) (h.took.done ++ k.done) ≡ first ++ second =
+        items_append further root (h.took.trail ++ k.trail) h.took.done k.done ∙ ap (λ is. is ++ items_at further root (h.took.trail ++ k.trail) k.done) before ∙ ap (λ is. first ++ is) behind in
+        let later : List (List Item) = runs (items_at further root k.trail (due_within further root part mid_last)) ls in
         let are = runs_then k.trail (k.done ++ k.begun) rest k.fails.opened k.first_due.1 in
-        let texts : text first ++ (text second ++ k.gone) ≡ text (items_at None root (h.took.trail ++ k.trail) (h.took.done ++ k.done)) ++ k.gone =
+        let texts : text first ++ (text second ++ k.gone) ≡ text (items_at further root (h.took.trail ++ k.trail) (h.took.done ++ k.done)) ++ k.gone =
         sym (append_assoc (text first) (text second) k.gone) ∙ ap (λ xs. xs ++ k.gone) (sym (text_append first second) ∙ ap text (sym same)) in
         record {
           done = h.took.done ++ k.done;
@@ -411,26 +412,26 @@ module _ (root : StorageRoot) (part : Part) (s t : Store) (old mid : Option (Lis
           others = k.others;
           listed = h.took.listed ++ k.listed;
           heads = h.took.heads ++ k.heads;
-          fails = subst (λ ps. Fails None root s u ps (h.took.listed ++ k.listed) (h.took.heads ++ k.heads) (h.took.trail ++ k.trail) (stop_place why)) (sym both)
-              (audits_fail None root s t u h.took.done (k.done ++ k.begun) h.took.listed k.listed h.took.heads k.heads h.took.trail k.trail _ h.took.audits k.fails);
+          fails = subst (λ ps. Fails further root s u ps (h.took.listed ++ k.listed) (h.took.heads ++ k.heads) (h.took.trail ++ k.trail) (stop_place why)) (sym both)
+              (audits_fail further root s t u h.took.done (k.done ++ k.begun) h.took.listed k.listed h.took.heads k.heads h.took.trail k.trail _ h.took.audits k.fails);
           first_due = (rest, due_are ∙ ap (λ qs. qs ++ rest) (sym both));
           last_is = k.last_is ∙ ap (λ x. last_or x k.done) h.took.last_is ∙ last_then from h.took.done k.done;
           runs_begin = ap (λ xs. joined (take (1 + count) xs)) are ∙ joined_more count first later ∙ ap (λ is. first ++ is) k.runs_begin
               ∙ sym (append_assoc first second k.others) ∙ ap (λ is. is ++ k.others) (sym same);
-          runs_before = subst (IsFront (joined (take (1 + count - 1) (runs (items_at None root (h.took.trail ++ k.trail) (due_within root part from)) (l ∷ ls))))) (sym same)
+          runs_before = subst (IsFront (joined (take (1 + count - 1) (runs (items_at further root (h.took.trail ++ k.trail) (due_within further root part from)) (l ∷ ls))))) (sym same)
               (subst (λ xs. IsFront (joined (take (1 + count - 1) xs)) (first ++ second)) (sym are) (front_more count first later second k.runs_before));
           one = k.one;
           gone = k.gone;
           wrote = subst (Appends old new) texts (Appends-trans old mid new _ _ h.took.wrote k.wrote);
           part_of = k.part_of;
-          count_fits = let n : length (runs (items_at None root (h.took.trail ++ k.trail) (due_within root part from)) (l ∷ ls)) ≡ suc
-              (length (runs (items_at None root k.trail (due_within root part mid_last)) ls)) = ap length are in let c = k.count_fits in omega (arith, n, c);
+          count_fits = let n : length (runs (items_at further root (h.took.trail ++ k.trail) (due_within further root part from)) (l ∷ ls)) ≡ suc
+              (length (runs (items_at further root k.trail (due_within further root part mid_last)) ls)) = ap length are in let c = k.count_fits in omega (arith, n, c);
           figures = figures_then same h.took.figures k.figures;
           read = reads_then k.heads count k.read;
         }
 
-    pub ends_then : (end : CycleStatus) → PartsEnd root part t u mid new mid_last last ls spent' files' finding' count end
-        → PartsEnd root part s u old new from last (l ∷ ls) (spent + spent') (files + files') (finding || finding') (1 + count) end
+    pub ends_then : (end : CycleStatus) → PartsEnd further root part t u mid new mid_last last ls spent' files' finding' count end
+        → PartsEnd further root part s u old new from last (l ∷ ls) (spent + spent') (files + files') (finding || finding') (1 + count) end
     ends_then Ended k = parts_then true k
     ends_then Spent k = parts_then false k
     ends_then (Stopped why) k = stops_then why k

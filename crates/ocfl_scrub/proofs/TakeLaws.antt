@@ -9,6 +9,7 @@ use Rattle.ocfl_item.specs.{Looking.{IsFront}, Auditing.{Fails}, declared.fault.
 use Rattle.ocfl_item.specs.Judging.{Judges, JudgeFails}
 use Rattle.ocfl_scrub.specs.Types.{ReportStop}
 use Rattle.ocfl_item.specs.declared.fault.Fault.TheVariants as fault
+use Rattle.ocfl_report.specs.declared.further.Further.{Further}
 use Rattle.ocfl_scrub.specs.declared.stop.ReportStop.TheVariants as halt
 use Rattle.ocfl_scrub.specs.{Call.{call_of}, Taking.{WritesLines, PartOf, Takes, Misses}}
 use Rattle.ocfl_walk.proofs.FoundLaws.{none_hashed}
@@ -44,15 +45,15 @@ nothing_of why other whole = record { gone = 0; is = take_none whole; proper = �
 pub fault_of_nothing : (why : Fault) (whole : Text) → PartOf (halt.Fault why) whole []
 fault_of_nothing why whole = nothing_of (halt.Fault why) (fault_other why) whole
 
-module _ (root : StorageRoot) (s t : Store) (p : Place) (lines : List Line) (cost : ℕ) (j : Judges None root s t p lines cost) where
-  judged_text : lines_text lines ≡ text (items_at None root j.trail (p ∷ []))
+module _ (further : Further) (root : StorageRoot) (s t : Store) (p : Place) (lines : List Line) (cost : ℕ) (j : Judges further root s t p lines cost) where
+  judged_text : lines_text lines ≡ text (items_at further root j.trail (p ∷ []))
   judged_text = sym (ap text j.item ∙ append-nil (lines_text lines))
 
-  judged_found : found (items_at None root j.trail (p ∷ [])) ≡ list_any (λ l. is_finding_code l.code) lines
+  judged_found : found (items_at further root j.trail (p ∷ [])) ≡ list_any (λ l. is_finding_code l.code) lines
   judged_found = ap found j.item ∙ or_none (list_any (λ l. is_finding_code l.code) lines)
 
   pub judged_takes : (old new : Option (List ℕ)) (piece : List ℕ) (finding : Bool) → piece ≡ lines_text lines → finding ≡ list_any (λ l. is_finding_code l.code) lines
-      → Appends old new piece → Takes (call_of root s t old new) p cost finding
+      → Appends old new piece → Takes (call_of further root s t old new) p cost finding
   judged_takes old new piece finding e f sent = record {
     trail = j.trail;
     audits = j.audits;
@@ -62,10 +63,10 @@ module _ (root : StorageRoot) (s t : Store) (p : Place) (lines : List Line) (cos
     found_is = f ∙ sym judged_found;
   }
 
-  judged_fails : Fails None root s t (p ∷ []) [] [] j.trail None
+  judged_fails : Fails further root s t (p ∷ []) [] [] j.trail None
   judged_fails = record {
     over = j.audits.over;
-    did = subst (Did s t j.trail []) (let same : length (unread_of None root j.trail) ≡ length (unread_of None root j.trail) + 0 = omega arith in same) j.audits.did;
+    did = subst (Did s t j.trail []) (let same : length (unread_of further root j.trail) ≡ length (unread_of further root j.trail) + 0 = omega arith in same) j.audits.did;
     opened = j.audits.opened;
     heads_are = j.audits.heads_are;
     near = j.audits.near;
@@ -73,7 +74,7 @@ module _ (root : StorageRoot) (s t : Store) (p : Place) (lines : List Line) (cos
   }
 
   -- no room for the text
-  pub judged_memory : (old : Option (List ℕ)) → Misses (call_of root s t old old) p (halt.Fault fault.Memory)
+  pub judged_memory : (old : Option (List ℕ)) → Misses (call_of further root s t old old) p (halt.Fault fault.Memory)
   judged_memory old = record {
     trail = j.trail;
     begun = p ∷ [];
@@ -82,26 +83,26 @@ module _ (root : StorageRoot) (s t : Store) (p : Place) (lines : List Line) (cos
     alone = j.alone;
     part = [];
     wrote = Appends-nil old;
-    part_of = fault_of_nothing fault.Memory (text (items_at None root j.trail (p ∷ [])));
+    part_of = fault_of_nothing fault.Memory (text (items_at further root j.trail (p ∷ [])));
   }
 
 front_of_one : (p : Place) (part : Bool) → IsFront (cond part (p ∷ []) []) (p ∷ [])
 front_of_one p true = ([], refl)
 front_of_one p false = (p ∷ [], refl)
 
-none_or_hashed : (root : StorageRoot) (p : Place) (part : Bool) → cond part (hashed_among None root (p ∷ [])) [] ≡ hashed_among None root (cond part (p ∷ []) [])
-none_or_hashed root p true = refl
-none_or_hashed root p false = sym (none_hashed None root)
+none_or_hashed : (further : Further) (root : StorageRoot) (p : Place) (part : Bool) → cond part (hashed_among further root (p ∷ [])) [] ≡ hashed_among further root (cond part (p ∷ []) [])
+none_or_hashed further root p true = refl
+none_or_hashed further root p false = sym (none_hashed further root)
 
 -- the item was not judged
-pub unjudged : (root : StorageRoot) (s t : Store) (old : Option (List ℕ)) (p : Place) → JudgeFails None root s t p → Misses (call_of root s t old old) p (halt.Fault fault.Memory)
-unjudged root s t old p j = record {
+pub unjudged : (further : Further) (root : StorageRoot) (s t : Store) (old : Option (List ℕ)) (p : Place) → JudgeFails further root s t p → Misses (call_of further root s t old old) p (halt.Fault fault.Memory)
+unjudged further root s t old p j = record {
   trail = j.trail;
   begun = cond j.part (p ∷ []) [];
   one = front_of_one p j.part;
   fails = j.fails;
-  alone = j.alone ∙ none_or_hashed root p j.part;
+  alone = j.alone ∙ none_or_hashed further root p j.part;
   part = [];
   wrote = Appends-nil old;
-  part_of = fault_of_nothing fault.Memory (text (items_at None root j.trail (p ∷ [])));
+  part_of = fault_of_nothing fault.Memory (text (items_at further root j.trail (p ∷ [])));
 }

@@ -21,6 +21,7 @@ use Rattle.ocfl_rules.proofs.BetweenLaws.{among_between, is_directory}
 use Rattle.ocfl_rules.proofs.BranchLaws.{nothing_above}
 use Rattle.ocfl_rules.proofs.PartLaws.{places_within_is}
 use Rattle.ocfl_item.specs.{Auditing.{LiesIn}, Looking.{way_to}}
+use Rattle.ocfl_report.specs.declared.further.Further.{Further}
 use Rattle.ocfl_scrub.specs.Types.{ReportStop}
 use Rattle.ocfl_walk.specs.{Before.{directory_of}, Ends.{is_past}}
 use Rattle.ocfl_walk.specs.WalkCalls.{AreAllListed, GoesDown, way_of}
@@ -156,7 +157,7 @@ module _ (d p : Place) (n : Text) (is : p ≡ d ++ n ∷ []) where
 
 -- ---- what was listed
 
-module _ (root : StorageRoot) where
+module _ (further : Further) (root : StorageRoot) where
   looked_there : (from to : Option Place) (d : Place) → is_looked_into root d ≡ true → IsBeyond from d → IsWithin to d → IsAmong (looked_between root from to) d
   unfolding looked_between
   looked_there from to d h l u = among_between _ from to d (is_directory root d h) l u
@@ -168,8 +169,8 @@ module _ (root : StorageRoot) where
     from_looked : (to : Option Place) (d : Place) → IsAmong (looked_in root part from to) d → IsAmong (looked_between root from to) d × (lies_in part d ≡ true)
     from_looked to d i = among_from_filter (lies_in part) (looked_between root from to) d (subst (λ ds. IsAmong ds d) (places_within_is part (looked_between root from to)) i)
 
-    from_due : (p : Place) → IsAmong (due_within root part from) p → IsAmong (due None root from) p × (lies_in part p ≡ true)
-    from_due p i = among_from_filter (lies_in part) (due None root from) p (subst (λ ps. IsAmong ps p) (places_within_is part (due None root from)) i)
+    from_due : (p : Place) → IsAmong (due_within further root part from) p → IsAmong (due further root from) p × (lies_in part p ≡ true)
+    from_due p i = among_from_filter (lies_in part) (due further root from) p (subst (λ ps. IsAmong ps p) (places_within_is part (due further root from)) i)
 
     module _ (down : List Place) (all : AreAllListed root (way_of (entry part from)) down) where
       module _ (listed : List Place) where
@@ -182,42 +183,42 @@ module _ (root : StorageRoot) where
             by (inr k) = among_right down listed d (covers d (to_looked (Some p) d (looked_there from (Some p) d looked k.1 (not_below d p (above_it d p n is))) k.0))
 
         -- a file of what is due there, up to which all was listed
-        lies_there : (p : Place) → is_hashed None root p ≡ true → IsAmong (due_within root part from) p
+        lies_there : (p : Place) → is_hashed further root p ≡ true → IsAmong (due_within further root part from) p
             → ((e : Place) → IsAmong (looked_in root part from (Some p)) e → IsAmong listed e) → LiesIn (down ++ listed) p
         lies_there p h i covers =
-            let k = hashed_within root p h in
+            let k = hashed_within further root p h in
             let due = from_due p i in
-            (k.0, (k.1.0, (listed_there k.0 p k.1.0 k.1.1.1 k.1.1.0.0 k.1.1.0.1 due.1 (among_beyond root from p due.0) covers, k.1.1.1)))
+            (k.0, (k.1.0, (listed_there k.0 p k.1.0 k.1.1.1 k.1.1.0.0 k.1.1.0.1 due.1 (among_beyond further root from p due.0) covers, k.1.1.1)))
 
       -- ---- what was taken
 
-      pub taken_lie : (to : Option Place) (done later : List Place) → due_in root (end_of part) (stand root part from) ≡ done ++ later
-          → ((p d : Place) → IsBeforeAll place_cmp p later → is_lt (place_cmp p d) ≡ false → IsWithin to d) → FilesLieIn root done (down ++ looked_in root part from to)
+      pub taken_lie : (to : Option Place) (done later : List Place) → due_in further root (end_of part) (stand root part from) ≡ done ++ later
+          → ((p d : Place) → IsBeforeAll place_cmp p later → is_lt (place_cmp p d) ≡ false → IsWithin to d) → FilesLieIn further root done (down ++ looked_in root part from to)
       taken_lie to done later due_are far p i h =
-          let halves : due_within root part from ≡ done ++ later = sym (due_starts root part from) ∙ due_are in
-          let up : IsBeforeAll place_cmp p later = ascends_across place_cmp done later p (subst (IsAscending place_cmp) halves (due_within_ascends root part from)) i in
-          let there : IsAmong (due_within root part from) p = subst (λ ps. IsAmong ps p) (sym halves) (among_left done later p i) in
+          let halves : due_within further root part from ≡ done ++ later = sym (due_starts further root part from) ∙ due_are in
+          let up : IsBeforeAll place_cmp p later = ascends_across place_cmp done later p (subst (IsAscending place_cmp) halves (due_within_ascends further root part from)) i in
+          let there : IsAmong (due_within further root part from) p = subst (λ ps. IsAmong ps p) (sym halves) (among_left done later p i) in
           lies_there (looked_in root part from to) p h there (λ d j. let k = from_looked (Some p) d j in to_looked to d (looked_further root from to p d (far p d up) k.0) k.1)
 
       module _ {t u : Store} {old new : Option (List ℕ)} {stood : Option Place} {finding : Bool} {why : ReportStop}
-          (k : Halts root (end_of part) t u old new (stand root part from) stood finding why) where
-        due_there : (p : Place) → IsAmong (k.done ++ k.begun) p → IsAmong (due_within root part from) p
+          (k : Halts further root (end_of part) t u old new (stand root part from) stood finding why) where
+        due_there : (p : Place) → IsAmong (k.done ++ k.begun) p → IsAmong (due_within further root part from) p
         due_there p i =
-            subst (λ ps. IsAmong ps p) (sym (sym (due_starts root part from) ∙ k.due_are))
-            (among_both k.done k.begun (due_in root (end_of part) stood) p (λ j. among_first (due_in root (end_of part) stood) p (subst (λ ps. IsAmong ps p) (sym k.one.1) (among_left k.begun k.one.0 p j))) i)
+            subst (λ ps. IsAmong ps p) (sym (sym (due_starts further root part from) ∙ k.due_are))
+            (among_both k.done k.begun (due_in further root (end_of part) stood) p (λ j. among_first (due_in further root (end_of part) stood) p (subst (λ ps. IsAmong ps p) (sym k.one.1) (among_left k.begun k.one.0 p j))) i)
 
-        pub halted_lie : FilesLieIn root (k.done ++ k.begun) (down ++ k.listed)
+        pub halted_lie : FilesLieIn further root (k.done ++ k.begun) (down ++ k.listed)
         halted_lie p i h =
-            lies_there k.listed p h (due_there p i) (λ d j. k.there p i d (subst (λ ds. IsAmong ds d) (sym (looked_starts root part from (Some p))) j))
+            lies_there k.listed p h (due_there p i) (λ d j. k.there p i d (subst (λ ds. IsAmong ds d) (sym (looked_starts further root part from (Some p))) j))
 
 -- ---- a check
 
-module _ (root : StorageRoot) (s t : Store) (p : Place) (g : GoesDown None root s t (Some p)) where
-  pub checked_lie : FilesLieIn root (p ∷ []) g.listed
+module _ (further : Further) (root : StorageRoot) (s t : Store) (p : Place) (g : GoesDown further root s t (Some p)) where
+  pub checked_lie : FilesLieIn further root (p ∷ []) g.listed
   checked_lie q (inl e) h =
-      let k = hashed_within root q h in
+      let k = hashed_within further root q h in
       (k.0, (k.1.0, (g.all_listed k.0 (subst (λ x. IsAmong (way_to x) k.0) (sym k.1.1.1 ∙ e) (among_way k.0 (k.1.0 ∷ []))) k.1.1.0.0, k.1.1.1)))
   checked_lie q (inr i) h = absurd i
 
-  pub front_lies : (begun rest : List Place) → p ∷ [] ≡ begun ++ rest → FilesLieIn root begun g.listed
+  pub front_lies : (begun rest : List Place) → p ∷ [] ≡ begun ++ rest → FilesLieIn further root begun g.listed
   front_lies begun rest is q i h = checked_lie q (subst (λ qs. IsAmong qs q) (sym is) (among_left begun rest q i)) h

@@ -20,14 +20,14 @@ pub record MadeRun : Type 0 where
 -- the output that the one before it left
 abbrev pub IsMadeOf : Call → List Call → Type 0
 IsMadeOf call [] = (call.after ≡ call.before) × (call.new ≡ call.old)
-IsMadeOf call (k ∷ calls) = (k ≡ call_of call.root call.before k.after call.old k.new) × IsMadeOf (call_of call.root k.after call.after k.new call.new) calls
+IsMadeOf call (k ∷ calls) = (k ≡ call_of call.further call.root call.before k.after call.old k.new) × IsMadeOf (call_of call.further call.root k.after call.after k.new call.new) calls
 
 -- a call was these runs and nothing besides, from a cursor to one: each began with the cursor, the
 -- store and the output that the one before it left, and only if its limits had left something.
 -- Without a run all is left
 abbrev pub AreChained : Part → Call → Cursor → RunStatus → List MadeRun → Cursor → RunStatus → Type 0
 AreChained part call c so [] to end = (call.after ≡ call.before) × ((call.new ≡ call.old) × ((to ≡ c) × (so ≡ end)))
-AreChained part call c so (r ∷ runs) to end = (so ≡ run.Spent) × ((r.call ≡ call_of call.root call.before r.call.after call.old r.call.new) × (RunsFromWithin r.call part c r.limits r.ran × AreChained part (call_of call.root r.call.after call.after r.call.new call.new) r.ran.cursor r.ran.end runs to end))
+AreChained part call c so (r ∷ runs) to end = (so ≡ run.Spent) × ((r.call ≡ call_of call.further call.root call.before r.call.after call.old r.call.new) × (RunsFromWithin r.call part c r.limits r.ran × AreChained part (call_of call.further call.root r.call.after call.after r.call.new call.new) r.ran.cursor r.ran.end runs to end))
 
 -- memory ran out after a run, for the text of its cursor, and a further run was to come
 pub record IsBetweenRuns (runs : List MadeRun) (end : RunStatus) (unused : List Limits) (why : ReportStop) : Type 0 where
@@ -48,7 +48,7 @@ pub record CycleOfRunsWithin (call : Call) (part : Part) (limits : List Limits) 
   pub over : call.before.tree ≡ call.root
   pub runs : List MadeRun
   pub end : RunStatus
-  pub chained : AreChained part call new_cursor run.Spent runs ran.cursor end
+  pub chained : AreChained part call (new_cursor call.further) run.Spent runs ran.cursor end
   pub unused : List Limits
   pub limits_are : limits ≡ map (λ r. r.limits) runs ++ unused
   pub ends : ChainEnds runs end unused ran.end

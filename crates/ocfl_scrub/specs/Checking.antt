@@ -1,18 +1,19 @@
 -- What checking one place does.
-use Rattle.std.specs.Prelude.{◌≡◌, ◌≢◌, List, [], ◌∷◌, Bool, not, Some, AllPairs, None}
+use Rattle.std.specs.Prelude.{◌≡◌, ◌≢◌, List, [], ◌∷◌, Bool, not, Some, AllPairs}
 use Rattle.ocfl_tree.specs.{Place.{Text, Place}, StorageRoot.{StorageRoot}}
 use Rattle.ocfl_tree.specs.declared.store.Opening.{Opening}
 use Rattle.ocfl_report.specs.{Line.{Item, found}, Text.{text}}
 use Rattle.ocfl_rules.specs.{Lines.{is_empty}, Trail.{unread_of}, Walk.{item_at}}
 use Rattle.ocfl_item.specs.{Looking.{way_to, IsFront}, Auditing.{Audits, Fails}}
+use Rattle.ocfl_report.specs.declared.further.Further.{Further}
 use Rattle.ocfl_walk.specs.WalkCalls.{holder}
 use Rattle.ocfl_scrub.specs.{Call.{Call, Writes}, Starting.{FilesLieIn}, Taking.{PartOf, stop_place}}
 use Rattle.ocfl_scrub.specs.Types.{AuditStatus, ReportStop}
 use Rattle.ocfl_scrub.specs.declared.checking.AuditStatus.TheVariants as end
 
 -- the item at a place, if a trail shows what could not be read
-abbrev pub checked_item : StorageRoot → List Opening → Place → List Item
-checked_item root trail p = item_at None root (unread_of None root trail) p
+abbrev pub checked_item : Further → StorageRoot → List Opening → Place → List Item
+checked_item further root trail p = item_at further root (unread_of further root trail) p
 
 -- each file was opened at most once
 abbrev pub AreOnce : List Opening → Type 0
@@ -32,12 +33,12 @@ pub record Checks (call : Call) (p : Place) (item finding : Bool) : Type 0 where
   pub trail : List Opening
   pub listed : List Place
   pub heads : List Place
-  pub audits : Audits None call.root call.before call.after (p ∷ []) listed heads trail
-  pub files_lie : FilesLieIn call.root (p ∷ []) listed
+  pub audits : Audits call.further call.root call.before call.after (p ∷ []) listed heads trail
+  pub files_lie : FilesLieIn call.further call.root (p ∷ []) listed
   pub just : IsJustFor call.root p listed heads trail
-  pub wrote : Writes call (text (checked_item call.root trail p))
-  pub item_is : item ≡ not (is_empty (checked_item call.root trail p))
-  pub found_is : finding ≡ found (checked_item call.root trail p)
+  pub wrote : Writes call (text (checked_item call.further call.root trail p))
+  pub item_is : item ≡ not (is_empty (checked_item call.further call.root trail p))
+  pub found_is : finding ≡ found (checked_item call.further call.root trail p)
 
 -- checking the place stopped: at most a proper beginning of its text went out, and nothing if it
 -- was not the output that failed
@@ -47,12 +48,12 @@ pub record CheckStops (call : Call) (p : Place) (why : ReportStop) : Type 0 wher
   pub one : IsFront begun (p ∷ [])
   pub listed : List Place
   pub heads : List Place
-  pub fails : Fails None call.root call.before call.after begun listed heads trail (stop_place why)
-  pub files_lie : FilesLieIn call.root begun listed
+  pub fails : Fails call.further call.root call.before call.after begun listed heads trail (stop_place why)
+  pub files_lie : FilesLieIn call.further call.root begun listed
   pub just : IsJustFor call.root p listed heads trail
   pub part : Text
   pub wrote : Writes call part
-  pub part_of : PartOf why (text (checked_item call.root trail p)) part
+  pub part_of : PartOf why (text (checked_item call.further call.root trail p)) part
 
 abbrev pub CheckEnds : Call → Place → Bool → Bool → AuditStatus → Type 0
 CheckEnds call p item finding end.Ended = Checks call p item finding

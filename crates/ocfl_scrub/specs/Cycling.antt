@@ -1,7 +1,8 @@
 -- What a cycle does on any store, and the headline.
-use Rattle.std.specs.Prelude.{◌≡◌, ◌≢◌, ◌≤◌, ◌+◌, ◌/◌, ◌↔◌, ℕ, List, [], ◌∷◌, ◌++◌, Bool, true, false, Option, All, map, length, ⊤, None}
+use Rattle.std.specs.Prelude.{◌≡◌, ◌≢◌, ◌≤◌, ◌+◌, ◌/◌, ◌↔◌, ℕ, List, [], ◌∷◌, ◌++◌, Bool, true, false, Option, All, map, length, ⊤}
 use Rattle.ocfl_tree.specs.{Store.{Store}, declared.store.Opening.{Opening}}
 use Rattle.ocfl_report.specs.{Line.{Item}, Text.{text}}
+use Rattle.ocfl_report.specs.declared.further.Further.{Further}
 use Rattle.ocfl_rules.specs.{Audit.{audit, total_cost}, Due.{hashed_among}, Parts.{Part, within}}
 use Rattle.ocfl_rules.specs.Trail.{content_trail}
 use Rattle.ocfl_rules.specs.Runs.{Limits, total_files, StaysWithin, runs, joined, IsAtLeast}
@@ -14,12 +15,14 @@ use Rattle.ocfl_scrub.specs.{Written.{places}, Types.{CycleEnd, CycleStatus}}
 use Rattle.ocfl_scrub.specs.declared.cycling.CycleStatus.TheVariants as status
 
 -- what a cycle does on any store, by what the store and the output are before it and after it
-pub record CyclesOnAnyStore {S O : Type 0} (contents : O → Option (List ℕ)) (before after : S) (old new : O) (limits : List MadeLimits) (ran : CycleEnd) : Type 0 where
+pub record CyclesOnAnyStore {S O : Type 0} (further : Further) (contents : O → Option (List ℕ)) (before after : S) (old new : O) (limits : List MadeLimits) (ran : CycleEnd) : Type 0 where
   -- without limits there is no run
-  pub none : limits ≡ [] → (ran.cursor ≡ new_cursor) × (ran.end ≡ status.Spent) × (ran.found ≡ false) × (after ≡ before) × (new ≡ old)
+  pub none : limits ≡ [] → (ran.cursor ≡ new_cursor further) × (ran.end ≡ status.Spent) × (ran.found ≡ false) × (after ≡ before) × (new ≡ old)
   pub counted : ran.runs ≤ length limits
   pub made : 1 ≤ length limits → 1 ≤ ran.runs
   pub first : ran.cursor.cycle ≡ 1
+  -- the cursor of the last run has the option of the first
+  pub further_is : ran.cursor.further ≡ further
   pub runs_are : ran.runs ≡ ran.cursor.runs
   pub spent_is : ran.spent ≡ ran.cursor.spent
   pub files_are : ran.files ≡ ran.cursor.files
@@ -27,9 +30,9 @@ pub record CyclesOnAnyStore {S O : Type 0} (contents : O → Option (List ℕ)) 
   pub lines : ran.end ≢ status.Stopped halt.Output → WritesLines (contents old) (contents new) ran.found
 
 -- a cycle of a part on any store, and on one that tells its tree: runs of it with these limits
-pub record CyclesOver {S O : Type 0} (tells : Bool) (state : S → Store) (contents : O → Option (List ℕ)) (before after : S) (old new : O) (part : Part) (limits : List MadeLimits) (ran : CycleEnd) : Type 0 where
-  pub any_store : CyclesOnAnyStore contents before after old new limits ran
-  pub told : WhereTold tells state contents before after old new (λ call. CycleOfRunsWithin call part (map limits_of limits) ran)
+pub record CyclesOver {S O : Type 0} (further : Further) (tells : Bool) (state : S → Store) (contents : O → Option (List ℕ)) (before after : S) (old new : O) (part : Part) (limits : List MadeLimits) (ran : CycleEnd) : Type 0 where
+  pub any_store : CyclesOnAnyStore further contents before after old new limits ran
+  pub told : WhereTold further tells state contents before after old new (λ call. CycleOfRunsWithin call part (map limits_of limits) ran)
 
 -- how many runs are enough for limits that are each at least so large
 abbrev pub enough : List Item → ℕ → ℕ → ℕ
@@ -44,7 +47,7 @@ pub record StartsBelow (limits : Limits) (run : Call) (items : List Item) : Type
   pub wrote : Writes run (text items)
   pub trail : List Opening
   pub opened : run.after.openings ≡ run.before.openings ++ trail
-  pub files : content_trail None run.root trail ≡ hashed_among None run.root (places items)
+  pub files : content_trail run.further run.root trail ≡ hashed_among run.further run.root (places items)
   pub below : StaysWithin items limits (length items)
 
 -- each of some runs did that with its own limits and its own items
@@ -68,7 +71,7 @@ pub record Headline (call : Call) (items : List Item) (limits : List Limits) (co
   pub made_of : IsMadeOf call calls
   pub starts_below : EachStartsBelow limits calls (runs items limits)
   pub all_items : whole ≡ true → Writes call (text items)
-  pub opened_once : whole ≡ true → content_trail None call.root trail ≡ hashed_among None call.root (places items)
+  pub opened_once : whole ≡ true → content_trail call.further call.root trail ≡ hashed_among call.further call.root (places items)
   pub ends_within : (b n : ℕ) → 1 ≤ b → 1 ≤ n → All (IsAtLeast b n) limits → enough items b n ≤ length limits → (whole ≡ true) × (count ≤ enough items b n)
 
 abbrev pub HeadlineBy : Call → List Item → List Limits → ℕ → CycleStatus → Type 0
@@ -78,8 +81,8 @@ HeadlineBy call items limits count (status.Stopped why) = ⊤
 
 -- the headline: the items are the whole audit
 abbrev pub HeadlineOf : Call → List Limits → ℕ → CycleStatus → Type 0
-HeadlineOf call limits count end = HeadlineBy call (audit None call.root []) limits count end
+HeadlineOf call limits count end = HeadlineBy call (audit call.further call.root []) limits count end
 
 -- the headline of a part: they are what the audit has there
 abbrev pub HeadlineOfPart : Call → Part → List Limits → ℕ → CycleStatus → Type 0
-HeadlineOfPart call part limits count end = HeadlineBy call (within part (audit None call.root [])) limits count end
+HeadlineOfPart call part limits count end = HeadlineBy call (within part (audit call.further call.root [])) limits count end

@@ -1,11 +1,12 @@
 -- A run that goes on with the walk of the run before it.
-use Rattle.std.specs.Prelude.{◌≡◌, List, ◌++◌, false, Option, Some, None, ⊤}
+use Rattle.std.specs.Prelude.{◌≡◌, ◌≢◌, List, ◌++◌, false, Option, Some, None, IfSome, ⊤}
 use Rattle.ocfl_tree.specs.{Place.{Place}, StorageRoot.{StorageRoot}, Store.{Store}}
 use Rattle.ocfl_tree.specs.declared.store.Opening.{Opening}
 use Rattle.ocfl_rules.specs.{Parts.{Part}, Runs.{Limits}, Trail.{heads_of}}
 use Rattle.ocfl_cursor.specs.Cursor.{Cursor}
 use Rattle.ocfl_item.specs.Looking.{IsFront}
-use Rattle.ocfl_walk.specs.{Ends.{is_past}, WalkCalls.{GoesDown, Walks}, Walks.{Gives}}
+use Rattle.ocfl_report.specs.declared.further.Further.{Further}
+use Rattle.ocfl_walk.specs.{Ends.{is_past}, WalkCalls.{GoesDown, Walks}, Walks.{Gives, further_of}}
 use Rattle.ocfl_scrub.specs.{Alike.{IsAlike}, Call.{Call, call_of}, Types.{RunEnd}}
 use Rattle.ocfl_scrub.specs.Running.{RunsFromWithin, place_in}
 use Rattle.ocfl_scrub.specs.Starting.{end_of, entry, looked_in, read_in, stand}
@@ -20,20 +21,28 @@ abbrev pub met_at : KeptWalk → Option Place
 met_at kept = met_in kept.met
 
 -- Calls of the walk, from where a run above a place begins, gave this item before the part's end,
--- and the walk stands after it.
-pub record IsMet (root : StorageRoot) (part : Part) (from : Option Place) (m : Met) : Type 0 where
+-- and the walk stands after it. It is a walk of an audit with this option.
+pub record IsMet (further : Further) (root : StorageRoot) (part : Part) (from : Option Place) (m : Met) : Type 0 where
   pub before : Store
   pub after : Store
-  pub gives : Gives None root before after (stand root part from) m.walk (Some m.item)
+  pub gives : Gives further root before after (stand root part from) m.walk (Some m.item)
   pub in_front : is_past (end_of part) m.item.place ≡ false
 
-abbrev pub IsReadyIn : StorageRoot → Part → Option Place → Option Met → Type 0
-IsReadyIn root part from None = ⊤
-IsReadyIn root part from (Some m) = IsMet root part from m
+abbrev pub IsReadyIn : Further → StorageRoot → Part → Option Place → Option Met → Type 0
+IsReadyIn further root part from None = ⊤
+IsReadyIn further root part from (Some m) = IsMet further root part from m
 
--- a run of this part above this place may go on with it
-abbrev pub IsReady : StorageRoot → Part → Option Place → KeptWalk → Type 0
-IsReady root part from kept = IsReadyIn root part from kept.met
+-- a run with this option, of this part above this place, may go on with it
+abbrev pub IsReady : Further → StorageRoot → Part → Option Place → KeptWalk → Type 0
+IsReady further root part from kept = IsReadyIn further root part from kept.met
+
+-- a walk that is kept is of an audit with this option
+abbrev pub HasOption : Further → Option Met → Type 0
+HasOption further met = IfSome met (λ m. further_of m.walk ≡ further)
+
+-- or of one with the other option: then a run does not use it
+abbrev pub HasOther : Further → Option Met → Type 0
+HasOther further met = IfSome met (λ m. further_of m.walk ≢ further)
 
 -- In a part, only directories above a place were listed, the first of them, each once and in order,
 -- and only inventories of objects above it were read, so too.
@@ -53,10 +62,10 @@ pub record GoesOnFrom (call : Call) (part : Part) (p : Place) (c : Cursor) (limi
   pub begun : Store
   pub there : Store
   pub behind : Store
-  pub down : GoesDown None call.root before begun (entry part (place_in c.state))
-  pub way : Walks None call.root begun there (stand call.root part (place_in c.state)) (Some p)
+  pub down : GoesDown call.further call.root before begun (entry part (place_in c.state))
+  pub way : Walks call.further call.root begun there (stand call.root part (place_in c.state)) (Some p)
   pub alike : IsAlike call.before call.after there behind
-  pub runs : RunsFromWithin (call_of call.root before behind call.old call.new) part c limits ran
+  pub runs : RunsFromWithin (call_of call.further call.root before behind call.old call.new) part c limits ran
   pub looks : LooksAbove call part p
 
 -- a run from a cursor, with a walk that met an item there, or that begins

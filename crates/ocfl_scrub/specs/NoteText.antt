@@ -2,9 +2,16 @@
 use Rattle.std.specs.{Prelude.{◌++◌, [], Bool, true, false, codes}, Fmt.{decimal}}
 use Rattle.ocfl_tree.specs.Place.{Text}
 use Rattle.ocfl_report.specs.Text.{place_text}
+use Rattle.ocfl_report.specs.declared.further.Further.{Further}
+use Rattle.ocfl_report.specs.declared.further.Further.TheVariants.{Nothing, Inventories}
 use Rattle.ocfl_cursor.specs.{PartRefusal.{part_refused_text}, Refused.{refused_text}}
 use Rattle.ocfl_scrub.specs.Types.{Note}
 use Rattle.ocfl_scrub.specs.declared.note.Note.TheVariants as note
+
+-- the option that an audit has
+abbrev pub option_text : Further → Text
+option_text Nothing = codes "without --inventories"
+option_text Inventories = codes "with --inventories"
 
 -- whether an item is left for the next run
 abbrev pub end_text : Bool → Text
@@ -25,3 +32,4 @@ note_text note.CursorWorn = codes "cursor worn"
 note_text note.CursorFileFailed = codes "cursor file failed"
 note_text (note.CursorRefused why) = codes "cursor refused: " ++ refused_text why
 note_text (note.PartCursorRefused why) = codes "cursor refused: " ++ part_refused_text why
+note_text (note.OtherAudit further) = codes "cursor refused: the cursor is of an audit " ++ option_text further

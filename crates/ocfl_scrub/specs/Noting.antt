@@ -2,6 +2,7 @@
 use Rattle.std.specs.Prelude.{◌≡◌, ◌≢◌, ◌⊎◌, ◌≤◌, ℕ, List, Bool, true, false, Option, Some, None, Vec, ⊤}
 use Rattle.std.specs.declared.alloc.Global.{Global}
 use Rattle.ocfl_tree.specs.Place.{Text, Place}
+use Rattle.ocfl_report.specs.declared.further.Further.{Further}
 use Rattle.ocfl_cursor.specs.{Cursor.{Cursor, IsCursor}, declared.reading.CursorStop.{CursorStop}}
 use Rattle.ocfl_cursor.specs.declared.refused.PartRefused.{PartRefused}
 use Rattle.ocfl_cursor.specs.declared.showing.ShowStop.{ShowStop}
@@ -44,6 +45,7 @@ IsStatus status note.CursorWorn = status ≡ 3
 IsStatus status note.CursorFileFailed = status ≡ 3
 IsStatus status (note.CursorRefused why) = (status ≡ 4) × (why ≢ refused.Memory)
 IsStatus status (note.PartCursorRefused why) = (status ≡ 4) × (why ≢ part.Text refused.Memory)
+IsStatus status (note.OtherAudit further) = status ≡ 4
 
 -- what is said after a stop
 abbrev pub IsStopSaid : Note → Type 0
@@ -88,6 +90,7 @@ IsRanSaid n = IsStopSaid n
 abbrev pub IsRunSaid : Note → Type 0
 IsRunSaid note.CursorFileFailed = ⊤
 IsRunSaid (note.CursorRefused why) = ⊤
+IsRunSaid (note.OtherAudit further) = ⊤
 IsRunSaid n = IsRanSaid n
 
 abbrev pub IsShowSaid : Note → Type 0
@@ -166,6 +169,10 @@ abbrev pub IsUnreadNote : CursorStop → ℕ → Note → Type 0
 IsUnreadNote stop.Read status n = (status ≡ 3) × (n ≡ note.CursorFileFailed)
 IsUnreadNote (stop.Refused refused.Memory) status n = (status ≡ 3) × (n ≡ note.OutOfMemory)
 IsUnreadNote (stop.Refused why) status n = (status ≡ 4) × (n ≡ note.CursorRefused why)
+
+-- what it is ended with if the cursor that was read is of an audit with another option
+abbrev pub IsOtherNote : Further → ℕ → Note → Type 0
+IsOtherNote other status n = (status ≡ 4) × (n ≡ note.OtherAudit other)
 
 -- what it is ended with if the cursor of a part is refused
 abbrev pub IsPartRefusedNote : PartRefused → ℕ → Note → Type 0

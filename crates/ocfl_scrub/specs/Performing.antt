@@ -3,6 +3,8 @@ use Rattle.std.specs.Prelude.{◌≡◌, ◌≢◌, ◌↔◌, ◌⊎◌, ◌<�
 use Rattle.std.specs.{declared.alloc.Global.{Global}, Borrow.{MutBor}, Io.KnownBytes.{Appends}}
 use Rattle.ocfl_tree.specs.{Place.{Text, Place}, Name.{IsPlace}}
 use Rattle.ocfl_report.specs.{Line.{found}, Text.{place_text, text}}
+use Rattle.ocfl_report.specs.declared.further.Further.{Further}
+use Rattle.ocfl_report.specs.declared.further.Further.TheVariants.{Nothing}
 use Rattle.ocfl_rules.specs.{Audit.{audit}, Parts.{Part, whole, within}, Runs.{Limits}}
 use Rattle.ocfl_cursor.specs.{Cursor.{Cursor, IsCursor, new_cursor, cursor_text}, Moves.{after_run}}
 use Rattle.ocfl_cursor.specs.{Refusal.{IsTextOf}, Shown.{IsShownFrom, UnshownRightly}}
@@ -16,7 +18,7 @@ use Rattle.ocfl_deed.specs.declared.deed.Deed.{Deed}
 use Rattle.ocfl_deed.specs.declared.deed.Deed.TheVariants as deed
 use Rattle.ocfl_scope.specs.Finding.{IsNoPath}
 use Rattle.ocfl_scrub.specs.Call.{Call, Writes, IsUnfailing}
-use Rattle.ocfl_scrub.specs.Noting.{IsStatus, status_of, IsAuditSaid, IsCheckSaid, IsRunSaid, IsCycleSaid, IsFileSaid, IsShowSaid, IsRefused, IsAuditNote, IsRunNote, IsUnreadNote, WritesWhole, WritesWithStatus, AuditsWithNote, ChecksWithNote, RunsWithNote, CyclesWithNote}
+use Rattle.ocfl_scrub.specs.Noting.{IsStatus, status_of, IsAuditSaid, IsCheckSaid, IsRunSaid, IsCycleSaid, IsFileSaid, IsShowSaid, IsRefused, IsAuditNote, IsRunNote, IsUnreadNote, IsOtherNote, WritesWhole, WritesWithStatus, AuditsWithNote, ChecksWithNote, RunsWithNote, CyclesWithNote}
 use Rattle.ocfl_scrub.specs.Running.{IsPaid, IsWorn, begun, limits_of, state_after}
 use Rattle.ocfl_scrub.specs.Types.{AuditEnd, Note, Performed, RunEnd}
 use Rattle.ocfl_scrub.specs.declared.note.Note.TheVariants as note
@@ -38,9 +40,17 @@ abbrev pub IfRead : Type 0 → (Text → Type 0) → Option (Option Text) → Ty
 IfRead unread OfBytes None = unread
 IfRead unread OfBytes (Some known) = IfSome known OfBytes
 
--- a run begins with the cursor that is stored, and without a reader with the first
-abbrev pub BeginsWith : Option (Option Text) → Cursor → Type 0
-BeginsWith known c = IfRead (c ≡ new_cursor) (λ bytes. IsTextOf bytes c) known
+-- the cursor that is stored, and without a reader the first of an audit with this option
+abbrev pub IsFirst : Further → Option (Option Text) → Cursor → Type 0
+IsFirst further known c = IfRead (c ≡ new_cursor further) (λ bytes. IsTextOf bytes c) known
+
+-- a run begins with it if it is of an audit with this option
+abbrev pub BeginsWith : Further → Option (Option Text) → Cursor → Type 0
+BeginsWith further known c = (c.further ≡ further) × IsFirst further known c
+
+-- and with none if the cursor that is stored is of an audit with the other
+abbrev pub IsOfOther : Further → Option (Option Text) → Further → Type 0
+IsOfOther further known other = (other ≢ further) × IfRead ⊥ (λ bytes. (c : Cursor) × (IsTextOf bytes c × (c.further ≡ other))) known
 
 -- no cursor was read, and if the bytes are known they are rightly refused; only a reader can be
 -- refused
@@ -51,12 +61,15 @@ StopsWith known why = IfRead ⊥ (λ bytes. StopsRightly bytes why) known
 abbrev pub UnshownWith : Option (Option Text) → ShowStop → Type 0
 UnshownWith known why = IfRead ⊥ (λ bytes. UnshownRightly bytes why) known
 
--- what is said to be refused is rightly refused, as the cursor of a part if that is to be shown
-abbrev pub RefusesRightly : Option (Option Text) → Note → Type 0
-RefusesRightly known (note.CursorRefused why) = StopsWith known (stop.Refused why)
-RefusesRightly known (note.PartCursorRefused (part.Text why)) = UnshownWith known (show.Part why)
-RefusesRightly known (note.PartCursorRefused part.OtherPart) = ⊥
-RefusesRightly known n = ⊤
+-- what is said to be refused is rightly refused, as the cursor of a part if that is to be shown, and
+-- as that of another audit if a run was asked for
+abbrev pub RefusesRightly : Deed → Option (Option Text) → Note → Type 0
+RefusesRightly d known (note.CursorRefused why) = StopsWith known (stop.Refused why)
+RefusesRightly d known (note.PartCursorRefused (part.Text why)) = UnshownWith known (show.Part why)
+RefusesRightly d known (note.PartCursorRefused part.OtherPart) = ⊥
+RefusesRightly (deed.Run further limits) known (note.OtherAudit other) = IsOfOther further known other
+RefusesRightly d known (note.OtherAudit other) = ⊥
+RefusesRightly d known n = ⊤
 
 -- a cursor that is to be shown is refused by the kind that its first line names
 abbrev pub UnshownSaid : Deed → Option (Option Text) → Note → Type 0
@@ -65,18 +78,27 @@ UnshownSaid d known n = ⊤
 
 -- ---- of every store
 
+-- what a deed checks beside what every audit checks
+abbrev pub further_of : Deed → Further
+further_of (deed.Audit further) = further
+further_of (deed.Check further path) = further
+further_of (deed.Run further limits) = further
+further_of (deed.Cycle further limits count) = further
+further_of deed.Show = Nothing
+
 -- what each command can say
 abbrev pub IsSaid : Deed → Note → Type 0
-IsSaid deed.Audit n = IsAuditSaid n
-IsSaid (deed.Check path) n = IsCheckSaid n
-IsSaid (deed.Run limits) n = IsRunSaid n
-IsSaid (deed.Cycle limits count) n = IsCycleSaid n
+IsSaid (deed.Audit further) n = IsAuditSaid n
+IsSaid (deed.Check further path) n = IsCheckSaid n
+IsSaid (deed.Run further limits) n = IsRunSaid n
+IsSaid (deed.Cycle further limits count) n = IsCycleSaid n
 IsSaid deed.Show n = IsShowSaid n
 
 -- with these texts no call of the store was made, and nothing was written
 abbrev pub IsSilent : Note → Type 0
 IsSilent note.BadPath = ⊤
 IsSilent note.CursorWorn = ⊤
+IsSilent (note.OtherAudit further) = ⊤
 IsSilent n = IsFileSaid n
 
 -- with these texts all lines went out
@@ -95,7 +117,7 @@ IsKept note.OutOfMemory stored = ⊤
 IsKept n stored = IsNone stored
 
 abbrev pub IsKeptBy : Deed → Note → Option (Vec ℕ Global) → Type 0
-IsKeptBy (deed.Run limits) n stored = IsKept n stored
+IsKeptBy (deed.Run further limits) n stored = IsKept n stored
 IsKeptBy deed n stored = IsNone stored
 
 -- the text that is handed back is that of the cursor to which a run led from one with which it may
@@ -112,23 +134,23 @@ pub record HandedBack (Begins : Cursor → Type 0) (text_of : Cursor → Text) (
   pub says : IsRunNote ran.cursor ran.spent ran.found ran.end status n
 
 abbrev pub HandsBack : Option (Option Text) → Deed → ℕ → Note → Option (Vec ℕ Global) → Type 0
-HandsBack known (deed.Run limits) status n stored = IfSome stored (λ handed. HandedBack (BeginsWith known) cursor_text (limits_of limits) status n handed.items)
+HandsBack known (deed.Run further limits) status n stored = IfSome stored (λ handed. HandedBack (BeginsWith further known) cursor_text (limits_of limits) status n handed.items)
 HandsBack known deed status n stored = ⊤
 
 -- without a reader a run has a new cursor, and there is none to show
 abbrev pub IsWithoutFile : Option (Option Text) → Deed → Note → Type 0
-IsWithoutFile None (deed.Run limits) n = n ≢ note.CursorFileFailed
+IsWithoutFile None (deed.Run further limits) n = n ≢ note.CursorFileFailed
 IsWithoutFile None deed.Show n = n ≡ note.CursorFileFailed
 IsWithoutFile known deed n = ⊤
 
 -- the path that is to be checked names no place
 abbrev pub HasBadPath : Deed → Type 0
-HasBadPath (deed.Check path) = IsNoPath (string_bytes path)
+HasBadPath (deed.Check further path) = IsNoPath (string_bytes path)
 HasBadPath d = ⊥
 
--- a path is refused exactly if it is that of no place, unless there was no memory to read it
+-- a path is refused exactly if no place has it, unless there was no memory to read it
 abbrev pub RefusesPath : Deed → ℕ → Note → Type 0
-RefusesPath (deed.Check path) status n = (IsNoPath (string_bytes path) → IsRefused status n) × (n ≡ note.BadPath → IsNoPath (string_bytes path))
+RefusesPath (deed.Check further path) status n = (IsNoPath (string_bytes path) → IsRefused status n) × (n ≡ note.BadPath → IsNoPath (string_bytes path))
 RefusesPath deed status n = ⊤
 
 -- the lines of the stored cursor went out
@@ -171,8 +193,8 @@ pub record WritesCheck (status : ℕ) (n : Note) (old new : Option (List ℕ)) :
 -- what went out, by what was asked for and what is said
 abbrev pub WritesBy : Option (Option Text) → Deed → Performed → Option (List ℕ) → Option (List ℕ) → Type 0
 WritesBy known deed.Show said old new = ShowsWith known said.note old new
-WritesBy known (deed.Check path) said old new = WritesCheck said.status said.note old new
-WritesBy known (deed.Run limits) said old new = WritesRun said.status said.note said.cursor old new
+WritesBy known (deed.Check further path) said old new = WritesCheck said.status said.note old new
+WritesBy known (deed.Run further limits) said old new = WritesRun said.status said.note said.cursor old new
 WritesBy known d said old new = WritesReport said.status said.note old new
 
 -- what a command ends with on any store, by what the store and the output are before it and after
@@ -195,7 +217,7 @@ pub record AnswersOnAnyStore {S O : Type 0} (contents : O → Option (List ℕ))
 pub record PartAudited (Says : AuditEnd → Type 0) (call : Call) (part : Part) (status : ℕ) (n : Note) : Type 0 where
   pub audits : AuditsWithNote Says call part
   pub clean : n ≡ note.Nothing → IsUnfailing call →
-      Writes call (text (within part (audit None call.root []))) × (status ≡ status_of (found (within part (audit None call.root []))))
+      Writes call (text (within part (audit call.further call.root []))) × (status ≡ status_of (found (within part (audit call.further call.root []))))
 
 abbrev pub AuditPerformed : Call → ℕ → Note → Type 0
 AuditPerformed call status n = PartAudited (λ ran. IsAuditNote ran.found ran.end status n) call whole status n
@@ -211,7 +233,7 @@ abbrev pub CheckPerformed : Call → Text → ℕ → Note → Type 0
 CheckPerformed call path status n = (p : Place) → IsPlace p → path ≡ place_text p →
     ChecksWithNote call p status n ⊎ OutOfMemoryFirst call status n
 
--- no cursor was read, for a reason that is said
+-- the run had no cursor to begin with, for a reason that is said
 pub record RunUnread {Why : Type 0} (Stops : Why → Type 0) (Says : Why → ℕ → Note → Type 0) (status : ℕ) (n : Note) : Type 0 where
   pub why : Why
   pub stops : Stops why
@@ -238,13 +260,14 @@ pub record RunMade (Begins : Cursor → Type 0) (text_of : Cursor → Text) (cal
   pub begins : Begins from
   pub runs : RunsWithNote call part text_of from limits status n stored
 
--- why no run of the whole was made
-abbrev pub WhyNoRun : Option (Option Text) → ℕ → Note → Type 0
-WhyNoRun known status n = RunUnread (StopsWith known) IsUnreadNote status n ⊎ RunWorn (BeginsWith known) status n
+-- why no run of the whole was made: no cursor was read, or one of another audit, or a worn one
+abbrev pub WhyNoRun : Further → Option (Option Text) → ℕ → Note → Type 0
+WhyNoRun further known status n =
+    RunUnread (StopsWith known) IsUnreadNote status n ⊎ (RunUnread (IsOfOther further known) IsOtherNote status n ⊎ RunWorn (BeginsWith further known) status n)
 
 abbrev pub RunPerformed : Call → Option (Option Text) → Limits → ℕ → Note → Option (Vec ℕ Global) → Type 0
 RunPerformed call known limits status n stored =
-    RunMade (BeginsWith known) cursor_text call whole limits status n stored ⊎ RunUnmade (WhyNoRun known status n) call stored
+    RunMade (BeginsWith call.further known) cursor_text call whole limits status n stored ⊎ RunUnmade (WhyNoRun call.further known status n) call stored
 
 -- n runs, each within the same limits
 abbrev pub equal_limits : MadeLimits → ℕ → List Limits
@@ -253,10 +276,10 @@ equal_limits limits count = map limits_of (replicate count limits)
 abbrev pub CyclePerformed : Call → List Limits → ℕ → Note → Type 0
 CyclePerformed call limits status n = CyclesWithNote call limits status n ⊎ OutOfMemoryFirst call status n
 
--- the deed was done
+-- the deed was done: the call has its option
 abbrev pub Performs : Call → Option (Option Text) → Deed → ℕ → Note → Option (Vec ℕ Global) → Type 0
-Performs call known deed.Audit status n stored = AuditPerformed call status n
-Performs call known (deed.Check path) status n stored = CheckPerformed call (string_bytes path) status n
-Performs call known (deed.Run limits) status n stored = RunPerformed call known (limits_of limits) status n stored
-Performs call known (deed.Cycle limits count) status n stored = CyclePerformed call (equal_limits limits count) status n
+Performs call known (deed.Audit further) status n stored = AuditPerformed call status n
+Performs call known (deed.Check further path) status n stored = CheckPerformed call (string_bytes path) status n
+Performs call known (deed.Run further limits) status n stored = RunPerformed call known (limits_of limits) status n stored
+Performs call known (deed.Cycle further limits count) status n stored = CyclePerformed call (equal_limits limits count) status n
 Performs call known deed.Show status n stored = call.after ≡ call.before

@@ -10,6 +10,7 @@ use Rattle.ocfl_rules.specs.Runs.{Limits, sum_of, cut, left}
 use Rattle.ocfl_cursor.specs.{Cursor.{State, start, behind, ended, Cursor}, Meter.{max_cost}}
 use Rattle.ocfl_cursor.specs.Moves.{next_cycle, after_run}
 use Rattle.ocfl_cursor.specs.declared.limits.Limits.{Limits as MadeLimits}
+use Rattle.ocfl_report.specs.declared.further.Further.{Further}
 use Rattle.ocfl_scrub.specs.declared.stop.ReportStop.TheVariants as halt
 use Rattle.ocfl_scrub.specs.Call.{Call, IsUnfailing, WhereTold, Writes}
 use Rattle.ocfl_scrub.specs.{Taking.{WritesLines}, Types.{ReportStop, RunEnd, RunStatus}}
@@ -81,27 +82,27 @@ pub record RunsOnAnyStore {S O : Type 0} (contents : O → Option (List ℕ)) (b
 -- ---- of a store that tells its tree
 
 -- the items of a part above a place that the limits allow
-abbrev pub taken_in : StorageRoot → List Opening → Part → Option Place → Limits → List Item
-taken_in root trail part from limits = cut (items_in root trail part from) limits
+abbrev pub taken_in : Further → StorageRoot → List Opening → Part → Option Place → Limits → List Item
+taken_in further root trail part from limits = cut (items_in further root trail part from) limits
 
 -- a run of a part took the cut of its limits. Each hashed file of it was opened once, in order, and
 -- it looked up to the first item that is left
 pub record RunsWithin (call : Call) (part : Part) (from last : Option Place) (limits : Limits) (spent files : ℕ) (finding : Bool) (next : Option Place) : Type 0 where
   pub trail : List Opening
-  pub looks : LooksOver call part from next (places (taken_in call.root trail part from limits)) trail
-  pub wrote : Writes call (text (taken_in call.root trail part from limits))
-  pub figures : Figures (taken_in call.root trail part from limits) spent files finding
-  pub last_is : last ≡ last_or from (places (taken_in call.root trail part from limits))
-  pub next_is : next ≡ slice_get (places (left (items_in call.root trail part from) limits)) 0
+  pub looks : LooksOver call part from next (places (taken_in call.further call.root trail part from limits)) trail
+  pub wrote : Writes call (text (taken_in call.further call.root trail part from limits))
+  pub figures : Figures (taken_in call.further call.root trail part from limits) spent files finding
+  pub last_is : last ≡ last_or from (places (taken_in call.further call.root trail part from limits))
+  pub next_is : next ≡ slice_get (places (left (items_in call.further call.root trail part from) limits)) 0
 
 -- It stopped: the first items of the cut went out whole, and of the next at most a proper beginning.
 -- No item that is left is before a directory that was looked into
 pub record RunStopsWithin (call : Call) (part : Part) (from last : Option Place) (limits : Limits) (spent files : ℕ) (finding : Bool) (why : ReportStop) : Type 0 where
   pub trail : List Opening
-  pub stops : StopsWithin (taken_in call.root trail part from limits) call.old call.new from last why
+  pub stops : StopsWithin (taken_in call.further call.root trail part from limits) call.old call.new from last why
   pub figures : Figures stops.whole spent files finding
   pub looks : StopsLooking call part from (places stops.whole ++ stops.begun) trail why
-  pub ahead : AreAhead (looks.down ++ looks.listed) (due_within call.root part last)
+  pub ahead : AreAhead (looks.down ++ looks.listed) (due_within call.further call.root part last)
 
 abbrev pub RunEndsWithin : Call → Part → Option Place → Option Place → Limits → ℕ → ℕ → Bool → RunStatus → Type 0
 RunEndsWithin call part from last limits spent files finding status.Ended = RunsWithin call part from last limits spent files finding None
@@ -119,13 +120,13 @@ pub record RunsFromWithin (call : Call) (part : Part) (c : Cursor) (limits : Lim
 
 -- the text and the figures of a run are those of the cut of the audit of files that can all be read
 pub record RunsCleanWithin (call : Call) (part : Part) (from : Option Place) (limits : Limits) (spent files : ℕ) (finding : Bool) : Type 0 where
-  pub wrote : Writes call (text (cut (after (within part (audit None call.root [])) from) limits))
-  pub figures : Figures (cut (after (within part (audit None call.root [])) from) limits) spent files finding
+  pub wrote : Writes call (text (cut (after (within part (audit call.further call.root [])) from) limits))
+  pub figures : Figures (cut (after (within part (audit call.further call.root [])) from) limits) spent files finding
 
 -- and it ended with the cycle exactly if it left nothing
 abbrev pub RunsCleanlyWithin : Call → Part → Cursor → Limits → ℕ → ℕ → Bool → RunStatus → Type 0
-RunsCleanlyWithin call part c limits spent files finding status.Ended = RunsCleanWithin call part (place_in c.state) limits spent files finding × (left (after (within part (audit None call.root [])) (place_in c.state)) limits ≡ [])
-RunsCleanlyWithin call part c limits spent files finding status.Spent = RunsCleanWithin call part (place_in c.state) limits spent files finding × (left (after (within part (audit None call.root [])) (place_in c.state)) limits ≢ [])
+RunsCleanlyWithin call part c limits spent files finding status.Ended = RunsCleanWithin call part (place_in c.state) limits spent files finding × (left (after (within part (audit call.further call.root [])) (place_in c.state)) limits ≡ [])
+RunsCleanlyWithin call part c limits spent files finding status.Spent = RunsCleanWithin call part (place_in c.state) limits spent files finding × (left (after (within part (audit call.further call.root [])) (place_in c.state)) limits ≢ [])
 RunsCleanlyWithin call part c limits spent files finding (status.Stopped why) = ⊤
 RunsCleanlyWithin call part c limits spent files finding status.Worn = ⊤
 
@@ -133,5 +134,5 @@ RunsCleanlyWithin call part c limits spent files finding status.Worn = ⊤
 
 pub record RunsOver {S O : Type 0} (tells : Bool) (state : S → Store) (contents : O → Option (List ℕ)) (before after : S) (old new : O) (part : Part) (c : Cursor) (limits : MadeLimits) (ran : RunEnd) : Type 0 where
   pub any_store : RunsOnAnyStore contents before after old new c limits ran
-  pub told : WhereTold tells state contents before after old new (λ call. ran.end ≢ status.Worn → RunsFromWithin call part c (limits_of limits) ran)
-  pub unfailing : WhereTold tells state contents before after old new (λ call. IsUnfailing call → RunsCleanlyWithin call part c (limits_of limits) ran.spent ran.files ran.found ran.end)
+  pub told : WhereTold c.further tells state contents before after old new (λ call. ran.end ≢ status.Worn → RunsFromWithin call part c (limits_of limits) ran)
+  pub unfailing : WhereTold c.further tells state contents before after old new (λ call. IsUnfailing call → RunsCleanlyWithin call part c (limits_of limits) ran.spent ran.files ran.found ran.end)

@@ -13,6 +13,7 @@ use Rattle.ocfl_rules.specs.Zone.{beginnings}
 use Rattle.ocfl_rules.specs.Parts.{Part, within, places_within}
 use Rattle.ocfl_rules.specs.Trail.{reads_inventory, unread_of}
 use Rattle.ocfl_item.specs.{Looking.{IsFront, way_to}, Auditing.{Audits, Fails, LiesIn}}
+use Rattle.ocfl_report.specs.declared.further.Further.{Further}
 use Rattle.ocfl_walk.specs.Before.{directory_of, place_before}
 use Rattle.ocfl_walk.specs.declared.end.End.{End}
 use Rattle.ocfl_scrub.specs.{Call.{Call}, Taking.{stop_place}, Types.{ReportStop}}
@@ -69,13 +70,13 @@ abbrev pub stand : StorageRoot → Part → Option Place → Option Place
 stand root part above = stand_by root (first_place part) above
 
 -- the places of a part's items above a place, and all of them for the start
-abbrev pub due_within : StorageRoot → Part → Option Place → List Place
-due_within root part from = places_within part (due None root from)
+abbrev pub due_within : Further → StorageRoot → Part → Option Place → List Place
+due_within further root part from = places_within part (due further root from)
 
 -- the items of a part above a place, where a trail shows what could not be read; all of them for
 -- the start
-abbrev pub items_in : StorageRoot → List Opening → Part → Option Place → List Item
-items_in root trail part from = after (within part (audit None root (unread_of None root trail))) from
+abbrev pub items_in : Further → StorageRoot → List Opening → Part → Option Place → List Item
+items_in further root trail part from = after (within part (audit further root (unread_of further root trail))) from
 
 -- none of some places is before one of these directories
 abbrev pub AreAhead : List Place → List Place → Type 0
@@ -92,8 +93,8 @@ read_in root part from to = places_within part (read_between root from to)
 -- ---- what a call over a part looks at
 
 -- of these places each hashed file is right in one of these directories
-abbrev pub FilesLieIn : StorageRoot → List Place → List Place → Type 0
-FilesLieIn root places dirs = (p : Place) → IsAmong places p → is_hashed None root p ≡ true → LiesIn dirs p
+abbrev pub FilesLieIn : Further → StorageRoot → List Place → List Place → Type 0
+FilesLieIn further root places dirs = (p : Place) → IsAmong places p → is_hashed further root p ≡ true → LiesIn dirs p
 
 -- it audited these places, the first of the part's above one, and came to another. Listed were the
 -- first directories on the way down to where it began, and those of the part between the two places,
@@ -103,9 +104,9 @@ FilesLieIn root places dirs = (p : Place) → IsAmong places p → is_hashed Non
 pub record LooksOver (call : Call) (part : Part) (from to : Option Place) (audited : List Place) (trail : List Opening) : Type 0 where
   pub down : List Place
   pub held : List Place
-  pub audits : Audits None call.root call.before call.after audited (down ++ looked_in call.root part from to) (held ++ read_in call.root part from to) trail
+  pub audits : Audits call.further call.root call.before call.after audited (down ++ looked_in call.root part from to) (held ++ read_in call.root part from to) trail
   pub down_front : IsFront down (way_in part from)
-  pub files_lie : FilesLieIn call.root audited (down ++ looked_in call.root part from to)
+  pub files_lie : FilesLieIn call.further call.root audited (down ++ looked_in call.root part from to)
   pub held_front : IsFront held (filter (reads_inventory call.root) (way_in part from))
 
 -- it stopped, and had begun with these places: the directory of each file was listed
@@ -114,9 +115,9 @@ pub record StopsLooking (call : Call) (part : Part) (from : Option Place) (begun
   pub listed : List Place
   pub held : List Place
   pub heads : List Place
-  pub fails : Fails None call.root call.before call.after begun (down ++ listed) (held ++ heads) trail (stop_place why)
+  pub fails : Fails call.further call.root call.before call.after begun (down ++ listed) (held ++ heads) trail (stop_place why)
   pub down_front : IsFront down (way_in part from)
   pub listed_front : IsFront listed (looked_in call.root part from None)
   pub held_front : IsFront held (filter (reads_inventory call.root) (way_in part from))
   pub heads_front : IsFront heads (read_in call.root part from None)
-  pub files_lie : FilesLieIn call.root begun (down ++ listed)
+  pub files_lie : FilesLieIn call.further call.root begun (down ++ listed)

@@ -29,19 +29,19 @@ pub record PartOf (why : ReportStop) (whole part : Text) : Type 0 where
 -- the item at p was judged, its file alone was opened if it is hashed, and its lines went out whole
 pub record Takes (call : Call) (p : Place) (cost : ℕ) (finding : Bool) : Type 0 where
   pub trail : List Opening
-  pub audits : Audits None call.root call.before call.after (p ∷ []) [] [] trail
-  pub alone : places_of trail ≡ hashed_among None call.root (p ∷ [])
-  pub wrote : Writes call (text (items_at None call.root trail (p ∷ [])))
-  pub cost_is : cost ≡ total_cost (items_at None call.root trail (p ∷ []))
-  pub found_is : finding ≡ found (items_at None call.root trail (p ∷ []))
+  pub audits : Audits call.further call.root call.before call.after (p ∷ []) [] [] trail
+  pub alone : places_of trail ≡ hashed_among call.further call.root (p ∷ [])
+  pub wrote : Writes call (text (items_at call.further call.root trail (p ∷ [])))
+  pub cost_is : cost ≡ total_cost (items_at call.further call.root trail (p ∷ []))
+  pub found_is : finding ≡ found (items_at call.further call.root trail (p ∷ []))
 
 -- it was judged, or not even begun, and its lines did not go out whole
 pub record Misses (call : Call) (p : Place) (why : ReportStop) : Type 0 where
   pub trail : List Opening
   pub begun : List Place
   pub one : IsFront begun (p ∷ [])
-  pub fails : Fails None call.root call.before call.after begun [] [] trail (stop_place why)
-  pub alone : places_of trail ≡ hashed_among None call.root begun
+  pub fails : Fails call.further call.root call.before call.after begun [] [] trail (stop_place why)
+  pub alone : places_of trail ≡ hashed_among call.further call.root begun
   pub part : Text
   pub wrote : Writes call part
-  pub part_of : PartOf why (text (items_at None call.root trail (p ∷ []))) part
+  pub part_of : PartOf why (text (items_at call.further call.root trail (p ∷ []))) part

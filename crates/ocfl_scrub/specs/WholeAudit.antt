@@ -18,16 +18,16 @@ pub record AuditsOnAnyStore {O : Type 0} (contents : O → Option (List ℕ)) (o
 -- the text of the audit of a part was written: each hashed file in it was opened once, in order
 pub record AuditsWithin (call : Call) (part : Part) (last : Option Place) (finding : Bool) : Type 0 where
   pub trail : List Opening
-  pub looks : LooksOver call part None None (places (items_in call.root trail part None)) trail
-  pub wrote : Writes call (text (items_in call.root trail part None))
-  pub last_is : last ≡ last_or None (places (items_in call.root trail part None))
-  pub found_is : finding ≡ found (items_in call.root trail part None)
+  pub looks : LooksOver call part None None (places (items_in call.further call.root trail part None)) trail
+  pub wrote : Writes call (text (items_in call.further call.root trail part None))
+  pub last_is : last ≡ last_or None (places (items_in call.further call.root trail part None))
+  pub found_is : finding ≡ found (items_in call.further call.root trail part None)
 
 -- it stopped: the first items of the part went out whole, and of the next at most a proper
 -- beginning
 pub record AuditStopsWithin (call : Call) (part : Part) (last : Option Place) (finding : Bool) (why : ReportStop) : Type 0 where
   pub trail : List Opening
-  pub stops : StopsWithin (items_in call.root trail part None) call.old call.new None last why
+  pub stops : StopsWithin (items_in call.further call.root trail part None) call.old call.new None last why
   pub found_is : finding ≡ found stops.whole
   pub looks : StopsLooking call part None (places stops.whole ++ stops.begun) trail why
 

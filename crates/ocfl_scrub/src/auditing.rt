@@ -10,6 +10,7 @@ use crate::part::{Part, set_out};
 use crate::stop::ReportStop;
 use crate::taking::{either, take_item};
 use ocfl_digest::Block;
+use ocfl_report::Further;
 use ocfl_tree::{Place, Tree};
 use std::alloc::Global;
 use std::io::Write;
@@ -27,6 +28,8 @@ pub struct AuditEnd {
 /// Writes the report lines of a whole storage root, item by item: the lines of one go out as one
 /// piece before the next is looked at.
 ///
+/// `further` is what it checks beside what every audit checks.
+///
 /// Each content file that some digest is named for is opened once, and no other content is. One
 /// that cannot be read is reported and stops nothing. After a stop the items before it have gone
 /// out whole, and of the next at most a beginning, and nothing if it was not the output that
@@ -34,19 +37,20 @@ pub struct AuditEnd {
 pub fn audit<T: Tree, W: Write>(
     alloc: Global,
     store: &mut T,
+    further: Further,
     block: &mut Block,
     out: &mut W,
 ) -> AuditEnd
     ensures any_store { AuditsOnAnyStore W.contents out.old out.new result }
-    ensures told { WhereTold T.told T.state W.contents store.old store.new out.old out.new (λ call.
-        AuditEnds call result.last result.found result.end) }
-    ensures unfailing { WhereTold T.told T.state W.contents store.old store.new out.old out.new
-        (λ call. result.end ≡ AuditStatus.Ended → IsUnfailing call
-        → Writes call (text (whole_audit None call.root []))
-        × (result.found ≡ found_in (whole_audit None call.root []))) }
+    ensures told { WhereTold further T.told T.state W.contents store.old store.new out.old out.new
+        (λ call. AuditEnds call result.last result.found result.end) }
+    ensures unfailing { WhereTold further T.told T.state W.contents store.old store.new out.old
+        out.new (λ call. result.end ≡ AuditStatus.Ended → IsUnfailing call
+        → Writes call (text (whole_audit call.further call.root []))
+        × (result.found ≡ found_in (whole_audit call.further call.root []))) }
 {
     let whole = Part::whole(alloc);
-    audit_part(alloc, store, &whole, block, out)
+    audit_part(alloc, store, further, &whole, block, out)
 }
 
 /// Does for a part what [`audit`] does for the whole. Outside the part no directory is listed and
@@ -55,19 +59,20 @@ pub fn audit<T: Tree, W: Write>(
 pub fn audit_part<T: Tree, W: Write>(
     alloc: Global,
     store: &mut T,
+    further: Further,
     part: &Part,
     block: &mut Block,
     out: &mut W,
 ) -> AuditEnd
     ensures any_store { AuditsOnAnyStore W.contents out.old out.new result }
-    ensures told { WhereTold T.told T.state W.contents store.old store.new out.old out.new (λ call.
-        AuditEndsWithin call (part_of part.now) result.last result.found result.end) }
-    ensures unfailing { WhereTold T.told T.state W.contents store.old store.new out.old out.new
-        (λ call. result.end ≡ AuditStatus.Ended → IsUnfailing call
-        → let items = within (part_of part.now) (whole_audit None call.root []) in
+    ensures told { WhereTold further T.told T.state W.contents store.old store.new out.old out.new
+        (λ call. AuditEndsWithin call (part_of part.now) result.last result.found result.end) }
+    ensures unfailing { WhereTold further T.told T.state W.contents store.old store.new out.old
+        out.new (λ call. result.end ≡ AuditStatus.Ended → IsUnfailing call
+        → let items = within (part_of part.now) (whole_audit call.further call.root []) in
         Writes call (text items) × (result.found ≡ found_in items)) }
 {
-    let mut walk = match set_out(alloc, store, part, None) {
+    let mut walk = match set_out(alloc, store, further, part, None) {
         Ok(walk) => walk,
         Err(why) => {
             return audit_end(None, false, AuditStatus::Stopped(ReportStop::Fault(why)));
@@ -76,11 +81,11 @@ pub fn audit_part<T: Tree, W: Write>(
     let mut last = None;
     let mut found = false;
     let end = loop {
-        let (further, next) = match walk.next_within(store, &part.end) {
+        let (ahead, next) = match walk.next_within(store, &part.end) {
             Ok(step) => step,
             Err(why) => break AuditStatus::Stopped(ReportStop::Fault(why)),
         };
-        walk = further;
+        walk = ahead;
         let Some(pending) = next else {
             break AuditStatus::Ended;
         };

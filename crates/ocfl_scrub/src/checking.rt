@@ -5,6 +5,7 @@ ghost use Rattle.ocfl_scrub.specs.{Call.{WhereTold}, Checking.{CheckEnds}, Takin
 use crate::stop::ReportStop;
 use crate::taking::take_item;
 use ocfl_digest::Block;
+use ocfl_report::Further;
 use ocfl_tree::{Place, Tree};
 use ocfl_walk::item_at;
 use std::alloc::Global;
@@ -27,7 +28,8 @@ pub struct CheckEnd {
     pub end: AuditStatus,
 }
 
-/// Writes the report lines of one place.
+/// Writes the report lines of one place, which are those that an audit has there that checks this
+/// beside what every audit checks.
 ///
 /// If there are none, nothing is written. A content file is opened once, if some digest is named
 /// for it, and no other content is; each declaration, inventory and sidecar that the lines need is
@@ -35,6 +37,7 @@ pub struct CheckEnd {
 pub fn check<T: Tree, W: Write>(
     alloc: Global,
     store: &mut T,
+    further: Further,
     place: &Place,
     block: &mut Block,
     out: &mut W,
@@ -48,10 +51,10 @@ pub fn check<T: Tree, W: Write>(
         (W.contents out.new) result.found }
 
     // Of a store that tells its tree.
-    ensures told { WhereTold T.told T.state W.contents store.old store.new out.old out.new (λ call.
-        CheckEnds call place.now result.item result.found result.end) }
+    ensures told { WhereTold further T.told T.state W.contents store.old store.new out.old out.new
+        (λ call. CheckEnds call place.now result.item result.found result.end) }
 {
-    let pending = match item_at(alloc, store, None, place) {
+    let pending = match item_at(alloc, store, further, place) {
         Ok(Some(pending)) => pending,
         Ok(None) => {
             return CheckEnd {

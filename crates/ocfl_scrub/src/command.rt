@@ -1,5 +1,5 @@
 //! The commands `check` and `audit`: status and note.
-ghost use Rattle.std.specs.Prelude.{◌≡◌, ◌≢◌, ◌⊎◌, [], None, false, true};
+ghost use Rattle.std.specs.Prelude.{◌≡◌, ◌≢◌, ◌⊎◌, [], false, true};
 ghost use Rattle.ocfl_tree.specs.{Place.{Place as ModelPlace}, Name.{IsPlace}};
 ghost use Rattle.ocfl_report.specs.{Line.{found as found_in}, Text.{place_text, text}};
 ghost use Rattle.ocfl_rules.specs.{Audit.{audit as whole_audit}, Parts.{whole}};
@@ -11,20 +11,21 @@ use crate::checking::{AuditStatus, CheckEnd, check};
 use crate::note::Note;
 use crate::stop::ReportStop;
 use ocfl_digest::Block;
-use ocfl_report::{TextStop, read_place};
+use ocfl_report::{Further, TextStop, read_place};
 use ocfl_tree::Tree;
 use ocfl_walk::Fault;
 use std::alloc::Global;
 use std::io::Write;
 
-/// Checks the place with this path, written as in report lines, and gives the exit status with what
-/// is to be said: 0 without a finding, 1 with one, 2 if the path is not that of a place, 3 after
-/// a stop.
+/// Checks the place with this path, written as in report lines, as an audit does that checks this
+/// beside what every audit checks. Gives the exit status with what is to be said: 0 without a
+/// finding, 1 with one, 2 if the path is not that of a place, 3 after a stop.
 ///
 /// For a path that is not that of a place no call of the store is made, and nothing is written.
 pub fn checked<T: Tree, W: Write>(
     alloc: Global,
     store: &mut T,
+    further: Further,
     path: &str,
     block: &mut Block,
     out: &mut W,
@@ -39,23 +40,24 @@ pub fn checked<T: Tree, W: Write>(
     ensures silent { result.1 ≢ Note.Nothing → result.1 ≢ Note.OutputFailed → out.new ≡ out.old }
 
     // Of a store that tells its tree.
-    ensures told { WhereTold T.told T.state W.contents store.old store.new out.old out.new (λ call.
-        (p : ModelPlace) → IsPlace p → path.now ≡ place_text p
+    ensures told { WhereTold further T.told T.state W.contents store.old store.new out.old out.new
+        (λ call. (p : ModelPlace) → IsPlace p → path.now ≡ place_text p
         → ChecksWithNote call p result.0 result.1 ⊎ ((result.0 ≡ 3)
         × (result.1 ≡ Note.OutOfMemory) × (store.new ≡ store.old) × (out.new ≡ out.old))) }
 {
     match read_place(alloc, path.as_bytes()) {
-        Ok(place) => describe_check(check(alloc, store, &place, block, out)),
+        Ok(place) => describe_check(check(alloc, store, further, &place, block, out)),
         Err(TextStop::Bad) => (2, Note::BadPath),
         Err(TextStop::Memory) => (3, Note::OutOfMemory),
     }
 }
 
-/// Audits a whole storage root, and gives the exit status with what is to be said: 0 without a
-/// finding, 1 with one, 3 after a stop.
+/// Audits a whole storage root, and checks this beside what every audit checks. Gives the exit
+/// status with what is to be said: 0 without a finding, 1 with one, 3 after a stop.
 pub fn audited<T: Tree, W: Write>(
     alloc: Global,
     store: &mut T,
+    further: Further,
     block: &mut Block,
     out: &mut W,
 ) -> (u8, Note)
@@ -64,14 +66,15 @@ pub fn audited<T: Tree, W: Write>(
     ensures said { IsAuditSaid result.1 }
 
     // Of a store that tells its tree.
-    ensures told { WhereTold T.told T.state W.contents store.old store.new out.old out.new (λ call.
-        AuditsWithNote (λ ran. IsAuditNote ran.found ran.end result.0 result.1) call whole) }
-    ensures unfailing { WhereTold T.told T.state W.contents store.old store.new out.old out.new
-        (λ call. result.1 ≡ Note.Nothing → IsUnfailing call
-        → Writes call (text (whole_audit None call.root []))
-        × (result.0 ≡ status_of (found_in (whole_audit None call.root [])))) }
+    ensures told { WhereTold further T.told T.state W.contents store.old store.new out.old out.new
+        (λ call. AuditsWithNote (λ ran. IsAuditNote ran.found ran.end result.0 result.1) call
+        whole) }
+    ensures unfailing { WhereTold further T.told T.state W.contents store.old store.new out.old
+        out.new (λ call. result.1 ≡ Note.Nothing → IsUnfailing call
+        → Writes call (text (whole_audit call.further call.root []))
+        × (result.0 ≡ status_of (found_in (whole_audit call.further call.root [])))) }
 {
-    describe_audit(audit(alloc, store, block, out))
+    describe_audit(audit(alloc, store, further, block, out))
 }
 
 fn describe_check(end: CheckEnd) -> (u8, Note)

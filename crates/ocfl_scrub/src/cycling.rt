@@ -11,6 +11,7 @@ use crate::stop::ReportStop;
 use crate::taking::either;
 use ocfl_cursor::{Cursor, Limits, Refused, decode, encode};
 use ocfl_digest::Block;
+use ocfl_report::Further;
 use ocfl_tree::Tree;
 use ocfl_walk::Fault;
 use std::alloc::Global;
@@ -44,7 +45,8 @@ pub struct CycleEnd {
 }
 
 /// Makes runs from the first item on, one for each of these limits, until no item is left. Between
-/// two runs the cursor is written as its text and read again.
+/// two runs the cursor is written as its text and read again. Each run checks `further` beside what
+/// every audit checks.
 ///
 /// Each run takes the items after those of the run before, and what they write, joined, begins the
 /// report of the whole audit; it is all of that where the cycle has ended. Without limits there is
@@ -56,15 +58,16 @@ pub struct CycleEnd {
 pub fn cycle<T: Tree, W: Write>(
     alloc: Global,
     store: &mut T,
+    further: Further,
     limits: &[Limits],
     block: &mut Block,
     out: &mut W,
 ) -> CycleEnd
-    ensures { CyclesOver T.told T.state W.contents store.old store.new out.old out.new whole
-        limits.now result }
+    ensures { CyclesOver further T.told T.state W.contents store.old store.new out.old out.new
+        whole limits.now result }
 {
     let whole = Part::whole(alloc);
-    cycle_part(alloc, store, &whole, limits, block, out)
+    cycle_part(alloc, store, further, &whole, limits, block, out)
 }
 
 /// Does for a part what [`cycle`] does for the whole. The runs begin with the part's first item,
@@ -72,19 +75,20 @@ pub fn cycle<T: Tree, W: Write>(
 pub fn cycle_part<T: Tree, W: Write>(
     alloc: Global,
     store: &mut T,
+    further: Further,
     part: &Part,
     limits: &[Limits],
     block: &mut Block,
     out: &mut W,
 ) -> CycleEnd
-    ensures { CyclesOver T.told T.state W.contents store.old store.new out.old out.new
+    ensures { CyclesOver further T.told T.state W.contents store.old store.new out.old out.new
         (part_of part.now) limits.now result }
 {
-    let mut cursor = Cursor::new();
+    let mut cursor = Cursor::new(further);
     let mut runs = 0;
     let mut found = false;
     for one in limits {
-        let Ok(begun) = handed_on(alloc, &cursor, runs) else {
+        let Ok(begun) = handed_on(alloc, further, &cursor, runs) else {
             return cycle_end(
                 cursor,
                 runs,
@@ -115,13 +119,18 @@ pub fn cycle_part<T: Tree, W: Write>(
 
 /// What the next run begins with: a new cursor for the first, and for a further one the last run's
 /// cursor, as it is read from its text.
-fn handed_on(alloc: Global, cursor: &Cursor, runs: usize) -> Result<Cursor, Refused>
-    requires first { runs ≡ 0 → cursor.now ≡ new_cursor }
+fn handed_on(
+    alloc: Global,
+    further: Further,
+    cursor: &Cursor,
+    runs: usize,
+) -> Result<Cursor, Refused>
+    requires first { runs ≡ 0 → cursor.now ≡ new_cursor further }
     ensures same { IfOk result (λ begun. begun ≡ cursor.now) }
-    ensures further { IfErr result (λ why. 1 ≤ runs) }
+    ensures made { IfErr result (λ why. 1 ≤ runs) }
 {
     if runs == 0 {
-        return Ok(Cursor::new());
+        return Ok(Cursor::new(further));
     }
     let text = encode(alloc, cursor)?;
     decode(alloc, &text)

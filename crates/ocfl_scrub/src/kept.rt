@@ -14,7 +14,8 @@ pub(crate) struct Met {
 /// What a run keeps of its walk, so that the next one lists and reads nothing again.
 ///
 /// It holds what a walk holds and one item, no file's bytes. It is of use for a run of the same
-/// part of the same root that goes on from the cursor that the run before answered.
+/// part of the same root that goes on from the cursor that the run before answered. A run whose
+/// cursor has the other option does not use it.
 pub struct KeptWalk {
     pub(crate) met: Option<Met>,
 }

@@ -6,6 +6,7 @@
 //! ```
 //! use ocfl_digest::Block;
 //! use ocfl_folder::FsTree;
+//! use ocfl_report::Further;
 //! use ocfl_scrub::{Note, audited};
 //! use std::fs;
 //! use std::test::Fail;
@@ -16,13 +17,26 @@
 //!     let mut store = FsTree::at(&rt, "storage-root")?;
 //!     let mut block = Block::new(rt.alloc())?;
 //!     let mut report = Vec::new(rt.alloc());
-//!     let (status, note) = audited(rt.alloc(), &mut store, &mut block, &mut report);
+//!     let (status, note) = audited(
+//!         rt.alloc(),
+//!         &mut store,
+//!         Further::Nothing,
+//!         &mut block,
+//!         &mut report,
+//!     );
 //!     assert!(rt; status == 0 && matches!(note, Note::Nothing));
 //!     assert!(rt; report.as_slice() == b"ok\t.\t-\n".as_slice());
 //!     fs::remove_dir_all(&rt, "storage-root")?;
 //!     Ok(())
 //! }
 //! ```
+//!
+//! # What an audit checks
+//!
+//! Each audit, check and cycle is given a `Further`: what it checks beside what every audit checks.
+//! A run has it from its cursor, and the cursor that it answers has the same. All that follows is
+//! proved for each of them (`further` of `Call`): with `Further::Inventories` the inventories in
+//! version directories are items, whose files are hashed, cut and counted as content is.
 //!
 //! # What is proved of a check
 //!
@@ -115,6 +129,7 @@
 //!   not allow to start, and reads only inventories above it (`LooksAbove`). A run that goes down
 //!   first would write the same by the same calls from that item on (`GoesOnFrom`), so the laws
 //!   of joining hold of it too (`each_run_that_goes_on_has_a_report` of `ocfl_laws`).
+//! - `run_on` uses no walk of an audit with the other option (`other`).
 //! - `run_part` takes the greatest cut that the limits allow of the part's items above the cursor's
 //!   place (`RunsWithin`). It ends the cycle exactly if no item of the part is left after the cut.
 //! - It begins with the part's first item if the cursor is at its start, has ended, or has a place
@@ -166,6 +181,8 @@
 //! - A run begins with the cursor whose text the bytes are, and without a reader with a new one. It
 //!   hands back the text of the cursor that it answered. The run's summary has that cursor's cycle
 //!   and runs, and the run's own cost (`handed_back`).
+//! - A run refuses the cursor of an audit with the other option, and no other cursor for that
+//!   (`OtherAudit` of `refused` and `told`).
 //!
 //! Over a store that tells its tree each command does exactly what `audited`, `checked`, `run` and
 //! `cycle` say. Status and text are those of what they answered (`told`, `Performs`). A note is
@@ -183,7 +200,8 @@
 //!   (`handed_back`). What it hands back is the text of a cursor that keeps its rule, so the next
 //!   run reads it (`keeps` of `HandedBack`).
 //! - A cursor that is refused to a part is refused for the first reason that applies (`refused`).
-//!   No call of the store is made then, and nothing is written (`silent`).
+//!   That it is of another part comes before that it is of an audit with the other option. No call
+//!   of the store is made then, and nothing is written (`silent`).
 #![tactic(auto)]
 
 mod auditing;

@@ -1,9 +1,9 @@
 //! What a command says on standard error.
 ghost use Rattle.std.specs.Prelude.{◌≡◌, Some};
-ghost use Rattle.ocfl_scrub.specs.NoteText.{end_text, note_text};
+ghost use Rattle.ocfl_scrub.specs.NoteText.{end_text, note_text, option_text};
 
 use ocfl_cursor::{PartRefused, Refused};
-use ocfl_report::DisplayPlace;
+use ocfl_report::{DisplayPlace, Further};
 use ocfl_tree::Place;
 use std::fmt;
 
@@ -52,6 +52,9 @@ pub enum Note {
     /// The bytes are refused as the cursor of the part or, if they are to be shown, as that of any
     /// part. The reason is never that memory ran out.
     PartCursorRefused(PartRefused),
+    /// The cursor is of an audit that checks this, and the run that was asked for checks something
+    /// else.
+    OtherAudit(Further),
 }
 
 impl fmt::Display for Note {
@@ -82,7 +85,22 @@ impl fmt::Display for Note {
             Note::CursorFileFailed => f.write_str("cursor file failed"),
             Note::CursorRefused(why) => write!(f, "cursor refused: {why}"),
             Note::PartCursorRefused(why) => write!(f, "cursor refused: {why}"),
+            Note::OtherAudit(further) => write!(
+                f,
+                "cursor refused: the cursor is of an audit {}",
+                option_words(*further)
+            ),
         }
+    }
+}
+
+// The option that an audit has.
+fn option_words(further: Further) -> &'static str
+    ensures { result.now ≡ option_text further }
+{
+    match further {
+        Further::Nothing => "without --inventories",
+        Further::Inventories => "with --inventories",
     }
 }
 

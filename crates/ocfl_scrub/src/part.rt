@@ -8,6 +8,7 @@ ghost use Rattle.ocfl_scrub.specs.Starting.{entry, first_place as first_of_part,
 ghost use Rattle.ocfl_tree.specs.Store.{IfTold};
 
 use ocfl_cursor::PartEnds;
+use ocfl_report::Further;
 use ocfl_scope::Scope;
 use ocfl_tree::{Place, Tree};
 use ocfl_walk::{End, Fault, Walk};
@@ -106,31 +107,33 @@ fn end_again(end: &Option<Place>) -> Result<Option<Place>, AllocError>
     }
 }
 
-/// Begins the walk over a part's items above a place, or over all of them if no place is given.
+/// Begins the walk over a part's items above a place, or over all of them if no place is given, for
+/// an audit that checks this beside what every audit checks.
 ///
 /// It goes down to that place. If the part begins later, it goes down to the directory of the
 /// part's first place, so that the walk meets that place too.
 pub(crate) fn set_out<T: Tree>(
     alloc: Global,
     store: &mut T,
+    further: Further,
     part: &Part,
     above: Option<&Place>,
 ) -> Result<Walk, Fault>
     ensures told { IfTold T.told (T.state store.old) (λ root.
         let above = option_map (λ p. p.now) above.entry in MatchResult result
-        (λ walk. GoesDown None root (T.state store.old) (T.state store.new)
+        (λ walk. GoesDown further root (T.state store.old) (T.state store.new)
         (entry (part_of part.now) above)
-        × Stands None root walk (stand root (part_of part.now) above))
-        (λ why. GoDownFails None root (T.state store.old) (T.state store.new)
+        × Stands further root walk (stand root (part_of part.now) above))
+        (λ why. GoDownFails further root (T.state store.old) (T.state store.new)
         (entry (part_of part.now) above) why)) }
 {
     let Some(first) = part.first_place() else {
-        return Walk::start(alloc, store, None, above);
+        return Walk::start(alloc, store, further, above);
     };
     if is_before(above, first) {
-        Walk::start_at(alloc, store, None, first)
+        Walk::start_at(alloc, store, further, first)
     } else {
-        Walk::start(alloc, store, None, above)
+        Walk::start(alloc, store, further, above)
     }
 }
 

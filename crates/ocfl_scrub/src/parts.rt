@@ -2,7 +2,7 @@
 //! on it; the other laws are those of `ocfl_laws`.
 ghost use Rattle.std.specs.Prelude.{◌≡◌, ◌≤◌, ◌+◌, ◌++◌, ◌/◌, ℕ, List, None, All, map};
 ghost use Rattle.ocfl_tree.specs.StorageRoot.{StorageRoot};
-ghost use Rattle.ocfl_report.specs.Text.{text};
+ghost use Rattle.ocfl_report.specs.{Text.{text}, declared.further.Further.{Further}};
 ghost use Rattle.ocfl_rules.specs.{Audit.{audit, total_cost}, Parts.{Part, within}};
 ghost use Rattle.ocfl_rules.specs.Runs.{IsAtLeast, total_files};
 ghost use Rattle.ocfl_cursor.specs.Cursor.{Cursor, ended};
@@ -17,18 +17,19 @@ ghost use Rattle.ocfl_scrub.specs.Joining.{AreOneCycle, PartRun, cursor_after, l
 /// Of the runs that did not stop there are at most cost / B + files / N + 1, whether or not the
 /// cycle has ended, if each budget is at least B and each limit on files at least N.
 pub fn runs_that_stop_join()
-    ensures reports { (root : StorageRoot) (part : Part) (c : Cursor) (runs : List PartRun)
-        → place_in c.state ≡ None → AreOneCycle root part c runs
+    ensures reports { (further : Further) (root : StorageRoot) (part : Part) (c : Cursor)
+        (runs : List PartRun) → place_in c.state ≡ None → AreOneCycle further root part c runs
         → reports_of runs ++ text (left_by (cursor_after c runs).state
-        (within part (audit None root (unread_together root runs))))
-        ≡ text (within part (audit None root (unread_together root runs))) }
-    ensures ended { (root : StorageRoot) (part : Part) (c : Cursor) (runs : List PartRun)
-        → place_in c.state ≡ None → AreOneCycle root part c runs
+        (within part (audit further root (unread_together further root runs))))
+        ≡ text (within part (audit further root (unread_together further root runs))) }
+    ensures ended { (further : Further) (root : StorageRoot) (part : Part) (c : Cursor)
+        (runs : List PartRun) → place_in c.state ≡ None → AreOneCycle further root part c runs
         → (cursor_after c runs).state ≡ ended
-        → reports_of runs ≡ text (within part (audit None root (unread_together root runs))) }
-    ensures few { (root : StorageRoot) (part : Part) (c : Cursor) (runs : List PartRun)
-        → place_in c.state ≡ None → AreOneCycle root part c runs → (b n : ℕ) → 1 ≤ b → 1 ≤ n
-        → All (IsAtLeast b n) (map (λ r. r.limits) runs) → unstopped runs
-        ≤ total_cost (within part (audit None root (unread_together root runs))) / b
-        + total_files (within part (audit None root (unread_together root runs))) / n + 1 }
+        → reports_of runs
+        ≡ text (within part (audit further root (unread_together further root runs))) }
+    ensures few { (further : Further) (root : StorageRoot) (part : Part) (c : Cursor)
+        (runs : List PartRun) → place_in c.state ≡ None → AreOneCycle further root part c runs
+        → (b n : ℕ) → 1 ≤ b → 1 ≤ n → All (IsAtLeast b n) (map (λ r. r.limits) runs)
+        → let all = within part (audit further root (unread_together further root runs)) in
+        unstopped runs ≤ total_cost all / b + total_files all / n + 1 }
 {}

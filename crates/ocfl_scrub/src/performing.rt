@@ -4,7 +4,7 @@ ghost use Rattle.std.specs.declared.alloc.Global.{Global};
 ghost use Rattle.ocfl_cursor.specs.Cursor.{Cursor as CursorModel};
 ghost use Rattle.ocfl_scrub.specs.{Call.{WhereTold}, Running.{limits_of}};
 ghost use Rattle.ocfl_scrub.specs.Noting.{IsCycleNote, IsCycleSaid, IsRanSaid, IsRunNote, IsRunSaid, IsShowSaid, IsStatus, IsStoredNote, EndsUnread, IsPartRefusedNote, IsUnreadNote, IsUnshownNote, run_summary as summary_of_run, status_of};
-ghost use Rattle.ocfl_scrub.specs.Performing.{AnswersOnAnyStore, BeginsWith, CyclePerformed, HandsBack, IsKept, IsSaid, IsSilent, IsWhole, IsWithoutFile, Performs, RefusesRightly, RunPerformed, ShowsWith, StopsWith, UnshownSaid, WritesReport, bytes_of, equal_limits as limits_of_each};
+ghost use Rattle.ocfl_scrub.specs.Performing.{AnswersOnAnyStore, CyclePerformed, HandsBack, IsFirst, IsKept, IsSaid, IsSilent, IsWhole, IsWithoutFile, Performs, RefusesRightly, RunPerformed, ShowsWith, StopsWith, UnshownSaid, WritesReport, bytes_of, equal_limits as limits_of_each, further_of};
 
 use crate::command::{audited, checked, status, stop_note};
 use crate::cycling::{CycleEnd, CycleStatus, cycle};
@@ -16,7 +16,7 @@ use ocfl_cursor::{
 };
 use ocfl_deed::Deed;
 use ocfl_digest::Block;
-use ocfl_report::write_all_of;
+use ocfl_report::{Further, write_all_of};
 use ocfl_tree::Tree;
 use std::alloc::{AllocError, Global};
 use std::io::{Read, Write};
@@ -26,7 +26,7 @@ use std::io::{Read, Write};
 pub struct Performed {
     /// The exit status: 0 without a finding, 1 with one. 2 if the path is not that of a place, or
     /// a branch has no item. 3 after a stop, for a worn cursor, or if no cursor could be read. 4 if
-    /// the bytes are refused as a cursor.
+    /// the bytes are refused as a cursor, or the cursor is of an audit with the other option.
     pub status: u8,
     /// The note to print, which may say nothing.
     pub note: Note,
@@ -43,8 +43,8 @@ pub struct Performed {
 /// if the cursor was worn, or there was no memory for its text.
 ///
 /// If bytes are refused as a cursor, or could not be read, or a path is not that of a place, no
-/// call of the store is made, and nothing is written. A cursor that is shown ends with status 0
-/// exactly if nothing is said.
+/// call of the store is made, and nothing is written. A run also refuses the cursor of an audit
+/// with the other option. A cursor that is shown ends with status 0 exactly if nothing is said.
 pub fn perform<T: Tree, R: Read, W: Write>(
     alloc: Global,
     store: &mut T,
@@ -56,19 +56,23 @@ pub fn perform<T: Tree, R: Read, W: Write>(
     ensures any_store { AnswersOnAnyStore W.contents store.old store.new out.old out.new
         (bytes_of R.remaining reader.entry) deed.now result }
     ensures said { IsSaid deed.now result.note }
-    ensures refused { RefusesRightly (bytes_of R.remaining reader.entry) result.note }
+    ensures refused { RefusesRightly deed.now (bytes_of R.remaining reader.entry) result.note }
     ensures handed_back { HandsBack (bytes_of R.remaining reader.entry) deed.now
         result.status result.note result.cursor }
-    ensures told { WhereTold T.told T.state W.contents store.old store.new out.old out.new (λ call.
-        Performs call (bytes_of R.remaining reader.entry) deed.now
+    ensures told { WhereTold (further_of deed.now) T.told T.state W.contents store.old store.new
+        out.old out.new (λ call. Performs call (bytes_of R.remaining reader.entry) deed.now
         result.status result.note result.cursor) }
 {
     match deed {
-        Deed::Audit => without_cursor(audited(alloc, store, block, out)),
-        Deed::Check(path) => without_cursor(checked(alloc, store, path.as_str(), block, out)),
-        Deed::Run(limits) => perform_run(alloc, store, *limits, reader, block, out),
-        Deed::Cycle(limits, count) => {
-            without_cursor(perform_cycle(alloc, store, *limits, *count, block, out))
+        Deed::Audit(further) => without_cursor(audited(alloc, store, *further, block, out)),
+        Deed::Check(further, path) => {
+            without_cursor(checked(alloc, store, *further, path.as_str(), block, out))
+        }
+        Deed::Run(further, limits) => {
+            perform_run(alloc, store, *further, *limits, reader, block, out)
+        }
+        Deed::Cycle(further, limits, count) => {
+            without_cursor(perform_cycle(alloc, store, *further, *limits, *count, block, out))
         }
         Deed::Show => without_cursor(show_cursor(alloc, reader, out)),
     }
@@ -88,14 +92,31 @@ pub(crate) fn without_cursor(said: (u8, Note)) -> Performed
     }
 }
 
-// The cursor that a run begins with.
-fn first_cursor<R: Read>(alloc: Global, reader: Option<&mut R>) -> Result<Cursor, CursorStop>
-    ensures cursor { IfOk result (BeginsWith (bytes_of R.remaining reader.entry)) }
+// The cursor that is stored, and without a reader a new one of an audit with this option.
+fn first_cursor<R: Read>(
+    alloc: Global,
+    further: Further,
+    reader: Option<&mut R>,
+) -> Result<Cursor, CursorStop>
+    ensures cursor { IfOk result (IsFirst further (bytes_of R.remaining reader.entry)) }
     ensures refused { IfErr result (StopsWith (bytes_of R.remaining reader.entry)) }
 {
     match reader {
         Some(reader) => read_cursor(alloc, reader),
-        None => Ok(Cursor::new()),
+        None => Ok(Cursor::new(further)),
+    }
+}
+
+// The cursor, if it is of an audit with this option, and else the option that it has.
+pub(crate) fn of_audit(cursor: Cursor, further: Further) -> Result<Cursor, Further>
+    ensures same { IfOk result (λ same. (same ≡ cursor) × (cursor.further ≡ further)) }
+    ensures other { IfErr result (λ other. (cursor.further ≡ other) × (other ≢ further)) }
+{
+    let option = cursor.further();
+    if option == further {
+        Ok(cursor)
+    } else {
+        Err(option)
     }
 }
 
@@ -115,24 +136,30 @@ fn describe_unread(why: CursorStop) -> (u8, Note)
 fn perform_run<T: Tree, R: Read, W: Write>(
     alloc: Global,
     store: &mut T,
+    further: Further,
     limits: Limits,
     reader: Option<&mut R>,
     block: &mut Block,
     out: &mut W,
 ) -> Performed
     ensures any_store { AnswersOnAnyStore W.contents store.old store.new out.old out.new
-        (bytes_of R.remaining reader.entry) (Deed.Run limits) result }
+        (bytes_of R.remaining reader.entry) (Deed.Run further limits) result }
     ensures said { IsRunSaid result.note }
-    ensures refused { RefusesRightly (bytes_of R.remaining reader.entry) result.note }
-    ensures handed_back { HandsBack (bytes_of R.remaining reader.entry) (Deed.Run limits)
+    ensures refused { RefusesRightly (Deed.Run further limits)
+        (bytes_of R.remaining reader.entry) result.note }
+    ensures handed_back { HandsBack (bytes_of R.remaining reader.entry) (Deed.Run further limits)
         result.status result.note result.cursor }
-    ensures told { WhereTold T.told T.state W.contents store.old store.new out.old out.new (λ call.
-        RunPerformed call (bytes_of R.remaining reader.entry)
+    ensures told { WhereTold further T.told T.state W.contents store.old store.new out.old out.new
+        (λ call. RunPerformed call (bytes_of R.remaining reader.entry)
         (limits_of limits) result.status result.note result.cursor) }
 {
-    let cursor = match first_cursor(alloc, reader) {
-        Ok(cursor) => cursor,
+    let read = match first_cursor(alloc, further, reader) {
+        Ok(read) => read,
         Err(why) => return without_cursor(describe_unread(why)),
+    };
+    let cursor = match of_audit(read, further) {
+        Ok(cursor) => cursor,
+        Err(other) => return without_cursor((4, Note::OtherAudit(other))),
     };
     let end = run(alloc, store, cursor, limits, block, out);
     let text = encode(alloc, &end.cursor);
@@ -212,6 +239,7 @@ fn run_summary(cursor: &Cursor, spent: u64, ended: bool) -> Note
 fn perform_cycle<T: Tree, W: Write>(
     alloc: Global,
     store: &mut T,
+    further: Further,
     limits: Limits,
     count: usize,
     block: &mut Block,
@@ -223,13 +251,13 @@ fn perform_cycle<T: Tree, W: Write>(
     ensures lines { WritesReport result.0 result.1 (W.contents out.old) (W.contents out.new) }
 
     // Of a store that tells its tree.
-    ensures told { WhereTold T.told T.state W.contents store.old store.new out.old out.new (λ call.
-        CyclePerformed call (limits_of_each limits count) result.0 result.1) }
+    ensures told { WhereTold further T.told T.state W.contents store.old store.new out.old out.new
+        (λ call. CyclePerformed call (limits_of_each limits count) result.0 result.1) }
 {
     let Ok(each) = equal_limits(alloc, limits, count) else {
         return (3, Note::OutOfMemory);
     };
-    describe_cycle(cycle(alloc, store, &each, block, out))
+    describe_cycle(cycle(alloc, store, further, &each, block, out))
 }
 
 fn equal_limits(alloc: Global, limits: Limits, count: usize) -> Result<Vec<Limits>, AllocError>
@@ -303,7 +331,7 @@ fn show_cursor<R: Read, W: Write>(alloc: Global, reader: Option<&mut R>, out: &m
     ensures status { IsStatus result.0 result.1 }
     ensures ends { (result.0 ≡ 0) ↔ (result.1 ≡ Note.Nothing) }
     ensures said { IsShowSaid result.1 }
-    ensures refused { RefusesRightly (bytes_of R.remaining reader.entry) result.1 }
+    ensures refused { RefusesRightly Deed.Show (bytes_of R.remaining reader.entry) result.1 }
     ensures unshown { UnshownSaid Deed.Show (bytes_of R.remaining reader.entry) result.1 }
     ensures without_file { IsWithoutFile (bytes_of R.remaining reader.entry) Deed.Show result.1 }
     ensures shows { ShowsWith (bytes_of R.remaining reader.entry) result.1 (W.contents out.old)

@@ -5,10 +5,11 @@ ghost use Rattle.ocfl_cursor.specs.State.{state_of};
 ghost use Rattle.ocfl_tree.specs.{Place.{Place as Spot}, Store.{IfTold}};
 ghost use Rattle.ocfl_rules.specs.Parts.{whole};
 ghost use Rattle.ocfl_scrub.specs.Call.{WhereTold};
-ghost use Rattle.ocfl_scrub.specs.Keeping.{IsReady, RunsOn, met_at};
+ghost use Rattle.ocfl_report.specs.declared.further.Further.{Further as ModelFurther};
+ghost use Rattle.ocfl_scrub.specs.Keeping.{HasOption, HasOther, IsReady, RunsOn, met_at};
 ghost use Rattle.ocfl_scrub.specs.Passes.{IsPass, Meets, PassesOn, TakesNothing};
 ghost use Rattle.ocfl_scrub.specs.Beginning.{Begins, IsShort};
-ghost use Rattle.ocfl_scrub.specs.Running.{IsWorn, RunsOnAnyStore, RunsOver, limits_of, place_in, state_after};
+ghost use Rattle.ocfl_scrub.specs.Running.{IsWorn, RunsFromWithin, RunsOnAnyStore, RunsOver, limits_of, place_in, state_after};
 ghost use Rattle.ocfl_scrub.specs.Starting.{part_of};
 
 use crate::kept::{KeptWalk, Met};
@@ -17,6 +18,7 @@ use crate::stop::ReportStop;
 use crate::taking::{either, take_item};
 use ocfl_cursor::{Cursor, Limits, Meter, State};
 use ocfl_digest::Block;
+use ocfl_report::Further;
 use ocfl_tree::laws::every_place_has_names;
 use ocfl_tree::{Place, Tree};
 use ocfl_walk::{Fault, Pending};
@@ -54,7 +56,8 @@ pub struct RunEnd {
 /// only while less than the budget is spent and fewer files than their limit are started. An item
 /// that is no such file is taken in any case.
 ///
-/// A cursor that has ended begins the next cycle. The lines of an item go out as one piece before
+/// It checks what the cursor's audit checks, and the cursor keeps that. A cursor that has ended
+/// begins the next cycle. The lines of an item go out as one piece before
 /// the next item is looked at. A file that cannot be read is reported and stops nothing. After a
 /// stop the cursor is after the last item whose lines went out whole, and without such an item
 /// where the run began; what was spent, started and found is that of those items alone.
@@ -103,7 +106,8 @@ pub fn run_part<T: Tree, W: Write>(
 /// If the limits ended the run before from whose cursor this one goes on, it goes on with that
 /// run's walk: it lists no directory and reads no inventory on the way down to where it begins,
 /// nor any that was listed or read before. After a run that ended, stopped or was not made no walk
-/// is kept, and the next one begins a walk.
+/// is kept, and the next one begins a walk. It also begins one if the walk that was kept is of an
+/// audit with the other option.
 pub fn run_on<T: Tree, W: Write>(
     alloc: Global,
     store: &mut T,
@@ -116,23 +120,36 @@ pub fn run_on<T: Tree, W: Write>(
 ) -> RunEnd
     ensures any_store { RunsOnAnyStore W.contents store.old store.new out.old out.new
         cursor limits result }
-    ensures told { WhereTold T.told T.state W.contents store.old store.new out.old out.new (λ call.
-        result.end ≢ RunStatus.Worn
-        → IsReady call.root (part_of part.now) (place_in cursor.state) kept.old
+    ensures told { WhereTold cursor.further T.told T.state W.contents store.old store.new out.old
+        out.new (λ call. result.end ≢ RunStatus.Worn
+        → IsReady call.further call.root (part_of part.now) (place_in cursor.state) kept.old
         → RunsOn call (part_of part.now) (met_at kept.old) cursor (limits_of limits) result) }
 
-    ensures root { WhereTold T.told T.state W.contents store.old store.new out.old out.new (λ call.
-        IsReady call.root (part_of part.now) (place_in cursor.state) kept.old
+    ensures root { WhereTold cursor.further T.told T.state W.contents store.old store.new out.old
+        out.new (λ call.
+        IsReady call.further call.root (part_of part.now) (place_in cursor.state) kept.old
         → call.after.tree ≡ call.root) }
 
+    // Of an audit with the other option no walk is used.
+    ensures other { WhereTold cursor.further T.told T.state W.contents store.old store.new out.old
+        out.new (λ call. result.end ≢ RunStatus.Worn → HasOther call.further kept.old.met
+        → RunsFromWithin call (part_of part.now) cursor (limits_of limits) result) }
+    ensures other_ready { WhereTold cursor.further T.told T.state W.contents store.old store.new
+        out.old out.new (λ call. HasOther call.further kept.old.met
+        → IsReady call.further call.root (part_of part.now) (place_in result.cursor.state)
+        kept.new) }
+
     // The next run may go on with what is kept, and the walk is kept exactly if limits ended it.
-    ensures ready { WhereTold T.told T.state W.contents store.old store.new out.old out.new (λ call.
-        IsReady call.root (part_of part.now) (place_in cursor.state) kept.old
-        → IsReady call.root (part_of part.now) (place_in result.cursor.state) kept.new) }
+    ensures ready { WhereTold cursor.further T.told T.state W.contents store.old store.new out.old
+        out.new (λ call.
+        IsReady call.further call.root (part_of part.now) (place_in cursor.state) kept.old
+        → IsReady call.further call.root (part_of part.now) (place_in result.cursor.state)
+        kept.new) }
     ensures spent { result.end ≡ RunStatus.Spent → (p : Spot) × (met_at kept.new ≡ Some p) }
     ensures unspent { result.end ≢ RunStatus.Spent → kept.new.met ≡ None }
 {
-    let met = kept.met.take();
+    let further = cursor.further();
+    let met = used(kept.met.take(), further);
     let (start, from) = match begin(cursor) {
         Ok(begun) => begun,
         Err(worn) => {
@@ -152,7 +169,7 @@ pub fn run_on<T: Tree, W: Write>(
         found,
         end,
         met,
-    } = match meet(alloc, store, part, met, from.as_ref()) {
+    } = match meet(alloc, store, further, part, met, from.as_ref()) {
         Ok(Some(met)) => pass_on(alloc, store, part, met, from, limits, block, out),
         Ok(None) => no_pass(from, RunStatus::Ended),
         Err(why) => no_pass(from, RunStatus::Stopped(ReportStop::Fault(why))),
@@ -222,24 +239,38 @@ struct Pass {
     met: Option<Met>,
 }
 
+// Of a walk that was kept, what a run with this option goes on with: none of an audit with the
+// other.
+fn used(kept: Option<Met>, further: Further) -> Option<Met>
+    ensures same { HasOption further kept → result ≡ kept }
+    ensures other { HasOther further kept → result ≡ None }
+{
+    match kept {
+        Some(met) if met.walk.further() == further => Some(met),
+        _ => None,
+    }
+}
+
 // The first item above a place, and the walk that met it: the one that is kept, or one that begins
 // there. `None` if no item is left.
 fn meet<T: Tree>(
     alloc: Global,
     store: &mut T,
+    further: Further,
     part: &Part,
     kept: Option<Met>,
     above: Option<&Place>,
 ) -> Result<Option<Met>, Fault>
     ensures { IfTold T.told (T.state store.old) (λ root. let from =
         option_map (λ p. p.now) above.entry in MatchResult result
-        (λ met. Meets root (part_of part.now) from kept met (T.state store.old) (T.state store.new))
-        (λ why. (kept ≡ None) × TakesNothing root (part_of part.now) from
+        (λ met. Meets further root (part_of part.now) from kept met (T.state store.old)
+        (T.state store.new))
+        (λ why. (kept ≡ None) × TakesNothing further root (part_of part.now) from
         (RunStatus.Stopped (ReportStop.Fault why)) (T.state store.old) (T.state store.new))) }
 {
     let walk = match kept {
         Some(met) => return Ok(Some(met)),
-        None => set_out(alloc, store, part, above)?,
+        None => set_out(alloc, store, further, part, above)?,
     };
     let (walk, next) = walk.next_within(store, &part.end)?;
     match next {
@@ -262,7 +293,8 @@ fn pass_on<T: Tree, W: Write>(
 ) -> Pass
     requires short { IsShort from }
     ensures any_store { IsPass (W.contents out.old) (W.contents out.new) limits result }
-    ensures told { WhereTold T.told T.state W.contents store.old store.new out.old out.new (λ call.
+    ensures told { (further : ModelFurther) → WhereTold further T.told T.state W.contents
+        store.old store.new out.old out.new (λ call.
         PassesOn call (part_of part.now) met from (limits_of limits) result) }
 {
     let mut walk = met.walk;
@@ -283,11 +315,11 @@ fn pass_on<T: Tree, W: Write>(
             }
             Err(why) => break (RunStatus::Stopped(why), None),
         }
-        let (further, next) = match walk.next_within(store, &part.end) {
+        let (ahead, next) = match walk.next_within(store, &part.end) {
             Ok(step) => step,
             Err(why) => break (RunStatus::Stopped(ReportStop::Fault(why)), None),
         };
-        walk = further;
+        walk = ahead;
         item = match next {
             Some(next) => next,
             None => break (RunStatus::Ended, None),

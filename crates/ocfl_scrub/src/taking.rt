@@ -1,5 +1,6 @@
 //! One item: it is judged, and its lines go out as one piece.
-ghost use Rattle.std.specs.Prelude.{◌≡◌, ◌≢◌, ◌⊎◌, ◌||◌, IfErr, IfOk, MatchResult, None};
+ghost use Rattle.std.specs.Prelude.{◌≡◌, ◌≢◌, ◌⊎◌, ◌||◌, IfErr, IfOk, MatchResult};
+ghost use Rattle.ocfl_report.specs.declared.further.Further.{Further};
 ghost use Rattle.ocfl_item.specs.{Judging.{CostFits}, Pending.{IsPending}};
 ghost use Rattle.ocfl_scrub.specs.{Call.{WhereTold}, Taking.{Misses, Takes, WritesLines}};
 
@@ -43,8 +44,9 @@ pub(crate) fn take_item<T: Tree, W: Write>(
     ensures unwritten { IfErr result (λ why. why ≢ ReportStop.Output → out.new ≡ out.old) }
 
     // Of a store that tells its tree.
-    ensures told { WhereTold T.told T.state W.contents store.old store.new out.old out.new (λ call.
-        IsPending None call.root pending → MatchResult result
+    ensures told { (further : Further) → WhereTold further T.told T.state W.contents
+        store.old store.new out.old out.new (λ call.
+        IsPending call.further call.root pending → MatchResult result
         (λ taken. Takes call pending.place taken.cost taken.found)
         (λ why. Misses call pending.place why)) }
 {

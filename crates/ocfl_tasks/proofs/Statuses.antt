@@ -28,6 +28,7 @@ status_within s note.CursorWorn e = omega arith
 status_within s note.CursorFileFailed e = omega arith
 status_within s (note.CursorRefused why) (e, not) = omega arith
 status_within s (note.PartCursorRefused why) (e, not) = omega arith
+status_within s (note.OtherAudit further) e = omega arith
 
 -- nor does a scope that is not found
 pub stop_within : (why : ScopeStop) → stop_status why ≤ 4

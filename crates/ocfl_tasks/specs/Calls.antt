@@ -7,6 +7,7 @@ use Rattle.ocfl_report.specs.Text.{place_text}
 use Rattle.ocfl_cursor.specs.Refused.{refused_text}
 use Rattle.ocfl_deed.specs.declared.deed.Deed.{Deed}
 use Rattle.ocfl_deed.specs.declared.deed.Deed.TheVariants as deed
+use Rattle.ocfl_terminal.specs.Paths.{no_place_text}
 use Rattle.ocfl_scrub.specs.NoteText.{note_text}
 use Rattle.ocfl_scrub.specs.declared.note.Note.{Note}
 use Rattle.ocfl_scrub.specs.declared.note.Note.TheVariants as note
@@ -53,12 +54,17 @@ abbrev pub reason_of : Note → Option Text → List TaskCall
 reason_of (note.StoppedAt place) (Some why) = Said (place_text place ++ codes ": " ++ why) ∷ []
 reason_of n why = []
 
--- what is said at the end of a deed. Of a check of one path it is said which path that is, and why it
--- is that of no place, in these words
+-- why the path of a check names no place
+abbrev pub words_on_path : Deed → Text
+words_on_path (deed.Check further path) = no_place_text (string_bytes path)
+words_on_path d = []
+
+-- what is said at the end of a deed. Of a check it is said which path has no item, and of a path that
+-- names no place why that is so, in these words
 abbrev pub end_calls : Deed → Note → Option Text → Text → List TaskCall
 end_calls d note.Nothing why words = []
-end_calls (deed.Check path) note.NoItem why words = Said (codes "no item at " ++ string_bytes path) ∷ []
-end_calls (deed.Check path) note.BadPath why words = Said (note_text note.BadPath) ∷ Said words ∷ []
+end_calls (deed.Check further path) note.NoItem why words = Said (codes "no item at " ++ string_bytes path) ∷ []
+end_calls (deed.Check further path) note.BadPath why words = Said (note_text note.BadPath) ∷ Said words ∷ []
 end_calls d n why words = Said (note_text n) ∷ reason_of n why
 
 -- what is said of a cursor's file that lies in the storage root, or of which that is not known, as memory was

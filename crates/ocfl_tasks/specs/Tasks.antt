@@ -9,7 +9,7 @@ use Rattle.ocfl_deed.specs.declared.deed.Deed.{Deed}
 use Rattle.ocfl_deed.specs.declared.deed.Deed.TheVariants as deed
 use Rattle.ocfl_scope.specs.declared.scope.Scope.{Scope}
 use Rattle.ocfl_arguments.specs.declared.task.Task.{Task}
-use Rattle.ocfl_scrub.specs.{Call.{WhereTold}, Performing.{AnswersOnAnyStore}}
+use Rattle.ocfl_scrub.specs.{Call.{WhereTold}, Performing.{AnswersOnAnyStore, further_of}}
 use Rattle.ocfl_scrub.specs.declared.{note.Note.{Note}, performing.Performed.{Performed}}
 use Rattle.ocfl_scrub.specs.Scoping.{HandsBackIn, IsSaidIn, PerformsIn, RefusesRightlyIn}
 use Rattle.ocfl_scrub.specs.declared.note.Note.TheVariants as note
@@ -34,7 +34,7 @@ pub record IsPerformed {S O : Type 0} (told : Bool) (state : S → Store) (conte
   pub said_is : IsSaidIn d w said.note
   pub refused : RefusesRightlyIn d w known said.note
   pub handed_back : HandsBackIn d w known said.status said.note said.cursor
-  pub of_told : WhereTold told state contents before after old new (λ call. PerformsIn call d w known said.status said.note said.cursor)
+  pub of_told : WhereTold (further_of d) told state contents before after old new (λ call. PerformsIn call d w known said.status said.note said.cursor)
 
 -- what a task ends with whose deed ended so, and whose cursor was put in its place, or was not
 abbrev pub EndsWith : Performed → Bool → TaskEnd → Type 0
@@ -72,9 +72,9 @@ pub record HasNotBegun (told : Bool) (file : Option (String Global)) (old new : 
 
 -- reads more than a file or a place
 abbrev pub is_long : Deed → Bool
-is_long deed.Audit = true
-is_long (deed.Run limits) = true
-is_long (deed.Cycle limits runs) = true
+is_long (deed.Audit further) = true
+is_long (deed.Run further limits) = true
+is_long (deed.Cycle further limits runs) = true
 is_long _ = false
 
 -- progress goes to standard error, and shares a terminal with the report only then

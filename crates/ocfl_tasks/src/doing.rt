@@ -194,8 +194,8 @@ pub fn say_end<C: TaskCalls>(
 {
     match (note, deed) {
         (Note::Nothing, _) => {}
-        (Note::NoItem, Deed::Check(path)) => calls.say(Line::NoItemAt(path.as_str())),
-        (Note::BadPath, Deed::Check(_)) => {
+        (Note::NoItem, Deed::Check(_, path)) => calls.say(Line::NoItemAt(path.as_str())),
+        (Note::BadPath, Deed::Check(_, _)) => {
             calls.say(Line::Note(note));
             calls.say(Line::Words(words));
         }

@@ -1,7 +1,8 @@
 //! Doing a deed over a folder: its store, its cursor's file, its progress.
 ghost use Rattle.std.specs.Prelude.{◌≡◌, ◌⊎◌, ◌≤◌, IsNone, MatchOption, None, Ok, codes, false, string_bytes};
 ghost use Rattle.ocfl_scrub.specs.Noting.{IsStatus};
-ghost use Rattle.ocfl_tasks.specs.Tasks.{shown_on};
+ghost use Rattle.ocfl_tasks.specs.Calls.{words_on_path};
+ghost use Rattle.ocfl_tasks.specs.Tasks.{is_long, shown_on};
 
 use crate::calls::SystemCalls;
 use crate::doing::{TaskEnd, perform_and_store, refuse_inside, say_end};
@@ -25,11 +26,21 @@ use std::io;
 use std::rt::{Env, Files};
 use std::time::Clock;
 
+/// Whether a deed reads more than a file or a place.
+fn is_long(deed: &Deed) -> bool
+    ensures { result ≡ is_long deed.now }
+{
+    match deed {
+        Deed::Audit(_) | Deed::Run(_, _) | Deed::Cycle(_, _, _) => true,
+        Deed::Check(_, _) | Deed::Show => false,
+    }
+}
+
 /// Which terminals show progress and share it with the report: none if no progress is shown.
 fn shown_on(task: &Task, terminals: Terminals) -> Terminals
     ensures { result ≡ shown_on task.now terminals }
 {
-    let is_long = matches!(&task.deed, Deed::Audit | Deed::Run(_) | Deed::Cycle(_, _));
+    let is_long = is_long(&task.deed);
     let error = is_long && !task.quiet && terminals.error;
     let output = error && terminals.output;
     Terminals { output, error }
@@ -47,9 +58,11 @@ fn root_of(task: &Task) -> &str
 }
 
 /// Why the path of a check names no place; nothing for another deed.
-fn words_on_path(deed: &Deed) -> &'static str {
+fn words_on_path(deed: &Deed) -> &'static str
+    ensures { result.now ≡ words_on_path deed.now }
+{
     match deed {
-        Deed::Check(path) => why_no_place(path.as_str()),
+        Deed::Check(_, path) => why_no_place(path.as_str()),
         _ => "",
     }
 }

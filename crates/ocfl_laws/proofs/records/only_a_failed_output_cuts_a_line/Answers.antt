@@ -5,5 +5,5 @@ pub returns : goal.returns
 returns c = record {
   stopped = uncut_by_a_stop;
   memory = uncut_by_memory;
-  check = λ s t old new known path said h. h.lines.none;
+  check = λ further s t old new known path said h. h.lines.none;
 }

@@ -13,19 +13,19 @@ pub returns-in-Err-Memory-clause-counts : goal.returns-in-Err-Memory-clause-coun
 returns-in-Err-Memory-clause-counts g c = λ tells root over short. counts_first (c.in-Err-Memory.ensures.refused tells root over c.in-Err-Memory.field-0-is)
 
 pub returns-in-Ok-true-clause-content : goal.returns-in-Ok-true-clause-content
-returns-in-Ok-true-clause-content g c = λ declares tells root over short. content_did root _ _ _ declares (c.in-Ok-true.ensures.opened tells root over)
+returns-in-Ok-true-clause-content g c = λ further declares tells root over short. content_did further root _ _ _ declares (c.in-Ok-true.ensures.opened tells root over)
 
 pub returns-in-Ok-false-clause-content : goal.returns-in-Ok-false-clause-content
-returns-in-Ok-false-clause-content g c = λ declares tells root over short. content_did root _ _ _ declares (c.in-Ok-false.ensures.opened tells root over)
+returns-in-Ok-false-clause-content g c = λ further declares tells root over short. content_did further root _ _ _ declares (c.in-Ok-false.ensures.opened tells root over)
 
 pub returns-in-Err-Undeclared-clause-content : goal.returns-in-Err-Undeclared-clause-content
-returns-in-Err-Undeclared-clause-content g c = λ declares tells root over short. absurd (c.in-Err-Undeclared.ensures.only c.in-Err-Undeclared.field-0-is)
+returns-in-Err-Undeclared-clause-content g c = λ further declares tells root over short. absurd (c.in-Err-Undeclared.ensures.only c.in-Err-Undeclared.field-0-is)
 
 pub returns-in-Err-Unread-clause-content : goal.returns-in-Err-Unread-clause-content
-returns-in-Err-Unread-clause-content g c = λ declares tells root over short. content_unread root _ _ _ declares short (c.in-Err-Unread.ensures.unread tells root over _ c.in-Err-Unread.field-0-is)
+returns-in-Err-Unread-clause-content g c = λ further declares tells root over short. content_unread further root _ _ _ declares short (c.in-Err-Unread.ensures.unread tells root over _ c.in-Err-Unread.field-0-is)
 
 pub returns-in-Err-Memory-clause-content : goal.returns-in-Err-Memory-clause-content
-returns-in-Err-Memory-clause-content g c = λ declares tells root over short. content_first root _ _ _ declares (c.in-Err-Memory.ensures.refused tells root over c.in-Err-Memory.field-0-is)
+returns-in-Err-Memory-clause-content g c = λ further declares tells root over short. content_first further root _ _ _ declares (c.in-Err-Memory.ensures.refused tells root over c.in-Err-Memory.field-0-is)
 
 pub returns-in-Err-Unread-clause-unread : goal.returns-in-Err-Unread-clause-unread
 returns-in-Err-Unread-clause-unread g c = λ tells root over short. failed_unread short (c.in-Err-Unread.ensures.unread tells root over _ c.in-Err-Unread.field-0-is)

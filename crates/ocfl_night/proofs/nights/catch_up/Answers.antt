@@ -12,21 +12,21 @@ use Rattle.ocfl_night.proofs.{Foreigners.{of_site}, Reasons.{caught_reason, open
 use Rattle.ocfl_night.proofs.nights.catch_up.Goals as goal
 
 pub returns-in_err-opened-clause-heard : goal.returns-in_err-opened-clause-heard
-returns-in_err-opened-clause-heard g c = λ told rounds kept. leaves_weaker (λ x h. found_heard h) (c.open.ensures.any_moment told rounds kept)
+returns-in_err-opened-clause-heard g c = λ told rounds checks kept. leaves_weaker (λ x h. found_heard h) (c.open.ensures.any_moment told rounds checks kept)
 
 pub returns-in_err-speak-clause-heard : goal.returns-in_err-speak-clause-heard
-returns-in_err-speak-clause-heard g c = λ told rounds kept.
-    let r = c.in_ok-opened.ensures.ready told rounds kept in
-    joined_moments (leaves_weaker (λ x h. found_heard h) (c.open.ensures.any_moment told rounds kept)) (leaves_weaker (λ x h. since_found r h) (c.speak.ensures.heard told rounds (kept r.from r.was).0 r.ready))
+returns-in_err-speak-clause-heard g c = λ told rounds checks kept.
+    let r = c.in_ok-opened.ensures.ready told rounds checks kept in
+    joined_moments (leaves_weaker (λ x h. found_heard h) (c.open.ensures.any_moment told rounds checks kept)) (leaves_weaker (λ x h. since_found r h) (c.speak.ensures.heard told rounds (kept r.from r.was).0 r.ready))
 
 pub returns-clause-heard : goal.returns-clause-heard
-returns-clause-heard g c = λ told rounds kept.
-    let r = c.in_ok-opened.ensures.ready told rounds kept in
-    joined_moments (leaves_weaker (λ x h. found_heard h) (c.open.ensures.any_moment told rounds kept)) (leaves_weaker (λ x h. since_found r h) (c.speak.ensures.heard told rounds (kept r.from r.was).0 r.ready))
+returns-clause-heard g c = λ told rounds checks kept.
+    let r = c.in_ok-opened.ensures.ready told rounds checks kept in
+    joined_moments (leaves_weaker (λ x h. found_heard h) (c.open.ensures.any_moment told rounds checks kept)) (leaves_weaker (λ x h. since_found r h) (c.speak.ensures.heard told rounds (kept r.from r.was).0 r.ready))
 
 pub returns-clause-ready : goal.returns-clause-ready
-returns-clause-ready g c = λ told rounds kept.
-    let r = c.in_ok-opened.ensures.ready told rounds kept in
+returns-clause-ready g c = λ told rounds checks kept.
+    let r = c.in_ok-opened.ensures.ready told rounds checks kept in
     record { from = r.from; was = r.was; heard = c.in_ok-speak.ensures.ready told rounds (kept r.from r.was).0 r.ready }
 
 pub returns-clause-all : goal.returns-clause-all
@@ -84,8 +84,8 @@ returns-in_err-opened-clause-stop g c =
     let p = err_from_is_err_and r c.from_residual.ensures.1 in
     let told = IsTrue g.S.StateFolder.told in
     let here = g.S.StateFolder.seen c.args.folder.now in
-    let kept = TellsKept g.S.StateFolder c.args.folder.now in
-    let now = course c.args.plan.now.create here 0 (g.O.Output.said c.args.out.now) (g.O.Output.said c.args.out.now) in
+    let kept = TellsKept g.S.StateFolder c.args.site.now.further c.args.folder.now in
+    let now = course c.args.site.now.further c.args.plan.now.create here 0 (g.O.Output.said c.args.out.now) (g.O.Output.said c.args.out.now) in
     let of = IsOfSite c.args.site.now c.args.identity.now in
     let to_open = IsToOpen told c.args.site.now c.args.identity.now c.args.plan.now.create here in
     opens_so told kept (ForOpen to_open here) (ForNight (λ _. ⊥) of now) _ (g.S.StateFolder.faults c.args.folder.now) _ Opened r c.in_err-opened.field-0.0 (cc (p.1, p.2))
@@ -96,10 +96,10 @@ returns-in_err-speak-clause-stop g c =
     let r = c.from_residual-in_err-speak.result in
     let p = err_from_is_err_and r c.from_residual-in_err-speak.ensures.1 in
     let why = c.in_err-speak.field-0.0 in
-    let now = course c.args.plan.now.create (g.S.StateFolder.seen c.args.folder.now) 0 (g.O.Output.said c.args.out.now) (g.O.Output.said c.speak.new.out) in
-    let kept = TellsKept g.S.StateFolder c.args.folder.now in
+    let now = course c.args.site.now.further c.args.plan.now.create (g.S.StateFolder.seen c.args.folder.now) 0 (g.O.Output.said c.args.out.now) (g.O.Output.said c.speak.new.out) in
+    let kept = TellsKept g.S.StateFolder c.args.site.now.further c.args.folder.now in
     let of = IsOfSite c.args.site.now c.args.identity.now in
     opens_at kept (ForNight (λ _. ⊥) of now) _ _ r why (cc (p.1, p.2))
     (caught_reason (IsTrue g.S.StateFolder.told) kept (λ _. ⊥) of now c.in_ok-opened.opened.checkpoint (g.S.StateFolder.seen c.open.new.folder) (g.O.Output.said c.args.out.now) (g.O.Output.said c.speak.new.out) _ (g.S.StateFolder.faults c.open.new.folder) _ why
     (of_site (put_self c.in_ok-opened.opened.checkpoint refl).alike c.in_ok-opened.ensures.own) (λ given. c.in_ok-opened.ensures.begins given.0)
-    (λ given. given.0) (λ given. c.in_ok-opened.ensures.stop given.0) (λ given. (given.1.0, (_, (c.in_ok-opened.ensures.ready given.0 given.1.0 given.1.1).ready.stands))) (λ failed. failed) c.in_err-speak.ensures.stop)
+    (λ given. given.0) (λ given. c.in_ok-opened.ensures.stop given.0) (λ given. (given.1.0, (_, (c.in_ok-opened.ensures.ready given.0 given.1.0 given.1.1.0 given.1.1.1).ready.stands))) (λ failed. failed) c.in_err-speak.ensures.stop)

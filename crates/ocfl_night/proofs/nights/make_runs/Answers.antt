@@ -22,20 +22,20 @@ returns-in_err-last-clause-heard g c = λ told tells root over short known one t
 
 pub returns-in_err-said-clause-heard : goal.returns-in_err-said-clause-heard
 returns-in_err-said-clause-heard g c = λ told tells root over short known one t r.
-    let rounds : Rounds = record { part = part_of c.args.part.now; known = known } in
+    let rounds : Rounds = record { part = part_of c.args.part.now; further = c.args.checkpoint.cursor.further; known = known } in
     let ready = c.in_ok-last.ensures.ready told tells root over short known one t r in
     joined_moments (silent (c.runs.ensures.any_moment told tells root over short known one t r)) (c.speak.ensures.heard told rounds t ready)
 
 pub returns-in_err-ended-clause-heard : goal.returns-in_err-ended-clause-heard
 returns-in_err-ended-clause-heard g c = λ told tells root over short known one t r.
-    let rounds : Rounds = record { part = part_of c.args.part.now; known = known } in
+    let rounds : Rounds = record { part = part_of c.args.part.now; further = c.args.checkpoint.cursor.further; known = known } in
     let ready = c.in_ok-last.ensures.ready told tells root over short known one t r in
     let said = c.in_ok-said.ensures.ready told rounds t ready in
     said_on said (joined_moments (silent (c.runs.ensures.any_moment told tells root over short known one t r)) (c.speak.ensures.heard told rounds t ready)) (c.finish.ensures.any_moment told rounds (t ++ said.more) said.ready)
 
 pub returns-clause-heard : goal.returns-clause-heard
 returns-clause-heard g c = λ told tells root over short known one t r.
-    let rounds : Rounds = record { part = part_of c.args.part.now; known = known } in
+    let rounds : Rounds = record { part = part_of c.args.part.now; further = c.args.checkpoint.cursor.further; known = known } in
     let ready = c.in_ok-last.ensures.ready told tells root over short known one t r in
     let said = c.in_ok-said.ensures.ready told rounds t ready in
     said_on said (joined_moments (silent (c.runs.ensures.any_moment told tells root over short known one t r)) (c.speak.ensures.heard told rounds t ready)) (c.finish.ensures.any_moment told rounds (t ++ said.more) said.ready)
@@ -54,7 +54,7 @@ returns-clause-counts g c = λ tells root over short. c.runs.ensures.counts tell
 
 pub returns-clause-ended : goal.returns-clause-ended
 returns-clause-ended g c = λ told tells root over short known one t r cycle is.
-    let rounds : Rounds = record { part = part_of c.args.part.now; known = known } in
+    let rounds : Rounds = record { part = part_of c.args.part.now; further = c.args.checkpoint.cursor.further; known = known } in
     let s = g.S.StateFolder.seen in
     let said = c.in_ok-said.ensures.ready told rounds t (c.in_ok-last.ensures.ready told tells root over short known one t r) in
     let closed = c.in_ok-ended.ensures.closed told rounds (t ++ said.more) said.ready in
@@ -70,7 +70,7 @@ returns-clause-goes_on g c = λ told other.
 
 pub returns-clause-said : goal.returns-clause-said
 returns-clause-said g c = λ told tells root over short t r.
-    let rounds = of_any (part_of c.args.part.now) in
+    let rounds = of_any c.args.checkpoint.cursor.further (part_of c.args.part.now) in
     let said = c.in_ok-said.ensures.ready told rounds t (c.in_ok-last.ensures.ready told tells root over short None tt t r) in
     let all = c.in_ok-said.ensures.all in
     c.in_ok-ended.ensures.said told rounds (t ++ said.more) said.ready (ap (λ (x : Checkpoint). x.told) all ∙ sym (ap (λ (x : Checkpoint). x.report.bytes) all))
@@ -96,7 +96,7 @@ returns-clause-told g c = λ told.
 
 pub returns-clause-whole : goal.returns-clause-whole
 returns-clause-whole g c = λ told tells root over short t r cycle is d come.
-    let rounds = of_any (part_of c.args.part.now) in
+    let rounds = of_any c.args.checkpoint.cursor.further (part_of c.args.part.now) in
     let said = c.in_ok-said.ensures.ready told rounds t (c.in_ok-last.ensures.ready told tells root over short None tt t r) in
     let ends = closing_by c.in_ok-said.said.phase c.in_ok-said.said.cursor.cycle cycle (sym c.in_ok-ended.ensures.ended ∙ c.halt_after.ensures.ended cycle (cc is)) in
     let closed = c.in_ok-said.ensures.closed told ∙ c.in_ok-last.ensures.closed told in
@@ -112,13 +112,13 @@ returns-in_err-said-clause-stop g c = λ may.
     let r = c.from_residual-in_err-said.result in
     let p = err_from_is_err_and r c.from_residual-in_err-said.ensures.1 in
     let why = c.in_err-said.field-0.0 in
-    let there = (t : Text) × IsReady g.S.StateFolder (of_any (part_of c.args.part.now)) t c.args.checkpoint c.args.folder.now in
+    let there = (t : Text) × IsReady g.S.StateFolder (of_any c.args.checkpoint.cursor.further (part_of c.args.part.now)) t c.args.checkpoint c.args.folder.now in
     let given = IsGiven g.S.StateFolder.told g.T.Tree.told (g.T.Tree.state c.args.tree.now) there in
     let silenced = HasFailed (g.O.Output.said c.args.out.now).failures (g.O.Output.said c.speak.new.out).failures in
     stops_at given (ForRuns silenced c.args.checkpoint c.runs.new.tally.runs) _ _ r why (cc (p.1, p.2))
     (speak_reason (IsTrue g.S.StateFolder.told) given silenced c.args.checkpoint c.in_ok-last.last (g.S.StateFolder.seen c.runs.new.folder) (g.O.Output.said c.args.out.now) (g.O.Output.said c.speak.new.out) c.runs.new.tally.runs _ (g.S.StateFolder.faults c.runs.new.folder) _ why
     (put_on c.in_ok-last.ensures.leads.alike c.in_ok-last.ensures.cycle (put_self c.in_ok-last.last refl)) (λ at. at.folder) (λ at. c.in_ok-last.ensures.stop may at)
-    (λ at. (of_any (part_of c.args.part.now), (at.holds.0, (c.in_ok-last.ensures.ready at.folder at.store _ refl at.short None tt at.holds.0 at.holds.1).stands)))
+    (λ at. (of_any c.args.checkpoint.cursor.further (part_of c.args.part.now), (at.holds.0, (c.in_ok-last.ensures.ready at.folder at.store _ refl at.short None tt at.holds.0 at.holds.1).stands)))
     (λ failed. failed) c.in_err-said.ensures.stop)
 
 pub returns-in_err-ended-clause-stop : goal.returns-in_err-ended-clause-stop
@@ -126,7 +126,7 @@ returns-in_err-ended-clause-stop g c = λ may.
     let r = c.from_residual-in_err-ended.result in
     let p = err_from_is_err_and r c.from_residual-in_err-ended.ensures.1 in
     let why = c.in_err-ended.field-0.0 in
-    let there = (t : Text) × IsReady g.S.StateFolder (of_any (part_of c.args.part.now)) t c.args.checkpoint c.args.folder.now in
+    let there = (t : Text) × IsReady g.S.StateFolder (of_any c.args.checkpoint.cursor.further (part_of c.args.part.now)) t c.args.checkpoint c.args.folder.now in
     let given = IsGiven g.S.StateFolder.told g.T.Tree.told (g.T.Tree.state c.args.tree.now) there in
     let silenced = HasFailed (g.O.Output.said c.args.out.now).failures (g.O.Output.said c.speak.new.out).failures in
     let all = c.in_ok-said.ensures.all in
@@ -151,7 +151,7 @@ returns-clause-beyond g c = λ declares tells root over short. c.runs.ensures.be
 
 pub returns-clause-read : goal.returns-clause-read
 returns-clause-read g c = λ told declares tells root over short t r order.
-    let rounds = of_any (part_of c.args.part.now) in
+    let rounds = of_any c.args.checkpoint.cursor.further (part_of c.args.part.now) in
     let said = c.in_ok-said.ensures.ready told rounds t (c.in_ok-last.ensures.ready told tells root over short None tt t r) in
     let stands = c.in_ok-ended.ensures.stands told said.ready.at in
     read_to c.in_ok-last.last c.in_ok-said.said c.in_ok-ended.ended c.in_ok-last.pause c.in_ok-said.ensures.all c.in_ok-ended.ensures.ended c.halt_after.ensures.is stands (c.in_ok-last.ensures.read declares tells root over short) order
@@ -161,7 +161,7 @@ returns-in_err-last-clause-again g c = λ told folder_told declares tells root o
 
 pub returns-in_err-said-clause-again : goal.returns-in_err-said-clause-again
 returns-in_err-said-clause-again g c = λ told folder_told declares tells root over short named t r.
-    let rounds = of_any (part_of c.args.part.now) in
+    let rounds = of_any c.args.checkpoint.cursor.further (part_of c.args.part.now) in
     let ready = c.in_ok-last.ensures.ready folder_told tells root over short None tt t r in
     let so = c.runs.ensures.again told folder_told declares tells root over short named t r in
     let spoke = little_on so ready.at (λ le. g.met.S.StateFolder.counts_now folder_told c.runs.new.folder (g.S.StateFolder.moment so.left) _ le (g.met.S.StateFolder.stays folder_told c.runs.new.folder)) (c.speak.ensures.crash folder_told rounds t ready) in
@@ -169,7 +169,7 @@ returns-in_err-said-clause-again g c = λ told folder_told declares tells root o
 
 pub returns-in_err-ended-clause-again : goal.returns-in_err-ended-clause-again
 returns-in_err-ended-clause-again g c = λ told folder_told declares tells root over short named t r.
-    let rounds = of_any (part_of c.args.part.now) in
+    let rounds = of_any c.args.checkpoint.cursor.further (part_of c.args.part.now) in
     let ready = c.in_ok-last.ensures.ready folder_told tells root over short None tt t r in
     let so = c.runs.ensures.again told folder_told declares tells root over short named t r in
     let spoke = little_on so ready.at (λ le. g.met.S.StateFolder.counts_now folder_told c.runs.new.folder (g.S.StateFolder.moment so.left) _ le (g.met.S.StateFolder.stays folder_told c.runs.new.folder)) (c.speak.ensures.crash folder_told rounds t ready) in
@@ -178,7 +178,7 @@ returns-in_err-ended-clause-again g c = λ told folder_told declares tells root 
 
 pub returns-clause-again : goal.returns-clause-again
 returns-clause-again g c = λ told folder_told declares tells root over short named t r.
-    let rounds = of_any (part_of c.args.part.now) in
+    let rounds = of_any c.args.checkpoint.cursor.further (part_of c.args.part.now) in
     let ready = c.in_ok-last.ensures.ready folder_told tells root over short None tt t r in
     let so = c.runs.ensures.again told folder_told declares tells root over short named t r in
     let spoke = little_on so ready.at (λ le. g.met.S.StateFolder.counts_now folder_told c.runs.new.folder (g.S.StateFolder.moment so.left) _ le (g.met.S.StateFolder.stays folder_told c.runs.new.folder)) (c.speak.ensures.crash folder_told rounds t ready) in

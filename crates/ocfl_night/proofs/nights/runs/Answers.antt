@@ -9,9 +9,9 @@ use Rattle.ocfl_night.specs.{Done.{Done, done_of, with_made}, Leaving.{LeadsOn, 
 use Rattle.ocfl_state.specs.declared.checkpoint_parts.Phase.TheVariants.{Open}
 use Rattle.ocfl_night.specs.Runs.{Run, IsRunOf, MayBeginAt, MayHaveLeft, StopsOpen, after_it, after_made, events_of, in_it, turn_of}
 use Rattle.ocfl_night.specs.declared.pause.Pause.{Pause}
-use Rattle.ocfl_night.specs.Looks.{Counts, IsOneOf, Known, look_between, of_any}
+use Rattle.ocfl_night.specs.Looks.{Counts, IsOneOf, Known, WithLook, look_between, of_any}
 use Rattle.ocfl_night.specs.Stopping.{ForRuns, IsGiven, IsPassedBy}
-use Rattle.ocfl_night.specs.{Promises.{IsSafeIn, StopsNext}, Sound.{IsReady}}
+use Rattle.ocfl_night.specs.{Promises.{IfReadyIn, IsSafeIn, StopsNext}, Sound.{IsReady}}
 use Rattle.ocfl_night.proofs.{Beginnings.{next_in}, KeptWalks.{walk_none}, Runs.{and_then, failed_so, led_by, none_yet, paused, paused_before, run_more}}
 use Rattle.ocfl_night.proofs.Looks.{counts_none, counts_on, first_of, last_of, root_of}
 use Rattle.ocfl_night.proofs.{Moments.{joined_moments, leaves_weaker, unmoved}, Sound.{ready_mark, ready_sound}}
@@ -30,6 +30,7 @@ use Rattle.ocfl_night.proofs.nights.runs.Given as given
 use Rattle.ocfl_night.proofs.nights.runs.Goals.{After-go_on_after}
 use Rattle.ocfl_night.proofs.Reasons.{counted_on, endless_before, none_counted, passed_within, put_on, put_passed, put_reason, put_run, slice_reason, stops_at, told_within, worn_after, worn_out}
 use Rattle.ocfl_night.proofs.nights.runs.Goals as goal
+use Rattle.ocfl_report.specs.declared.further.Further.{Further}
 
 -- a slice is made from an open checkpoint
 is_open : (g : given.Over) (c : After-go_on_after g) → c.loop-run.checkpoint.phase ≡ Open
@@ -40,45 +41,61 @@ module _ (g : given.Over) (c : After-go_on_after g) (tells : IsTrue g.T.Tree.tol
   made_counts : Counts (g.T.Tree.state c.loop-run.tree) (g.T.Tree.state c.slice.new.tree)
   made_counts = c.slice.ensures.counts tells root (c.loop-run.invariant.root tells root over short) short (c.loop-run.invariant.walk tells root over short)
 
+  -- each run checks what the first one does
+  checks : c.loop-run.checkpoint.cursor.further ≡ c.args.start.cursor.further
+  checks = c.loop-run.invariant.leads.alike.checks
+
   counts_then : Counts (g.T.Tree.state c.args.tree.now) (g.T.Tree.state c.slice.new.tree)
   counts_then = counts_on (c.loop-run.invariant.counts tells root over short) made_counts
 
   module _ (declares : AreDeclarations c.args.identity.now) where
-    slice_beyond : AreBeyond (reached c.loop-run.checkpoint) (content_since root (g.T.Tree.state c.loop-run.tree) (g.T.Tree.state c.slice.new.tree))
+    slice_beyond : AreBeyond (reached c.loop-run.checkpoint) (content_since c.loop-run.checkpoint.cursor.further root (g.T.Tree.state c.loop-run.tree) (g.T.Tree.state c.slice.new.tree))
     slice_beyond = c.slice.ensures.beyond declares tells root (c.loop-run.invariant.root tells root over short) short (c.loop-run.invariant.walk tells root over short)
 
-    made_read : HasRead (g.T.Tree.state c.loop-run.tree) (g.T.Tree.state c.slice.new.tree) (reached c.loop-run.checkpoint) (reached c.in_ok-made.made.checkpoint) (place_or_pause c.in_ok-made.made.end) (content_since root (g.T.Tree.state c.loop-run.tree) (g.T.Tree.state c.slice.new.tree))
-    made_read = c.in_ok-made.ensures.read declares tells root (c.loop-run.invariant.root tells root over short) short (c.loop-run.invariant.walk tells root over short)
+    since_beyond : AreBeyond (reached c.loop-run.checkpoint) (content_since c.args.start.cursor.further root (g.T.Tree.state c.loop-run.tree) (g.T.Tree.state c.slice.new.tree))
+    since_beyond = subst (λ (f : Further). AreBeyond (reached c.loop-run.checkpoint) (content_since f root (g.T.Tree.state c.loop-run.tree) (g.T.Tree.state c.slice.new.tree))) checks slice_beyond
 
-    beyond_then : AreBeyond (reached c.args.start) (content_since root (g.T.Tree.state c.args.tree.now) (g.T.Tree.state c.slice.new.tree))
-    beyond_then = beyond_more root (c.loop-run.invariant.counts tells root over short) made_counts (c.loop-run.invariant.read tells root over short declares) slice_beyond
+    made_read : HasRead (g.T.Tree.state c.loop-run.tree) (g.T.Tree.state c.slice.new.tree) (reached c.loop-run.checkpoint) (reached c.in_ok-made.made.checkpoint) (place_or_pause c.in_ok-made.made.end) (content_since c.args.start.cursor.further root (g.T.Tree.state c.loop-run.tree) (g.T.Tree.state c.slice.new.tree))
+    made_read =
+        subst (λ (f : Further). HasRead (g.T.Tree.state c.loop-run.tree) (g.T.Tree.state c.slice.new.tree) (reached c.loop-run.checkpoint) (reached c.in_ok-made.made.checkpoint) (place_or_pause c.in_ok-made.made.end) (content_since f root (g.T.Tree.state c.loop-run.tree) (g.T.Tree.state c.slice.new.tree))) checks
+        (c.in_ok-made.ensures.read declares tells root (c.loop-run.invariant.root tells root over short) short (c.loop-run.invariant.walk tells root over short))
 
-  module _ (known : Option Known) (one : IsOneOf known (look_between root (g.T.Tree.state c.args.tree.now) (g.T.Tree.state c.slice.new.tree))) where
-    one_before : IsOneOf known (look_between root (g.T.Tree.state c.args.tree.now) (g.T.Tree.state c.loop-run.tree))
-    one_before = first_of root known (c.loop-run.invariant.counts tells root over short) made_counts one
+    beyond_then : AreBeyond (reached c.args.start) (content_since c.args.start.cursor.further root (g.T.Tree.state c.args.tree.now) (g.T.Tree.state c.slice.new.tree))
+    beyond_then = beyond_more c.args.start.cursor.further root (c.loop-run.invariant.counts tells root over short) made_counts (c.loop-run.invariant.read tells root over short declares) since_beyond
 
-    one_in : IsOneOf known (look_between root (g.T.Tree.state c.loop-run.tree) (g.T.Tree.state c.slice.new.tree))
-    one_in = last_of root known (c.loop-run.invariant.counts tells root over short) made_counts one
+  module _ (known : Option Known) (one : IsOneOf known (look_between c.args.start.cursor.further root (g.T.Tree.state c.args.tree.now) (g.T.Tree.state c.slice.new.tree))) where
+    one_before : IsOneOf known (look_between c.args.start.cursor.further root (g.T.Tree.state c.args.tree.now) (g.T.Tree.state c.loop-run.tree))
+    one_before = first_of c.args.start.cursor.further root known (c.loop-run.invariant.counts tells root over short) made_counts one
+
+    one_in : IsOneOf known (look_between c.args.start.cursor.further root (g.T.Tree.state c.loop-run.tree) (g.T.Tree.state c.slice.new.tree))
+    one_in = last_of c.args.start.cursor.further root known (c.loop-run.invariant.counts tells root over short) made_counts one
 
     made_ready : IsTrue g.S.StateFolder.told → (t : Text)
-        → IsReady g.S.StateFolder (record { part = part_of c.args.part.now; known = known }) t c.args.start c.args.folder.now
-        → IsReady g.S.StateFolder (record { part = part_of c.args.part.now; known = known }) t c.in_ok-made.made.checkpoint c.slice.new.folder
+        → IsReady g.S.StateFolder (record { part = part_of c.args.part.now; further = c.args.start.cursor.further; known = known }) t c.args.start c.args.folder.now
+        → IsReady g.S.StateFolder (record { part = part_of c.args.part.now; further = c.args.start.cursor.further; known = known }) t c.in_ok-made.made.checkpoint c.slice.new.folder
     made_ready told t r =
         let inv = c.loop-run.invariant in
-        c.in_ok-made.ensures.ready told tells root (inv.root tells root over short) short (inv.walk tells root over short) known one_in t (inv.ready told tells root over short known one_before t r)
+        subst (λ (f : Further). WithLook f (part_of c.args.part.now) (look_between f root (g.T.Tree.state c.loop-run.tree) (g.T.Tree.state c.slice.new.tree))
+        (λ rounds. IfReadyIn g.S.StateFolder rounds c.loop-run.checkpoint c.loop-run.folder (λ u. IsReady g.S.StateFolder rounds u c.in_ok-made.made.checkpoint c.slice.new.folder))) checks
+        (c.in_ok-made.ensures.ready told tells root (inv.root tells root over short) short (inv.walk tells root over short))
+        known one_in t (inv.ready told tells root over short known one_before t r)
 
-    stops_next : StopsNext (record { part = part_of c.args.part.now; known = known }) c.in_ok-made.made
+    stops_next : StopsNext (record { part = part_of c.args.part.now; further = c.args.start.cursor.further; known = known }) c.in_ok-made.made
     stops_next p is =
         let inv = c.loop-run.invariant in
         (root, (root_of known _ one_in, c.in_ok-made.ensures.stops tells root (inv.root tells root over short) short (inv.walk tells root over short) p is))
 
     -- after it, and what is done after it
-    moments : IsTrue g.S.StateFolder.told → IsSafeIn g.S.StateFolder (record { part = part_of c.args.part.now; known = known }) c.args.start c.args.folder.now c.go_on_after.new.folder
+    moments : IsTrue g.S.StateFolder.told → IsSafeIn g.S.StateFolder (record { part = part_of c.args.part.now; further = c.args.start.cursor.further; known = known }) c.args.start c.args.folder.now c.go_on_after.new.folder
     moments told t r =
         let inv = c.loop-run.invariant in
         joined_moments
-        (joined_moments (inv.any_moment told tells root over short known one_before t r) (c.slice.ensures.any_moment told tells root (inv.root tells root over short) short (inv.walk tells root over short) known one_in t (inv.ready told tells root over short known one_before t r)))
-        (c.go_on_after.ensures.any_moment told (record { part = part_of c.args.part.now; known = known }) stops_next t (made_ready told t r))
+        (joined_moments (inv.any_moment told tells root over short known one_before t r)
+        (subst (λ (f : Further). WithLook f (part_of c.args.part.now) (look_between f root (g.T.Tree.state c.loop-run.tree) (g.T.Tree.state c.slice.new.tree))
+        (λ rounds. IsSafeIn g.S.StateFolder rounds c.loop-run.checkpoint c.loop-run.folder c.slice.new.folder)) checks
+        (c.slice.ensures.any_moment told tells root (inv.root tells root over short) short (inv.walk tells root over short))
+        known one_in t (inv.ready told tells root over short known one_before t r)))
+        (c.go_on_after.ensures.any_moment told (record { part = part_of c.args.part.now; further = c.args.start.cursor.further; known = known }) stops_next t (made_ready told t r))
 
 -- a run that was made, and what the clock heard of it
 module _ (g : given.Over) (c : After-go_on_after g) (told : IsTrue g.C.Clock.told) where
@@ -106,17 +123,17 @@ one_run g c = c.go_on_after.ensures.runs ∙ ap (λ (d : Done). d.runs) c.count.
 
 -- what a slice opened, and what a crash left meanwhile
 module _ (g : given.Over) (c : After-go_on_after g) (tells : IsTrue g.T.Tree.told) (root : StorageRoot) (over : (g.T.Tree.state c.args.tree.now).tree ≡ root) (short : HasShortFiles root) (declares : AreDeclarations c.args.identity.now) where
-  slice_once : IsAscending place_cmp (content_since root (g.T.Tree.state c.loop-run.tree) (g.T.Tree.state c.slice.new.tree))
+  slice_once : IsAscending place_cmp (content_since c.loop-run.checkpoint.cursor.further root (g.T.Tree.state c.loop-run.tree) (g.T.Tree.state c.slice.new.tree))
   slice_once = c.slice.ensures.once declares tells root (c.loop-run.invariant.root tells root over short) short (c.loop-run.invariant.walk tells root over short)
 
-  slice_took : TookOrBegan (reached c.in_ok-made.made.checkpoint) c.in_ok-made.made.end (content_since root (g.T.Tree.state c.loop-run.tree) (g.T.Tree.state c.slice.new.tree))
+  slice_took : TookOrBegan (reached c.in_ok-made.made.checkpoint) c.in_ok-made.made.end (content_since c.loop-run.checkpoint.cursor.further root (g.T.Tree.state c.loop-run.tree) (g.T.Tree.state c.slice.new.tree))
   slice_took = c.in_ok-made.ensures.took declares tells root (c.loop-run.invariant.root tells root over short) short (c.loop-run.invariant.walk tells root over short)
 
-  slice_crash : IsTrue g.S.StateFolder.told → (t : Text) → IsReady g.S.StateFolder (of_any (part_of c.args.part.now)) t c.args.start c.args.folder.now
+  slice_crash : IsTrue g.S.StateFolder.told → (t : Text) → IsReady g.S.StateFolder (of_any c.args.start.cursor.further (part_of c.args.part.now)) t c.args.start c.args.folder.now
       → LeavesOnly g.S.StateFolder.moment g.S.StateFolder.left_since c.loop-run.folder c.go_on_after.new.folder (λ d. IfThere d (GoesOn c.loop-run.checkpoint))
   slice_crash told t r =
       let inv = c.loop-run.invariant in
-      let part = of_any (part_of c.args.part.now) in
+      let part = of_any c.args.start.cursor.further (part_of c.args.part.now) in
       let going = is_open g c in
       let next : GoesOn c.loop-run.checkpoint c.in_ok-made.made.checkpoint = inr (sym (made_in going c.in_ok-made.ensures.slice), (made_read g c tells root over short declares).stays) in
       joined_moments
@@ -143,7 +160,7 @@ loop-run-init g c = record {
   any_moment = λ told tells root over short known one t r. unmoved (g.met.S.StateFolder.only_now told) (ready_sound r);
   ready = λ told tells root over short known one t r. r;
   counts = λ tells root over short. counts_none (g.T.Tree.state c.args.tree.now);
-  read = λ tells root over short declares. read_none root (g.T.Tree.state c.args.tree.now) (reached c.args.start);
+  read = λ tells root over short declares. read_none c.args.start.cursor.further root (g.T.Tree.state c.args.tree.now) (reached c.args.start);
   closed = λ told. refl;
   cycle = refl;
   told = λ told. none_yet;
@@ -163,9 +180,12 @@ pub returns-in_err-made-clause-any_moment : goal.returns-in_err-made-clause-any_
 returns-in_err-made-clause-any_moment g c = λ told tells root over short known one t r.
     let inv = c.loop-run.invariant in
     let counts : Counts (g.T.Tree.state c.loop-run.tree) (g.T.Tree.state c.slice.new.tree) = c.slice.ensures.counts tells root (inv.root tells root over short) short (inv.walk tells root over short) in
-    let before = first_of root known (inv.counts tells root over short) counts one in
+    let before = first_of c.args.start.cursor.further root known (inv.counts tells root over short) counts one in
     joined_moments (inv.any_moment told tells root over short known before t r)
-    (c.slice.ensures.any_moment told tells root (inv.root tells root over short) short (inv.walk tells root over short) known (last_of root known (inv.counts tells root over short) counts one) t (inv.ready told tells root over short known before t r))
+    (subst (λ (f : Further). WithLook f (part_of c.args.part.now) (look_between f root (g.T.Tree.state c.loop-run.tree) (g.T.Tree.state c.slice.new.tree))
+    (λ rounds. IsSafeIn g.S.StateFolder rounds c.loop-run.checkpoint c.loop-run.folder c.slice.new.folder)) inv.leads.alike.checks
+    (c.slice.ensures.any_moment told tells root (inv.root tells root over short) short (inv.walk tells root over short))
+    known (last_of c.args.start.cursor.further root known (inv.counts tells root over short) counts one) t (inv.ready told tells root over short known before t r))
 
 pub returns-in_err-next-clause-any_moment : goal.returns-in_err-next-clause-any_moment
 returns-in_err-next-clause-any_moment g c = λ told tells root over short known one.
@@ -215,7 +235,7 @@ returns-in-Some-clause-root g c = λ tells root over short.
 pub returns-in-Some-clause-ready : goal.returns-in-Some-clause-ready
 returns-in-Some-clause-ready g c = λ told tells root over short known one t r.
     let at = (goal.at.returns-in-Some-clause-ready g c).After-go_on_after in
-    c.in_ok-next.ensures.ready told (record { part = part_of c.args.part.now; known = known }) (stops_next g at tells root over short known one) t (made_ready g at tells root over short known one told t r)
+    c.in_ok-next.ensures.ready told (record { part = part_of c.args.part.now; further = c.args.start.cursor.further; known = known }) (stops_next g at tells root over short known one) t (made_ready g at tells root over short known one told t r)
 
 pub returns-in-Some-clause-closed : goal.returns-in-Some-clause-closed
 returns-in-Some-clause-closed g c = λ told. c.in_ok-next.ensures.closed told ∙ c.in_ok-made.ensures.closed told ∙ c.loop-run.invariant.closed told
@@ -230,10 +250,10 @@ loop-run-preserved g c =
     let at = (goal.at.loop-run-preserved g c).After-go_on_after in
     record {
       any_moment = λ told tells root over short known one. moments g at tells root over short known one told;
-      ready = λ told tells root over short known one t r. c.in_ok-next.ensures.ready told (record { part = part_of c.args.part.now; known = known }) (stops_next g at tells root over short known one) t (made_ready g at tells root over short known one told t r);
+      ready = λ told tells root over short known one t r. c.in_ok-next.ensures.ready told (record { part = part_of c.args.part.now; further = c.args.start.cursor.further; known = known }) (stops_next g at tells root over short known one) t (made_ready g at tells root over short known one told t r);
       counts = counts_then g at;
       read = λ tells root over short declares.
-          read_more root (inv.counts tells root over short) (made_counts g at tells root over short) (inv.read tells root over short declares) (slice_beyond g at tells root over short declares)
+          read_more c.args.start.cursor.further root (inv.counts tells root over short) (made_counts g at tells root over short) (inv.read tells root over short declares) (since_beyond g at tells root over short declares)
           (next_reached c.args.plan.now.stop_at_faults (done_of c.count.new.self) (done_of c.go_on_after.new.tally) (c.in_ok-next.next, c.in_ok-next.pause) (is_open g at) c.in_ok-made.ensures.slice c.in_ok-next.ensures.turn) (made_read g at tells root over short declares)
           (goes_read c.args.plan.now.stop_at_faults (done_of c.count.new.self) (done_of c.go_on_after.new.tally) (c.in_ok-next.next, c.in_ok-next.pause) (is_open g at) c.in_ok-made.ensures.slice c.in_ok-next.ensures.turn c.in_default.is _ _);
       closed = λ told. c.in_ok-next.ensures.closed told ∙ c.in_ok-made.ensures.closed told ∙ inv.closed told;
@@ -309,7 +329,7 @@ returns-in_err-made-clause-stop g c = λ may.
     let inv = c.loop-run.invariant in
     let going : c.loop-run.checkpoint.phase ≡ Open = search rules in
     let begun : c.begin.new.self.runs ≡ counted c.loop-run.tally.runs 1 = ap (λ (d : Done). d.runs) c.begin.ensures.done in
-    let there = (t : Text) × IsReady g.S.StateFolder (of_any (part_of c.args.part.now)) t c.args.start c.args.folder.now in
+    let there = (t : Text) × IsReady g.S.StateFolder (of_any c.args.start.cursor.further (part_of c.args.part.now)) t c.args.start c.args.folder.now in
     let given = IsGiven g.S.StateFolder.told g.T.Tree.told (g.T.Tree.state c.args.tree.now) there in
     stops_at given (ForRuns ⊥ c.args.start c.begin.new.self.runs) _ _ c.from_residual.result why (cc (p.1, p.2))
     (slice_reason (IsTrue g.S.StateFolder.told) given ⊥ c.in-Ok.allowed.0 c.args.start c.loop-run.checkpoint (g.S.StateFolder.seen c.loop-run.folder) c.begin.new.self.runs _ (g.S.StateFolder.faults c.loop-run.folder) _ why
@@ -329,7 +349,7 @@ returns-in_err-next-clause-stop g c = λ may.
     let at = (goal.at.returns-in_err-next-clause-stop g c).After-go_on_after in
     let inv = c.loop-run.invariant in
     let going = is_open g at in
-    let there = (t : Text) × IsReady g.S.StateFolder (of_any (part_of c.args.part.now)) t c.args.start c.args.folder.now in
+    let there = (t : Text) × IsReady g.S.StateFolder (of_any c.args.start.cursor.further (part_of c.args.part.now)) t c.args.start c.args.folder.now in
     let given = IsGiven g.S.StateFolder.told g.T.Tree.told (g.T.Tree.state c.args.tree.now) there in
     stops_at given (ForRuns ⊥ c.args.start c.go_on_after.new.tally.runs) _ _ r why (cc (p.1, p.2))
     (put_reason (IsTrue g.S.StateFolder.told) given ⊥ (IsPassedBy c.in_ok-made.made) c.args.start c.go_on_after.new.tally.runs _ (g.S.StateFolder.faults c.slice.new.folder) _ why
@@ -362,7 +382,8 @@ returns-in_err-made-clause-beyond g c = λ declares tells root over short.
     let inv = c.loop-run.invariant in
     let here = inv.root tells root over short in
     let walk = inv.walk tells root over short in
-    beyond_more root (inv.counts tells root over short) (c.slice.ensures.counts tells root here short walk) (inv.read tells root over short declares) (c.slice.ensures.beyond declares tells root here short walk)
+    beyond_more c.args.start.cursor.further root (inv.counts tells root over short) (c.slice.ensures.counts tells root here short walk) (inv.read tells root over short declares)
+    (subst (λ (f : Further). AreBeyond (reached c.loop-run.checkpoint) (content_since f root (g.T.Tree.state c.loop-run.tree) (g.T.Tree.state c.slice.new.tree))) inv.leads.alike.checks (c.slice.ensures.beyond declares tells root here short walk))
 
 pub returns-in_err-next-clause-beyond : goal.returns-in_err-next-clause-beyond
 returns-in_err-next-clause-beyond g c = λ declares tells root over short. beyond_then g (goal.at.returns-in_err-next-clause-beyond g c).After-go_on_after tells root over short declares
@@ -376,7 +397,7 @@ returns-in-Err-clause-read g c = λ declares tells root over short. read_all _ (
 pub returns-in-Some-clause-read : goal.returns-in-Some-clause-read
 returns-in-Some-clause-read g c = λ declares tells root over short.
     let at = (goal.at.returns-in-Some-clause-read g c).After-go_on_after in
-    read_last root (c.loop-run.invariant.counts tells root over short) (made_counts g at tells root over short) (c.loop-run.invariant.read tells root over short declares) (slice_beyond g at tells root over short declares)
+    read_last c.args.start.cursor.further root (c.loop-run.invariant.counts tells root over short) (made_counts g at tells root over short) (c.loop-run.invariant.read tells root over short declares) (since_beyond g at tells root over short declares)
     (next_reached c.args.plan.now.stop_at_faults (done_of c.count.new.self) (done_of c.go_on_after.new.tally) (c.in_ok-next.next, c.in_ok-next.pause) (is_open g at) c.in_ok-made.ensures.slice c.in_ok-next.ensures.turn) (made_read g at tells root over short declares)
     (halts_read c.args.plan.now.stop_at_faults (done_of c.count.new.self) (done_of c.go_on_after.new.tally) (c.in_ok-next.next, c.in_ok-next.pause) (is_open g at) c.in_ok-made.ensures.slice c.in_ok-next.ensures.turn c.in-Some.is _ _ c.in_ok-next.next.cursor.cycle)
 
@@ -423,7 +444,7 @@ returns-in_err-made-clause-again g c = λ told folder_told declares tells root o
     let walk = inv.walk tells root over short in
     little_begun (inv.again told folder_told declares tells root over short named t r) inv.cycle (g.T.Tree.state c.slice.new.tree) c.slice.new.folder
     (c.slice.ensures.beyond declares tells root there short walk) (c.slice.ensures.once declares tells root there short walk)
-    (c.slice.ensures.crash folder_told declares tells root there short walk (of_any (part_of c.args.part.now)) t (inv.ready folder_told tells root over short None tt t r)) (inv.at folder_told r.at)
+    (c.slice.ensures.crash folder_told declares tells root there short walk (of_any c.args.start.cursor.further (part_of c.args.part.now)) t (inv.ready folder_told tells root over short None tt t r)) (inv.at folder_told r.at)
     (unheard_begun c.in-Ok.allowed.1 (c.in-Ok.ensures told).0)
     (may_named root (part_of c.args.part.now) (met_at c.loop-run.kept) c.loop-run.checkpoint named (err_holds c.slice.result _ c.in_err-made.was (c.slice.ensures.asks_no_more tells root there short walk)))
 

@@ -13,10 +13,10 @@ use Rattle.ocfl_night.proofs.{Foreigners.{site_of}, Reasons.{opens_so, set_out_r
 use Rattle.ocfl_night.proofs.nights.set_out.Goals as goal
 
 pub returns-in_err-part-clause-heard : goal.returns-in_err-part-clause-heard
-returns-in_err-part-clause-heard g c = λ told rounds kept. begun_heard (g.met.S.StateFolder.only_now told) kept
+returns-in_err-part-clause-heard g c = λ told rounds checks kept. begun_heard (g.met.S.StateFolder.only_now told) kept
 
 pub returns-in_err-identity-clause-heard : goal.returns-in_err-identity-clause-heard
-returns-in_err-identity-clause-heard g c = λ told rounds kept. begun_heard (g.met.S.StateFolder.only_now told) kept
+returns-in_err-identity-clause-heard g c = λ told rounds checks kept. begun_heard (g.met.S.StateFolder.only_now told) kept
 
 pub returns-in_err-part-clause-grew : goal.returns-in_err-part-clause-grew
 returns-in_err-part-clause-grew g c = grows_none _
@@ -72,19 +72,19 @@ pub returns-in_err-identity-clause-lost_only : goal.returns-in_err-identity-clau
 returns-in_err-identity-clause-lost_only g c = λ told not_yet is. absurd (cc (not_yet, is))
 
 pub returns-in_err-part-clause-content : goal.returns-in_err-part-clause-content
-returns-in_err-part-clause-content g c = λ tells root over short. content_none root (g.T.Tree.state c.args.tree.now)
+returns-in_err-part-clause-content g c = λ tells root over short. content_none c.args.site.now.further root (g.T.Tree.state c.args.tree.now)
 
 pub returns-in_err-identity-clause-content : goal.returns-in_err-identity-clause-content
 returns-in_err-identity-clause-content g c = λ tells root over short.
-    content_unidentified root _ _ (declarations_among (entries_in root [])) (counted_names (entries_in root [])) _ short (λ is. c.look_at_root.ensures.unopened tells (c.in_err-identity.was ∙ ap Err is)) (c.in_err-identity.ensures.unread tells root over) (c.in_err-identity.ensures.refused tells root over)
+    content_unidentified c.args.site.now.further root _ _ (declarations_among (entries_in root [])) (counted_names (entries_in root [])) _ short (λ is. c.look_at_root.ensures.unopened tells (c.in_err-identity.was ∙ ap Err is)) (c.in_err-identity.ensures.unread tells root over) (c.in_err-identity.ensures.refused tells root over)
 
 pub returns-in_err-checkpoint-clause-content : goal.returns-in_err-checkpoint-clause-content
 returns-in_err-checkpoint-clause-content g c = λ tells root over short.
-    content_did root _ _ _ (are_declarations root _ (c.in_ok-identity.ensures.told tells root over)) (c.in_ok-identity.ensures.opened tells root over)
+    content_did c.args.site.now.further root _ _ _ (are_declarations root _ (c.in_ok-identity.ensures.told tells root over)) (c.in_ok-identity.ensures.opened tells root over)
 
 pub returns-clause-content : goal.returns-clause-content
 returns-clause-content g c = λ tells root over short.
-    content_did root _ _ _ (are_declarations root _ (c.in_ok-identity.ensures.told tells root over)) (c.in_ok-identity.ensures.opened tells root over)
+    content_did c.args.site.now.further root _ _ _ (are_declarations root _ (c.in_ok-identity.ensures.told tells root over)) (c.in_ok-identity.ensures.opened tells root over)
 
 pub returns-clause-declares : goal.returns-clause-declares
 returns-clause-declares g c = λ tells root over. are_declarations root _ (c.in_ok-identity.ensures.told tells root over)
@@ -115,8 +115,8 @@ returns-in_err-checkpoint-clause-stop g c =
     let r = c.from_residual-in_err-checkpoint.result in
     let p = err_from_is_err_and r c.from_residual-in_err-checkpoint.ensures.1 in
     let s = g.T.Tree.state c.args.tree.now in
-    let kept = TellsKept g.S.StateFolder c.args.folder.now in
-    let now = course c.args.plan.now.create (g.S.StateFolder.seen c.args.folder.now) 0 (g.O.Output.said c.args.out.now) (g.O.Output.said c.catch_up.new.out) in
+    let kept = TellsKept g.S.StateFolder c.args.site.now.further c.args.folder.now in
+    let now = course c.args.site.now.further c.args.plan.now.create (g.S.StateFolder.seen c.args.folder.now) 0 (g.O.Output.said c.args.out.now) (g.O.Output.said c.catch_up.new.out) in
     let unlooked = IsUnlooked g.T.Tree.told s (g.T.Tree.state c.look_at_root.new.store) in
     let site = IsOfSite c.args.site.now c.in_ok-identity.identity in
     let store = IsOfStore g.T.Tree.told s c.args.site.now in

@@ -11,25 +11,25 @@ use Rattle.ocfl_night.proofs.TakingUp.{begun_moments, new_here}
 use Rattle.ocfl_night.proofs.opening.begin.Goals as goal
 
 pub returns-in_err-checkpoint-clause-any_moment : goal.returns-in_err-checkpoint-clause-any_moment
-returns-in_err-checkpoint-clause-any_moment g c = λ told rounds only none new.
+returns-in_err-checkpoint-clause-any_moment g c = λ told rounds checks only none new.
     begun_moments rounds (g.met.S.StateFolder.only_now told) only none new (c.is_new.ensures.crash told) (c.is_new.ensures.seen told)
     (λ only none new. unmoved (g.met.S.StateFolder.only_now told) (new_here rounds only none new))
 
 pub returns-in_err-put_checkpoint-clause-any_moment : goal.returns-in_err-put_checkpoint-clause-any_moment
-returns-in_err-put_checkpoint-clause-any_moment g c = λ told rounds only none new.
+returns-in_err-put_checkpoint-clause-any_moment g c = λ told rounds checks only none new.
     begun_moments rounds (g.met.S.StateFolder.only_now told) only none new (c.is_new.ensures.crash told) (c.is_new.ensures.seen told)
-    (λ only none new. mark_moments (g.met.S.StateFolder.only_now told) (new_here rounds only none new) only (first_stands c.args.site.now c.args.identity.now c.in_ok-checkpoint.ensures new) (c.put_checkpoint.ensures.crash told))
+    (λ only none new. mark_moments (g.met.S.StateFolder.only_now told) (new_here rounds only none new) only (first_stands c.args.site.now c.args.identity.now checks c.in_ok-checkpoint.ensures new) (c.put_checkpoint.ensures.crash told))
 
 pub returns-clause-any_moment : goal.returns-clause-any_moment
-returns-clause-any_moment g c = λ told rounds only none new.
+returns-clause-any_moment g c = λ told rounds checks only none new.
     begun_moments rounds (g.met.S.StateFolder.only_now told) only none new (c.is_new.ensures.crash told) (c.is_new.ensures.seen told)
-    (λ only none new. mark_moments (g.met.S.StateFolder.only_now told) (new_here rounds only none new) only (first_stands c.args.site.now c.args.identity.now c.in_ok-checkpoint.ensures new) (c.put_checkpoint.ensures.crash told))
+    (λ only none new. mark_moments (g.met.S.StateFolder.only_now told) (new_here rounds only none new) only (first_stands c.args.site.now c.args.identity.now checks c.in_ok-checkpoint.ensures new) (c.put_checkpoint.ensures.crash told))
 
 pub returns-clause-ready : goal.returns-clause-ready
-returns-clause-ready g c = λ told rounds only new.
+returns-clause-ready g c = λ told rounds checks only new.
     let is = c.in_ok-checkpoint.ensures in
     let still = subst (IsNew []) (sym (c.is_new.ensures.seen told)) new in
-    put_ready (c.in_ok-put_checkpoint.ensures.put told) (first_stands c.args.site.now c.args.identity.now is still) (λ phase. ap length still.report ∙ sym (ap (λ (x : Checkpoint). x.report.bytes) is))
+    put_ready (c.in_ok-put_checkpoint.ensures.put told) (first_stands c.args.site.now c.args.identity.now checks is still) (λ phase. ap length still.report ∙ sym (ap (λ (x : Checkpoint). x.report.bytes) is))
     (c.in_ok-put_checkpoint.ensures.durable told (c.is_new.ensures.only told only))
 
 pub returns-clause-stands : goal.returns-clause-stands

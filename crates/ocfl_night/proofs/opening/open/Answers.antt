@@ -1,7 +1,7 @@
 use Rattle.std.specs.Prelude.{IfOk, IsTrue}
 use Rattle.std.proofs.{Common.{◌≡◌, ◌≤◌, ◌∙◌, [], ap, refl, rules, sym, subst}, lemmas.Result.{IfOk-weaker, on_ok_weaker}}
 use Rattle.ocfl_state.specs.{Checkpoint.{Checkpoint}, Content.{Content}}
-use Rattle.ocfl_night.specs.{Beginning.{further, position}, Older.{IsOlder}, Refusing.{IsDisowned, IsOutdated, not_own, outdated}, Sound.{IsAt, IsNew}, Steps.{IsOpened, IsTakenUp}, Stopping.{ForFirst, ForOpen, ForPut, IsToOpen}}
+use Rattle.ocfl_night.specs.{Beginning.{position, stored}, Older.{IsOlder}, Refusing.{IsDisowned, IsOutdated, not_own, outdated}, Sound.{IsAt, IsNew}, Steps.{IsOpened, IsTakenUp}, Stopping.{ForFirst, ForOpen, ForPut, IsToOpen}}
 use Rattle.ocfl_night.proofs.{Beginnings.{begun_first, first_to_open, taken_stays, taken_within}, Foreigners.{at_once, first_own, own_at, taken_own}, Moments.{same_twice, unchanged}, Heard.{is_err, kept_found}}
 use Rattle.ocfl_night.proofs.TakingUp.{found_on, found_ready, none_found, same_found, settled_there, shown_new, some_found, taken_moments, told_none}
 use Rattle.ocfl_night.specs.{Site.{IsOwn}, declared.opening.Opened.{Opened}}
@@ -19,15 +19,15 @@ opened_here g c told k at =
     IfOk-weaker c.go_on.result _ _ (λ o h. opened_as is (c.look.ensures.seen told) h) (c.go_on.ensures.opened told)
 
 pub returns-in-Err-clause-any_moment : goal.returns-in-Err-clause-any_moment
-returns-in-Err-clause-any_moment g c = λ told rounds kept. unchanged (g.met.S.StateFolder.only_now told) (λ x n. kept_found kept n) (c.look.ensures.crash told)
+returns-in-Err-clause-any_moment g c = λ told rounds checks kept. unchanged (g.met.S.StateFolder.only_now told) (λ x n. kept_found kept n) (c.look.ensures.crash told)
 
 pub returns-in-Ok-clause-any_moment : goal.returns-in-Ok-clause-any_moment
-returns-in-Ok-clause-any_moment g c = λ told rounds kept.
+returns-in-Ok-clause-any_moment g c = λ told rounds checks kept.
     let at = same_found (c.in_ok-found.ensures.value told) c.in-Some.is c.in-Ok.ensures.same in
     taken_moments (g.met.S.StateFolder.only_now told) (g.met.S.StateFolder.stays told c.args.folder.now) kept (c.look.ensures.crash told) at (c.look.ensures.seen told) (c.in_ok-found.ensures.only told) (c.go_on.ensures.any_moment told rounds)
 
 pub returns-in-Ok-clause-ready : goal.returns-in-Ok-clause-ready
-returns-in-Ok-clause-ready g c = λ told rounds kept.
+returns-in-Ok-clause-ready g c = λ told rounds checks kept.
     let was = g.met.S.StateFolder.stays told c.args.folder.now in
     let sound = kept (g.S.StateFolder.seen c.args.folder.now) was in
     let at = same_found (c.in_ok-found.ensures.value told) c.in-Some.is c.in-Ok.ensures.same in
@@ -35,21 +35,21 @@ returns-in-Ok-clause-ready g c = λ told rounds kept.
     (c.go_on.ensures.ready told rounds sound.0 (settled_there sound.1 at (c.look.ensures.seen told) (c.in_ok-found.ensures.only told)))
 
 pub returns-in_default-clause-any_moment : goal.returns-in_default-clause-any_moment
-returns-in_default-clause-any_moment g c = λ told rounds kept.
+returns-in_default-clause-any_moment g c = λ told rounds checks kept.
     let was = g.met.S.StateFolder.stays told c.args.folder.now in
     let same = c.look.ensures.seen told in
     let none = none_found (g.S.StateFolder.seen c.args.folder.now) (c.in_ok-found.ensures.value told) c.in_default.is in
     let new = shown_new rounds (kept (g.S.StateFolder.seen c.args.folder.now) was) none in
     found_on (g.met.S.StateFolder.only_now told) was kept (c.look.ensures.crash told) (told_none rounds _ (kept (g.S.StateFolder.seen c.args.folder.now) was) none)
-    (c.begin.ensures.any_moment told rounds (c.in_ok-found.ensures.only told) (ap (λ (x : Content). x.checkpoint) same ∙ none) (subst (IsNew []) (sym same) new))
+    (c.begin.ensures.any_moment told rounds checks (c.in_ok-found.ensures.only told) (ap (λ (x : Content). x.checkpoint) same ∙ none) (subst (IsNew []) (sym same) new))
 
 pub returns-in_default-clause-ready : goal.returns-in_default-clause-ready
-returns-in_default-clause-ready g c = λ told rounds kept.
+returns-in_default-clause-ready g c = λ told rounds checks kept.
     let was = g.met.S.StateFolder.stays told c.args.folder.now in
     let none = none_found (g.S.StateFolder.seen c.args.folder.now) (c.in_ok-found.ensures.value told) c.in_default.is in
     let new = shown_new rounds (kept (g.S.StateFolder.seen c.args.folder.now) was) none in
     IfOk-weaker c.begin.result _ _ (λ o r. found_ready kept _ was (told_none rounds _ (kept (g.S.StateFolder.seen c.args.folder.now) was) none) r)
-    (c.begin.ensures.ready told rounds (c.in_ok-found.ensures.only told) (subst (IsNew []) (sym (c.look.ensures.seen told)) new))
+    (c.begin.ensures.ready told rounds checks (c.in_ok-found.ensures.only told) (subst (IsNew []) (sym (c.look.ensures.seen told)) new))
 
 pub returns-in_err-found-clause-foreign : goal.returns-in_err-found-clause-foreign
 returns-in_err-found-clause-foreign g c = λ told k at foreign. (is_err _ c.from_residual.result c.from_residual.ensures.1, record { same = c.look.ensures.seen told; crash = c.look.ensures.crash told })
@@ -107,7 +107,7 @@ pub returns-in_default-clause-opened : goal.returns-in_default-clause-opened
 returns-in_default-clause-opened g c = λ told k at. let none = none_found (g.S.StateFolder.seen c.args.folder.now) (c.in_ok-found.ensures.value told) c.in_default.is in absurd (cc (none, at.is))
 
 pub returns-in_err-found-clause-any_moment : goal.returns-in_err-found-clause-any_moment
-returns-in_err-found-clause-any_moment g c = λ told rounds kept. unchanged (g.met.S.StateFolder.only_now told) (λ x n. kept_found kept n) (c.look.ensures.crash told)
+returns-in_err-found-clause-any_moment g c = λ told rounds checks kept. unchanged (g.met.S.StateFolder.only_now told) (λ x n. kept_found kept n) (c.look.ensures.crash told)
 
 pub returns-in-Err-clause-rightly : goal.returns-in-Err-clause-rightly
 returns-in-Err-clause-rightly g c = λ told why is.
@@ -140,11 +140,11 @@ pub returns-in_default-clause-begins : goal.returns-in_default-clause-begins
 returns-in_default-clause-begins g c = λ told.
     let same = c.look.ensures.seen told in
     let none = none_found (g.S.StateFolder.seen c.args.folder.now) (c.in_ok-found.ensures.value told) c.in_default.is in
-    begun_first (g.S.StateFolder.seen c.args.folder.now) (g.S.StateFolder.seen c.look.new.folder) c.begin.result (search rules) none (ap (λ (x : Content). x.report) same) (ap (λ (x : Content). x.closed) same) (c.begin.ensures.empty told) (c.begin.ensures.unclosed told) c.begin.ensures.stands
+    begun_first c.args.site.now.further (g.S.StateFolder.seen c.args.folder.now) (g.S.StateFolder.seen c.look.new.folder) c.begin.result (search rules) none (ap (λ (x : Content). x.report) same) (ap (λ (x : Content). x.closed) same) (c.begin.ensures.empty told) (c.begin.ensures.unclosed told) c.begin.ensures.stands
 
 pub returns-in-Ok-clause-begins : goal.returns-in-Ok-clause-begins
 returns-in-Ok-clause-begins g c = λ told.
-    IfOk-weaker c.go_on.result _ _ (λ o up. further c.in-Some.found (some_found (c.in_ok-found.ensures.value told) c.in-Some.is) (taken_stays c.args.identity.now up ∙ ap position c.in-Ok.ensures.same)) c.go_on.ensures.taken
+    IfOk-weaker c.go_on.result _ _ (λ o up. stored c.in-Some.found (some_found (c.in_ok-found.ensures.value told) c.in-Some.is) (taken_stays c.args.identity.now up ∙ ap position c.in-Ok.ensures.same)) c.go_on.ensures.taken
 
 pub returns-in_default-clause-own : goal.returns-in_default-clause-own
 returns-in_default-clause-own g c = IfOk-weaker c.begin.result _ _ (λ o h. first_own c.args.site.now c.args.identity.now (ap (λ (x : Opened). x.checkpoint) h)) c.begin.ensures.first
@@ -174,5 +174,5 @@ returns-in-Ok-clause-stop g c =
     let to_open = IsToOpen told c.args.site.now c.args.identity.now c.args.plan.now.create here in
     opens_over (ForPut (IsTakenUp c.args.identity.now c.in-Ok.checkpoint)) (ForOpen to_open here) _ (g.S.StateFolder.faults c.look.new.folder) _ c.go_on.result (λ it. it) c.in_ok-found.ensures.stop
     (λ why. open_reason told {Two = to_open} here _ (g.S.StateFolder.faults c.look.new.folder) _ why c.in_ok-found.ensures.stop
-    (λ l up. record { own = taken_own (owned g at) up; begins = λ it. further c.in-Some.found (found it) (taken_stays c.args.identity.now up ∙ ap position c.in-Ok.ensures.same) })
+    (λ l up. record { own = taken_own (owned g at) up; begins = λ it. stored c.in-Some.found (found it) (taken_stays c.args.identity.now up ∙ ap position c.in-Ok.ensures.same) })
     (λ it l up. taken_within c.args.identity.now (subst (λ (x : Checkpoint). x.told ≤ x.report.bytes) (sym c.in-Ok.ensures.same) (found it).text.keeps.told) up)) c.go_on.ensures.stop

@@ -1,7 +1,10 @@
 use Rattle.std.proofs.Common.{◌≡◌, ◌∙◌, [], ap, refl, sym, subst}
 use Rattle.std.proofs.lemmas.Result.{err_from_is_err_and}
 use Rattle.ocfl_tree.specs.StorageRoot.{StorageRoot}
-use Rattle.ocfl_scrub.specs.{Keeping.{met_at}, Starting.{part_of}, Running.{limits_of}}
+use Rattle.ocfl_report.specs.declared.further.Further.{Further}
+use Rattle.ocfl_cursor.specs.Cursor.{Cursor}
+use Rattle.ocfl_scrub.specs.{Keeping.{IsReady, met_at}, Starting.{part_of}, Running.{limits_of, place_in}}
+use Rattle.ocfl_night.proofs.Chains.{begun_checks}
 use Rattle.ocfl_night.specs.{Site.{IsStill}}
 use Rattle.ocfl_night.proofs.{Extending.{run_ascends, run_beyond, run_counts, run_failed, run_of, run_read, run_took}, Looks.{counts_either, counts_on}}
 use Rattle.ocfl_night.proofs.Reading.{beyond_by, beyond_either, content_first_alone, content_same, read_then}
@@ -23,7 +26,9 @@ returns-clause-run g c = λ tells root over short ready.
     run_of root s t old new part c.args.cursor (limits_of c.args.limits) c.run_on-ran.result (met_at c.args.kept.now) runs after c.new-lines.ensures.items c.in_default.ensures.whole
 
 pub returns-clause-walk : goal.returns-clause-walk
-returns-clause-walk g c = λ tells root over short ready. c.run_on-ran.ensures.ready tells root over short ready
+returns-clause-walk g c = λ tells root over short ready.
+    let same : c.run_on-ran.result.cursor.further ≡ c.args.cursor.further = ap (λ (x : Cursor). x.further) (c.run_on-ran.ensures.any_store.cursor c.in_default.ensures.made).1 ∙ begun_checks c.args.cursor in
+    subst (λ (f : Further). IsReady f root (part_of c.args.part.now) (place_in c.run_on-ran.result.cursor.state) c.run_on-ran.new.kept) (sym same) (c.run_on-ran.ensures.ready tells root over short ready)
 
 pub returns-in-Some-clause-root : goal.returns-in-Some-clause-root
 returns-in-Some-clause-root g c = λ tells root over short ready. c.run_on-ran.ensures.root tells root over short ready
@@ -61,7 +66,7 @@ pub returns-in-Some-clause-beyond : goal.returns-in-Some-clause-beyond
 returns-in-Some-clause-beyond g c = λ declares tells root over short ready.
     beyond_either c.run_on-ran.result.end
     (λ made. run_beyond root _ _ c.new-lines.result.items c.run_on-ran.new.out.items (part_of c.args.part.now) c.args.cursor (limits_of c.args.limits) c.run_on-ran.result (met_at c.args.kept.now) (c.run_on-ran.ensures.told tells root over short made ready))
-    (λ worn. content_same root _ _ (ap g.T.Tree.state (c.run_on-ran.ensures.any_store.worn_silent worn).0))
+    (λ worn. content_same c.args.cursor.further root _ _ (ap g.T.Tree.state (c.run_on-ran.ensures.any_store.worn_silent worn).0))
 
 pub returns-in_err-look_again-clause-beyond : goal.returns-in_err-look_again-clause-beyond
 returns-in_err-look_again-clause-beyond g c = λ declares tells root over short ready.
@@ -69,8 +74,8 @@ returns-in_err-look_again-clause-beyond g c = λ declares tells root over short 
     let there = c.run_on-ran.ensures.root tells root over short ready in
     let counts = run_counts root _ _ c.new-lines.result.items c.run_on-ran.new.out.items (part_of c.args.part.now) c.args.cursor (limits_of c.args.limits) c.run_on-ran.result (met_at c.args.kept.now) runs in
     let after = c.look_again.ensures.counts tells root there short in
-    let none = c.look_again.ensures.content declares tells root there short in
-    beyond_by (content_first_alone root counts after none) (run_beyond root _ _ c.new-lines.result.items c.run_on-ran.new.out.items (part_of c.args.part.now) c.args.cursor (limits_of c.args.limits) c.run_on-ran.result (met_at c.args.kept.now) runs)
+    let none = c.look_again.ensures.content c.args.cursor.further declares tells root there short in
+    beyond_by (content_first_alone c.args.cursor.further root counts after none) (run_beyond root _ _ c.new-lines.result.items c.run_on-ran.new.out.items (part_of c.args.part.now) c.args.cursor (limits_of c.args.limits) c.run_on-ran.result (met_at c.args.kept.now) runs)
 
 pub returns-clause-beyond : goal.returns-clause-beyond
 returns-clause-beyond g c = λ declares tells root over short ready.
@@ -78,8 +83,8 @@ returns-clause-beyond g c = λ declares tells root over short ready.
     let there = c.run_on-ran.ensures.root tells root over short ready in
     let counts = run_counts root _ _ c.new-lines.result.items c.run_on-ran.new.out.items (part_of c.args.part.now) c.args.cursor (limits_of c.args.limits) c.run_on-ran.result (met_at c.args.kept.now) runs in
     let after = c.look_again.ensures.counts tells root there short in
-    let none = c.look_again.ensures.content declares tells root there short in
-    beyond_by (content_first_alone root counts after none) (run_beyond root _ _ c.new-lines.result.items c.run_on-ran.new.out.items (part_of c.args.part.now) c.args.cursor (limits_of c.args.limits) c.run_on-ran.result (met_at c.args.kept.now) runs)
+    let none = c.look_again.ensures.content c.args.cursor.further declares tells root there short in
+    beyond_by (content_first_alone c.args.cursor.further root counts after none) (run_beyond root _ _ c.new-lines.result.items c.run_on-ran.new.out.items (part_of c.args.part.now) c.args.cursor (limits_of c.args.limits) c.run_on-ran.result (met_at c.args.kept.now) runs)
 
 pub returns-clause-read : goal.returns-clause-read
 returns-clause-read g c = λ declares tells root over short ready.
@@ -87,8 +92,8 @@ returns-clause-read g c = λ declares tells root over short ready.
     let there = c.run_on-ran.ensures.root tells root over short ready in
     let counts = run_counts root _ _ c.new-lines.result.items c.run_on-ran.new.out.items (part_of c.args.part.now) c.args.cursor (limits_of c.args.limits) c.run_on-ran.result (met_at c.args.kept.now) runs in
     let after = c.look_again.ensures.counts tells root there short in
-    let none = c.look_again.ensures.content declares tells root there short in
-    read_then root counts after none (run_read root _ _ c.new-lines.result.items c.run_on-ran.new.out.items (part_of c.args.part.now) c.args.cursor (limits_of c.args.limits) c.run_on-ran.result (met_at c.args.kept.now) runs c.in_default.ensures.made c.in_default.ensures.whole)
+    let none = c.look_again.ensures.content c.args.cursor.further declares tells root there short in
+    read_then c.args.cursor.further root counts after none (run_read root _ _ c.new-lines.result.items c.run_on-ran.new.out.items (part_of c.args.part.now) c.args.cursor (limits_of c.args.limits) c.run_on-ran.result (met_at c.args.kept.now) runs c.in_default.ensures.made c.in_default.ensures.whole)
 
 pub returns-clause-failed : goal.returns-clause-failed
 returns-clause-failed g c = λ tells root over short ready.
@@ -110,14 +115,14 @@ returns-clause-took g c = λ declares tells root over short ready.
     let there = c.run_on-ran.ensures.root tells root over short ready in
     let counts = run_counts root _ _ c.new-lines.result.items c.run_on-ran.new.out.items (part_of c.args.part.now) c.args.cursor (limits_of c.args.limits) c.run_on-ran.result (met_at c.args.kept.now) runs in
     let after = c.look_again.ensures.counts tells root there short in
-    let none = c.look_again.ensures.content declares tells root there short in
-    opened_then root counts after none (run_took root _ _ c.new-lines.result.items c.run_on-ran.new.out.items (part_of c.args.part.now) c.args.cursor (limits_of c.args.limits) c.run_on-ran.result (met_at c.args.kept.now) runs c.in_default.ensures.whole)
+    let none = c.look_again.ensures.content c.args.cursor.further declares tells root there short in
+    opened_then c.args.cursor.further root counts after none (run_took root _ _ c.new-lines.result.items c.run_on-ran.new.out.items (part_of c.args.part.now) c.args.cursor (limits_of c.args.limits) c.run_on-ran.result (met_at c.args.kept.now) runs c.in_default.ensures.whole)
 
 pub returns-in-Some-clause-once : goal.returns-in-Some-clause-once
 returns-in-Some-clause-once g c = λ declares tells root over short ready.
     up_either c.run_on-ran.result.end
     (λ made. run_ascends root _ _ c.new-lines.result.items c.run_on-ran.new.out.items (part_of c.args.part.now) c.args.cursor (limits_of c.args.limits) c.run_on-ran.result (met_at c.args.kept.now) (c.run_on-ran.ensures.told tells root over short made ready))
-    (λ worn. content_same root _ _ (ap g.T.Tree.state (c.run_on-ran.ensures.any_store.worn_silent worn).0))
+    (λ worn. content_same c.args.cursor.further root _ _ (ap g.T.Tree.state (c.run_on-ran.ensures.any_store.worn_silent worn).0))
 
 pub returns-in_err-look_again-clause-once : goal.returns-in_err-look_again-clause-once
 returns-in_err-look_again-clause-once g c = λ declares tells root over short ready.
@@ -125,8 +130,8 @@ returns-in_err-look_again-clause-once g c = λ declares tells root over short re
     let there = c.run_on-ran.ensures.root tells root over short ready in
     let counts = run_counts root _ _ c.new-lines.result.items c.run_on-ran.new.out.items (part_of c.args.part.now) c.args.cursor (limits_of c.args.limits) c.run_on-ran.result (met_at c.args.kept.now) runs in
     let after = c.look_again.ensures.counts tells root there short in
-    let none = c.look_again.ensures.content declares tells root there short in
-    up_then root counts after none (run_ascends root _ _ c.new-lines.result.items c.run_on-ran.new.out.items (part_of c.args.part.now) c.args.cursor (limits_of c.args.limits) c.run_on-ran.result (met_at c.args.kept.now) runs)
+    let none = c.look_again.ensures.content c.args.cursor.further declares tells root there short in
+    up_then c.args.cursor.further root counts after none (run_ascends root _ _ c.new-lines.result.items c.run_on-ran.new.out.items (part_of c.args.part.now) c.args.cursor (limits_of c.args.limits) c.run_on-ran.result (met_at c.args.kept.now) runs)
 
 pub returns-clause-once : goal.returns-clause-once
 returns-clause-once g c = λ declares tells root over short ready.
@@ -134,8 +139,8 @@ returns-clause-once g c = λ declares tells root over short ready.
     let there = c.run_on-ran.ensures.root tells root over short ready in
     let counts = run_counts root _ _ c.new-lines.result.items c.run_on-ran.new.out.items (part_of c.args.part.now) c.args.cursor (limits_of c.args.limits) c.run_on-ran.result (met_at c.args.kept.now) runs in
     let after = c.look_again.ensures.counts tells root there short in
-    let none = c.look_again.ensures.content declares tells root there short in
-    up_then root counts after none (run_ascends root _ _ c.new-lines.result.items c.run_on-ran.new.out.items (part_of c.args.part.now) c.args.cursor (limits_of c.args.limits) c.run_on-ran.result (met_at c.args.kept.now) runs)
+    let none = c.look_again.ensures.content c.args.cursor.further declares tells root there short in
+    up_then c.args.cursor.further root counts after none (run_ascends root _ _ c.new-lines.result.items c.run_on-ran.new.out.items (part_of c.args.part.now) c.args.cursor (limits_of c.args.limits) c.run_on-ran.result (met_at c.args.kept.now) runs)
 
 pub returns-clause-asks : goal.returns-clause-asks
 returns-clause-asks g c = λ tells root over short ready.

@@ -5,6 +5,6 @@ use Rattle.ocfl_night_laws.proofs.AnyNights.{all_sound, are_in, at_any, closed_a
 use Rattle.ocfl_night_laws.proofs.nights.each_other_report_is_the_audit_around_what_was_left_out.Goals as goal
 
 pub returns : goal.returns
-returns g c = λ root part nights are over read.
-    at_any g.S.StateFolder nights (λ x is d among other. is_around root nights over c.runs_that_stop_join.ensures.ended part read d ((closed_as (rounds_of part nights) x is d among).partial other))
-    (all_sound g.S.StateFolder part (Some (known_of nights)) (λ (x : Content). x ≡ empty) nights (are_in nights) (λ x is. ([], empty_sound (rounds_of part nights) x is)) are)
+returns g c = λ further root part nights are over read.
+    at_any g.S.StateFolder nights (λ x is d among other. is_around further root nights over c.runs_that_stop_join.ensures.ended part read d ((closed_as (rounds_of further part nights) x is d among).partial other))
+    (all_sound g.S.StateFolder further part (Some (known_of nights)) (λ (x : Content). x ≡ empty) nights (are_in nights) (λ x is. ([], empty_sound (rounds_of further part nights) x is)) are)

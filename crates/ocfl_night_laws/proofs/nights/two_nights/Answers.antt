@@ -16,16 +16,16 @@ returns-clause-whole g c = λ told root short tells over1 over2 fresh well1 well
     let t1 = g.T.Tree.state c.night-one.new.tree in
     let s2 = g.T.Tree.state c.args.second.now in
     let t2 = g.T.Tree.state c.night-two.new.tree in
-    let l1 = look_between root s1 t1 in
-    let l2 = look_between root s2 t2 in
+    let l1 = look_between c.args.site.now.further root s1 t1 in
+    let l2 = look_between c.args.site.now.further root s2 t2 in
     let safe1 = c.night-one.ensures.heard told tells root over1 short in
     let safe2 = c.night-two.ensures.heard told tells root over2 short in
     let n1 : Night _ = record { gone = []; began = f0; ended = f1; look = l1; before = g.O.Output.said c.args.out.now; said = g.O.Output.said c.night-one.new.out } in
     let n2 : Night _ = record { gone = []; began = f1; ended = f2; look = l2; before = g.O.Output.said c.night-one.new.out; said = g.O.Output.said c.night-two.new.out } in
-    let first = safe1 None tt (λ x l. ([], empty_sound (of_any part) x (fresh x l))) in
-    let read1 = c.where_nothing_failed_all_was_read.ensures root s1 t1 (c.night-one.ensures.counts tells root over1 short) well1 in
-    let read2 = c.where_nothing_failed_all_was_read.ensures root s2 t2 (c.night-two.ensures.counts tells root over2 short) well2 in
-    let all = c.each_whole_report_is_the_audit.ensures.exact root part (n1 ∷ n2 ∷ []) ((λ x l. (x, fresh x l, untidied x)), safe1, ((λ x l. (x, g.met.S.StateFolder.counts_now told f1 (g.S.StateFolder.moment f0) x first.later l, untidied x)), safe2, tt))
+    let first = safe1 None tt (λ x l. ([], empty_sound (of_any c.args.site.now.further part) x (fresh x l))) in
+    let read1 = c.where_nothing_failed_all_was_read.ensures c.args.site.now.further root s1 t1 (c.night-one.ensures.counts tells root over1 short) well1 in
+    let read2 = c.where_nothing_failed_all_was_read.ensures c.args.site.now.further root s2 t2 (c.night-two.ensures.counts tells root over2 short) well2 in
+    let all = c.each_whole_report_is_the_audit.ensures.exact c.args.site.now.further root part (n1 ∷ n2 ∷ []) ((λ x l. (x, fresh x l, untidied x)), safe1, ((λ x l. (x, g.met.S.StateFolder.counts_now told f1 (g.S.StateFolder.moment f0) x first.later l, untidied x)), safe2, tt))
     (refl, (refl, tt)) (read1, (read2, tt)) in
     let later = (safe2 None tt (λ x l. since_sound (first.each x (g.met.S.StateFolder.counts_now told f1 (g.S.StateFolder.moment f0) x first.later l)))).later in
     all.1.0 d (g.met.S.StateFolder.counts_now told f2 (g.S.StateFolder.moment f1) d later left)
@@ -33,7 +33,7 @@ returns-clause-whole g c = λ told root short tells over1 over2 fresh well1 well
 pub returns-clause-read : goal.returns-clause-read
 returns-clause-read g c = λ told root short tells over1 over2 fresh well1 well2 order1 other order2.
     let part = part_at c.args.site.now.ends in
-    let kept : IsKept g.S.StateFolder (of_any part) c.args.folder.now = λ x l. ([], empty_sound (of_any part) x (fresh x l)) in
+    let kept : IsKept g.S.StateFolder (of_any c.args.site.now.further part) c.args.folder.now = λ x l. ([], empty_sound (of_any c.args.site.now.further part) x (fresh x l)) in
     let one = c.night-one.ensures in
     let two = c.night-two.ensures in
     two_read (one.read told tells root over1 short kept order1) (two.beyond told tells root over2 short)

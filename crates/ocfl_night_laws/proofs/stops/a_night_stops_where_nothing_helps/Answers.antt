@@ -5,4 +5,4 @@ pub returns-clause-run : goal.returns-clause-run
 returns-clause-run c = λ strict d made p. halts_exactly strict d made p
 
 pub returns-clause-night : goal.returns-clause-night
-returns-clause-night c = λ plan tells k d old new end p n well. stopped_exactly p n well
+returns-clause-night c = λ further plan tells k d old new end p n well. stopped_exactly p n well

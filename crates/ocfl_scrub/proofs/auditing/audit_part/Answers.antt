@@ -1,4 +1,3 @@
-use Rattle.std.specs.Prelude.{None}
 use Rattle.std.proofs.Common.{◌∙◌, ap, refl, sym}
 use Rattle.ocfl_scrub.specs.Starting.{part_of}
 use Rattle.ocfl_scrub.specs.declared.checking.AuditStatus.TheVariants as end
@@ -11,14 +10,14 @@ use Rattle.ocfl_scrub.proofs.auditing.audit_part.Goals as goal
 pub returns-in-Err-clause-told : goal.returns-in-Err-clause-told
 returns-in-Err-clause-told g c told root over short =
     let e = c.audit_end.ensures in
-    rw (e.last, e.found, e.end) (unstarted root (part_of c.args.part.now) _ _ _ _ (c.in-Err.ensures.told told root over))
+    rw (e.last, e.found, e.end) (unstarted c.args.further root (part_of c.args.part.now) _ _ _ _ (c.in-Err.ensures.told told root over))
 
 pub loop-step-init : goal.loop-step-init
 loop-step-init g c = record {
   lines = nothing_written _;
   silent = λ e. refl;
   none_found = λ e. refl;
-  told = λ told root over short. nothing_taken root (part_of c.args.part.now) _ _ _ _ (c.in-Ok.ensures.told told root over);
+  told = λ told root over short. nothing_taken c.args.further root (part_of c.args.part.now) _ _ _ _ (c.in-Ok.ensures.told told root over);
 }
 
 pub loop-step-preserved : goal.loop-step-preserved
@@ -31,8 +30,8 @@ loop-step-preserved g c =
       silent = λ e. cc;
       none_found = λ e. cc;
       told = λ told root over short.
-          audit_took (part_of c.args.part.now) (i.told told root over short) _ _ (λ tree. given.ensures.told told root tree None) c.in-Some.is given.ensures.before _ _
-          _ _ _ _ took.place c.either-found.ensures (λ u q. took.told told root u short q);
+          audit_took (part_of c.args.part.now) (i.told told root over short) _ _ (λ tree. given.ensures.told told root tree c.args.further) c.in-Some.is given.ensures.before _ _
+          _ _ _ _ took.place c.either-found.ensures (λ u q. took.told c.args.further told root u short q);
     }
 
 pub returns-clause-any_store : goal.returns-clause-any_store
@@ -63,14 +62,14 @@ returns-clause-told g c told root over short =
     rw (e.last, e.found, e.end)
     (elim c.match-next_within.branch [
       | in-Ok-next_within+in_default w ↦ rw (w.store-is, w.out-is, w.end-is)
-          (audit_ended (part_of c.args.part.now) (i.told told root over short) _ w.in-Ok-next_within.step.0 (λ tree. w.in-Ok-next_within.ensures.told told root tree None) w.in_default.is)
+          (audit_ended (part_of c.args.part.now) (i.told told root over short) _ w.in-Ok-next_within.step.0 (λ tree. w.in-Ok-next_within.ensures.told told root tree c.args.further) w.in_default.is)
       | in-Err-next_within w ↦ rw (w.store-is, w.out-is, w.end-is)
-          (audit_lost (part_of c.args.part.now) (i.told told root over short) _ _ (λ tree. w.in-Err-next_within.ensures.told told root tree None))
+          (audit_lost (part_of c.args.part.now) (i.told told root over short) _ _ (λ tree. w.in-Err-next_within.ensures.told told root tree c.args.further))
       | in-Ok-next_within+in-Some+in-Err-take_item w ↦ rw (w.store-is, w.out-is, w.end-is)
-          (audit_missed (part_of c.args.part.now) (i.told told root over short) _ w.in-Ok-next_within.step.0 (λ tree. w.in-Ok-next_within.ensures.told told root tree None)
-          w.in-Some.is w.in-Ok-next_within.ensures.before _ _ _ (λ u q. w.in-Err-take_item.ensures.told told root u short q))
+          (audit_missed (part_of c.args.part.now) (i.told told root over short) _ w.in-Ok-next_within.step.0 (λ tree. w.in-Ok-next_within.ensures.told told root tree c.args.further)
+          w.in-Some.is w.in-Ok-next_within.ensures.before _ _ _ (λ u q. w.in-Err-take_item.ensures.told c.args.further told root u short q))
     ])
 
 pub returns-clause-unfailing : goal.returns-clause-unfailing
 returns-clause-unfailing g c told root over short ended same =
-    nothing_unread root (part_of c.args.part.now) _ _ _ _ _ _ _ (returns-clause-told g c told root over short) ended same
+    nothing_unread c.args.further root (part_of c.args.part.now) _ _ _ _ _ _ _ (returns-clause-told g c told root over short) ended same

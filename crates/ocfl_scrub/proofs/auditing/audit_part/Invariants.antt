@@ -9,8 +9,8 @@ invariant-loop-step g l = record {
   lines : WritesLines (g.W.Write.contents l.fn.out) (g.W.Write.contents l.out) l.found;
   silent : l.last ≡ None → l.out ≡ l.fn.out;
   none_found : l.last ≡ None → l.found ≡ false;
-  told : WhereTold g.T.Tree.told g.T.Tree.state g.W.Write.contents l.fn.store l.store l.fn.out l.out (λ call.
-      HasTaken call.root (part_of l.fn.part) call.before call.after call.old call.new l.walk l.last l.found);
+  told : WhereTold l.fn.further g.T.Tree.told g.T.Tree.state g.W.Write.contents l.fn.store l.store l.fn.out l.out (λ call.
+      HasTaken call.further call.root (part_of l.fn.part) call.before call.after call.old call.new l.walk l.last l.found);
 }
 
 abbrev pub decreases-loop-step : goal.decreases-loop-step

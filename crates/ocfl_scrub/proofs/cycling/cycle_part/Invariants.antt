@@ -15,13 +15,14 @@ invariant-loop-one g l =
       counted : l.runs ≡ l.one-index;
       counts : l.cursor.runs ≡ l.runs;
       cycle : l.cursor.cycle ≡ 1;
+      option : l.cursor.further ≡ l.fn.further;
       unended : l.cursor.state ≢ ended;
-      begins : l.runs ≡ 0 → l.cursor ≡ new_cursor;
+      begins : l.runs ≡ 0 → l.cursor ≡ new_cursor l.fn.further;
       none_found : l.runs ≡ 0 → l.found ≡ false;
       silent : l.runs ≡ 0 → l.out ≡ l.fn.out;
       untouched : l.runs ≡ 0 → l.store ≡ l.fn.store;
       lines : WritesLines (Write.contents l.fn.out) (Write.contents l.out) l.found;
       told : IsTrue Tree.told → (root : StorageRoot) → (Tree.state l.fn.store).tree ≡ root → HasShortFiles root →
-          ChainSoFar root (part_of l.fn.part) (Tree.state l.fn.store) (Tree.state l.store) (Write.contents l.fn.out) (Write.contents l.out)
+          ChainSoFar l.fn.further root (part_of l.fn.part) (Tree.state l.fn.store) (Tree.state l.store) (Write.contents l.fn.out) (Write.contents l.out)
           (map limits_of (drop l.one-index l.limits)) (map limits_of l.limits) l.cursor l.found l.runs;
     }

@@ -22,4 +22,4 @@ returns-clause-told g c told root over short =
     let e = c.audit_part.ensures in
     let said = c.describe_audit_in.ensures in
     let scope = c.args.scope.now in
-    audited_in scope (part_audited root _ _ _ _ _ c.audit_part.result _ _ (e.told told root over short) (e.unfailing told root over short) said.nothing (part_of_scope scope) c.in-Ok.ensures.part said.note)
+    audited_in scope (part_audited c.args.further root _ _ _ _ _ c.audit_part.result _ _ (e.told told root over short) (e.unfailing told root over short) said.nothing (part_of_scope scope) c.in-Ok.ensures.part said.note)

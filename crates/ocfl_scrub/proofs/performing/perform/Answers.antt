@@ -1,13 +1,12 @@
 use Rattle.std.proofs.Common.{rules}
-use Rattle.ocfl_scrub.specs.Call.{call_of}
-use Rattle.ocfl_scrub.proofs.PerformLaws.{audit_performed, path_refused}
+use Rattle.ocfl_scrub.proofs.PerformLaws.{audit_performed, path_refused, performs_as}
 use Rattle.ocfl_scrub.proofs.performing.perform.Goals as goal
 
 pub returns-in-Audit-clause-told : goal.returns-in-Audit-clause-told
 returns-in-Audit-clause-told g c told root over short =
     let e = c.audited.ensures in
     let said = c.without_cursor.ensures in
-    audit_performed (call_of root _ _ _ _) _ _ _ _ _ _ _ c.in-Audit.is said.status said.note (e.told told root over short) (e.unfailing told root over short)
+    performs_as root _ _ _ _ _ _ _ _ _ _ c.in-Audit.is (audit_performed _ _ _ _ _ said.status said.note (e.told told root over short) (e.unfailing told root over short))
 
 pub returns-in-Check-clause-any_store : goal.returns-in-Check-clause-any_store
 returns-in-Check-clause-any_store g c =
@@ -21,7 +20,7 @@ returns-in-Check-clause-any_store g c =
       unshown = search rules;
       kept = search rules;
       without_file = search rules;
-      bad_path = path_refused _ _ _ _ _ _ _ c.in-Check.is c.as_str.ensures.value said.status said.note (λ none. (e.bad none).0) e.only_bad;
+      bad_path = path_refused _ _ _ _ _ _ _ _ c.in-Check.is c.as_str.ensures.value said.status said.note (λ none. (e.bad none).0) e.only_bad;
       bad_path_silent = search rules;
       lines = search rules;
     }

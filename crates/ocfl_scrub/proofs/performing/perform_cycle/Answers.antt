@@ -14,12 +14,12 @@ returns-clause-told g c told root over short =
     let new = g.W.Write.contents c.cycle.new.out in
     let end = c.cycle.result in
     let same : map limits_of c.deref.result.now ≡ equal_limits c.args.limits c.args.count = ap (map limits_of) (c.deref.ensures.value ∙ c.in-Ok.ensures) in
-    let cycles : CycleOfRunsWithin (call_of root s t old new) whole (equal_limits c.args.limits c.args.count) end =
-    subst (λ ls. CycleOfRunsWithin (call_of root s t old new) whole ls end) same (e.told told root over short) in
+    let cycles : CycleOfRunsWithin (call_of c.args.further root s t old new) whole (equal_limits c.args.limits c.args.count) end =
+    subst (λ ls. CycleOfRunsWithin (call_of c.args.further root s t old new) whole ls end) same (e.told told root over short) in
     inl (record {
       ran = end;
       cycles = cycles;
-      headline = headline_of_whole (call_of root s t old new) (equal_limits c.args.limits c.args.count) end cycles;
+      headline = headline_of_whole (call_of c.args.further root s t old new) (equal_limits c.args.limits c.args.count) end cycles;
       count_is = e.any_store.runs_are;
       spent_is = e.any_store.spent_is;
       says = c.describe_cycle.ensures.note;

@@ -1,4 +1,3 @@
-use Rattle.std.specs.Prelude.{None}
 use Rattle.std.proofs.Common.{◌≤◌, ◌∙◌, ◌^◌, ap, arith, length, refl, subst, sym}
 use Rattle.ocfl_tree.specs.Place.{Place}
 use Rattle.ocfl_scrub.specs.{Call.{call_of}, Passes.{IsPass, PassesOn}, Running.{limits_of}, Starting.{part_of}}
@@ -20,7 +19,7 @@ loop-alloc-init g c =
       near = c.args.met.short;
       limits = meter.limits;
       paid = paid_start _ _ _ meter.spent meter.files;
-      told = λ told root over short. on_way_first root (part_of c.args.part.now) _ _ c.args.met c.args.from _ _ _ meter.spent meter.files over;
+      told = λ further told root over short. on_way_first further root (part_of c.args.part.now) _ _ c.args.met c.args.from _ _ _ meter.spent meter.files over;
     }
 
 pub invariant_of-end : goal.invariant_of-end
@@ -38,9 +37,9 @@ loop-alloc-preserved g c =
       near = next_short _ _ c.in-Some.is given.ensures.goes_on c.in-Some.next.place refl;
       limits = c.charge.ensures.limits ∙ i.limits;
       paid = charged_item _ c.loop-alloc.meter _ _ _ _ i.limits i.paid took.cost may c.charge.ensures.spent c.charge.ensures.files;
-      told = λ told root over short.
-          way_next (part_of c.args.part.now) over (i.told told root over short) (λ h. within_both _ c.loop-alloc.meter i.limits (may h)) _ _ _ _ _ _ _ _ took.place c.charge.ensures.spent c.charge.ensures.files
-          c.either-found.ensures (λ u q. took.told told root u short q) _ _ _ (λ tree. given.ensures.told told root tree None) _ c.in-Some.is given.ensures.before;
+      told = λ further told root over short.
+          way_next (part_of c.args.part.now) over (i.told further told root over short) (λ h. within_both _ c.loop-alloc.meter i.limits (may h)) _ _ _ _ _ _ _ _ took.place c.charge.ensures.spent c.charge.ensures.files
+          c.either-found.ensures (λ u q. took.told further told root u short q) _ _ _ (λ tree. given.ensures.told told root tree further) _ c.in-Some.is given.ensures.before;
     }
 
 pub returns-clause-any_store : goal.returns-clause-any_store
@@ -73,12 +72,12 @@ returns-clause-any_store g c =
     ])
 
 pub returns-clause-told : goal.returns-clause-told
-returns-clause-told g c told root over short =
+returns-clause-told g c further told root over short =
     let i = c.loop-alloc.invariant in
     let e = c.pass_end.ensures in
     let part = part_of c.args.part.now in
-    let way = i.told told root over short in
-    let call = call_of root (g.T.Tree.state c.args.store.now) (g.T.Tree.state c.if-not-paid.store) (g.W.Write.contents c.args.out.now) (g.W.Write.contents c.if-not-paid.out) in
+    let way = i.told further told root over short in
+    let call = call_of further root (g.T.Tree.state c.args.store.now) (g.T.Tree.state c.if-not-paid.store) (g.W.Write.contents c.args.out.now) (g.W.Write.contents c.if-not-paid.out) in
     subst (PassesOn call part c.args.met c.args.from (limits_of c.args.limits)) (pass_is c.pass_end.result _ _ _ _ _ _ e.last e.spent e.files e.found e.end e.met)
     (elim c.if-not-paid.branch [
       | then-not-paid w ↦ let unpaid = c.pays-paid.ensures.unpaid w.if-not-paid.true in
@@ -86,13 +85,13 @@ returns-clause-told g c told root over short =
           (way_spent part over way _ refl refl unpaid.0 (not_within _ c.loop-alloc.meter i.limits unpaid.1))
       | else-not-paid+in-Err w ↦
           rw (w.store-is, w.out-is, w.last-is, w.meter-is, w.found-is, w.end-is)
-          (way_missed part over way (λ h. within_both _ c.loop-alloc.meter i.limits (c.pays-paid.ensures.paid w.if-not-paid.false h)) _ _ w.in-Err.why (λ u q. w.in-Err.ensures.told told root u short q))
+          (way_missed part over way (λ h. within_both _ c.loop-alloc.meter i.limits (c.pays-paid.ensures.paid w.if-not-paid.false h)) _ _ w.in-Err.why (λ u q. w.in-Err.ensures.told further told root u short q))
       | else-not-paid+in-Ok+in-Ok-next_within+in-None w ↦
           rw (w.store-is, w.out-is, w.last-is, w.meter-is, w.found-is, w.end-is)
           (way_ended part over way (λ h. within_both _ c.loop-alloc.meter i.limits (c.pays-paid.ensures.paid w.if-not-paid.false h)) _ _ _ _ _ _ _ _ w.in-Ok.ensures.place w.charge.ensures.spent w.charge.ensures.files
-          w.either-found.ensures (λ u q. w.in-Ok.ensures.told told root u short q) _ w.in-Ok-next_within.step.0 _ (λ tree. w.in-Ok-next_within.ensures.told told root tree None) w.in-None.is)
+          w.either-found.ensures (λ u q. w.in-Ok.ensures.told further told root u short q) _ w.in-Ok-next_within.step.0 _ (λ tree. w.in-Ok-next_within.ensures.told told root tree further) w.in-None.is)
       | else-not-paid+in-Ok+in-Err-next_within w ↦
           rw (w.store-is, w.out-is, w.last-is, w.meter-is, w.found-is, w.end-is)
           (way_lost part over way (λ h. within_both _ c.loop-alloc.meter i.limits (c.pays-paid.ensures.paid w.if-not-paid.false h)) _ _ _ _ _ _ _ _ w.in-Ok.ensures.place w.charge.ensures.spent w.charge.ensures.files
-          w.either-found.ensures (λ u q. w.in-Ok.ensures.told told root u short q) _ w.in-Err-next_within.why (λ tree. w.in-Err-next_within.ensures.told told root tree None))
+          w.either-found.ensures (λ u q. w.in-Ok.ensures.told further told root u short q) _ w.in-Err-next_within.why (λ tree. w.in-Err-next_within.ensures.told told root tree further))
     ])

@@ -1,5 +1,6 @@
 use Rattle.std.proofs.Common.{◌≡◌, ◌≤◌, length}
 use Rattle.ocfl_walk.specs.Walks.{walk_size}
+use Rattle.ocfl_report.specs.declared.further.Further.{Further}
 use Rattle.ocfl_scrub.specs.{Call.{WhereTold}, Running.{limits_of, IsPaid}, Beginning.{IsShort}}
 use Rattle.ocfl_scrub.specs.{Starting.{part_of}, Taking.{WritesLines}}
 use Rattle.ocfl_scrub.proofs.KeptTurns.{IsOnWay}
@@ -12,8 +13,8 @@ invariant-loop-alloc g l = record {
   near : length l.item.place ≤ 255;
   limits : l.meter.limits ≡ l.fn.limits;
   paid : IsPaid (limits_of l.fn.limits) l.meter.spent l.meter.files;
-  told : WhereTold g.T.Tree.told g.T.Tree.state g.W.Write.contents l.fn.store l.store l.fn.out l.out (λ call.
-      IsOnWay call.root (part_of l.fn.part) call.before call.after call.old call.new l.fn.met l.walk l.item l.fn.from l.last
+  told : (further : Further) → WhereTold further g.T.Tree.told g.T.Tree.state g.W.Write.contents l.fn.store l.store l.fn.out l.out (λ call.
+      IsOnWay call.further call.root (part_of l.fn.part) call.before call.after call.old call.new l.fn.met l.walk l.item l.fn.from l.last
       (limits_of l.fn.limits) l.meter.spent l.meter.files l.found);
 }
 

@@ -1,12 +1,13 @@
-use Rattle.std.proofs.Common.{◌≡◌, false, refl, true, arith}
+use Rattle.std.proofs.Common.{◌≡◌, false, refl, true, arith, None}
 use Rattle.std.specs.Prelude.{IsTrue}
 use Rattle.ocfl_tree.specs.StorageRoot.{StorageRoot}
 use Rattle.ocfl_item.specs.Judging.{HasShortFiles}
-use Rattle.ocfl_scrub.specs.{Call.{call_of}, Keeping.{IsReady, met_in}, Passes.{IsPass}}
+use Rattle.ocfl_cursor.specs.{Cursor.{Cursor}, Moves.{after_run}, State.{state_of}}
+use Rattle.ocfl_scrub.specs.{Call.{call_of}, Keeping.{HasOther, IsReady, IsReadyIn, met_in}, Passes.{IsPass}}
 use Rattle.ocfl_scrub.specs.{Running.{limits_of, place_in}, Starting.{part_of}}
 use Rattle.ocfl_scrub.specs.declared.running.RunStatus.TheVariants as status
 use Rattle.ocfl_scrub.specs.declared.stop.ReportStop.TheVariants as halt
-use Rattle.ocfl_scrub.proofs.KeptRuns.{PassesWith, made_run, met_item, met_lost, met_none, no_pass, ready_after, ready_given, ready_left, runs_kept, tree_on}
+use Rattle.ocfl_scrub.proofs.KeptRuns.{PassesWith, made_run, met_item, met_lost, met_none, no_pass, ready_after, ready_given, ready_left, ready_unused, runs_alone, runs_kept, tree_on, used_other, used_ready}
 use Rattle.ocfl_scrub.proofs.{KeptTurns.{pass_is}, MeterLaws.{paid_none}, RunLaws.{lent_place, run_counted}}
 use Rattle.ocfl_scrub.proofs.TakeLaws.{nothing_written}
 use Rattle.ocfl_scrub.proofs.running.run_on.Goals.{After-after_run, in-Ok-Some, in-Ok-None, in-Err-meet}
@@ -25,28 +26,46 @@ passed g c =
           rw (w.out-is, w.last-is) (no_pass w.no_pass-in-Err-meet.result _ c.args.limits _ (status.Stopped (halt.Fault w.in-Err-meet.why)) short (λ x. cc) (λ x. cc) (pass_is w.no_pass-in-Err-meet.result _ _ _ _ _ _ e.last e.spent e.files e.found e.end e.met))
     ]
 
--- what it does on a store that tells its tree
+-- what it does on a store that tells its tree, if the walk that it uses is ready
 passes : (g : given.Over) (c : After-after_run g) → IsTrue g.T.Tree.told → (root : StorageRoot) → (g.T.Tree.state c.args.store.now).tree ≡ root → HasShortFiles root
-    → IsReady root (part_of c.args.part.now) (place_in c.args.cursor.state) c.args.kept.now
-    → PassesWith (call_of root (g.T.Tree.state c.args.store.now) (g.T.Tree.state c.match-meet.store) (g.W.Write.contents c.args.out.now) (g.W.Write.contents c.match-meet.out))
-    (part_of c.args.part.now) (met_in c.take-met.result) c.in-Ok.begun.1 (limits_of c.args.limits) c.match-meet.last
-passes g c told root over short ready =
+    → IsReadyIn c.args.cursor.further root (part_of c.args.part.now) c.in-Ok.begun.1 c.used-met.result
+    → PassesWith (call_of c.args.cursor.further root (g.T.Tree.state c.args.store.now) (g.T.Tree.state c.match-meet.store) (g.W.Write.contents c.args.out.now) (g.W.Write.contents c.match-meet.out))
+    (part_of c.args.part.now) (met_in c.used-met.result) c.in-Ok.begun.1 (limits_of c.args.limits) c.match-meet.last
+passes g c told root over short given =
+    let further = c.args.cursor.further in
     let part = part_of c.args.part.now in
     let limits = limits_of c.args.limits in
-    let begins = c.in-Ok.ensures.begins in
-    let given = ready_given root part c.args.cursor _ _ begins c.args.kept.now _ c.take-met.ensures.value ready in
-    let met = rw (lent_place _ _ c.as_ref.ensures.value) at (c.meet.ensures told root over) in
+    let met = rw (c.further-further.ensures, lent_place _ _ c.as_ref.ensures.value) at (c.meet.ensures told root over) in
     elim c.match-meet.branch [
       | in-Ok-Some w ↦ rw (w.store-is, w.out-is, w.last-is)
-          (met_item root part _ _ _ _ _ limits _ c.take-met.result w.in-Ok-Some.met w.pass_on.result over given (rw (w.in-Ok-Some.is, w.in-Ok-Some.field-0-is) at met) (λ same. w.pass_on.ensures.told told root same short))
+          (met_item further root part _ _ _ _ _ limits _ c.used-met.result w.in-Ok-Some.met w.pass_on.result over given (rw (w.in-Ok-Some.is, w.in-Ok-Some.field-0-is) at met) (λ same. w.pass_on.ensures.told further told root same short))
       | in-Ok-None w ↦ let e = w.no_pass.ensures in
           rw (w.store-is, w.out-is, w.last-is)
-          (met_none root part _ _ _ _ _ limits c.take-met.result w.no_pass.result (rw (w.in-Ok-None.is, w.in-Ok-None.field-0-is) at met) (pass_is w.no_pass.result _ _ _ _ _ _ e.last e.spent e.files e.found e.end e.met) refl)
+          (met_none further root part _ _ _ _ _ limits c.used-met.result w.no_pass.result (rw (w.in-Ok-None.is, w.in-Ok-None.field-0-is) at met) (pass_is w.no_pass.result _ _ _ _ _ _ e.last e.spent e.files e.found e.end e.met) refl)
       | in-Err-meet w ↦ let e = w.no_pass-in-Err-meet.ensures in
           rw (w.store-is, w.out-is, w.last-is)
-          (met_lost root part _ _ _ _ _ limits c.take-met.result w.in-Err-meet.why w.no_pass-in-Err-meet.result (rw w.in-Err-meet.is at met)
+          (met_lost further root part _ _ _ _ _ limits c.used-met.result w.in-Err-meet.why w.no_pass-in-Err-meet.result (rw w.in-Err-meet.is at met)
           (pass_is w.no_pass-in-Err-meet.result _ _ _ _ _ _ e.last e.spent e.files e.found e.end e.met) refl)
     ]
+
+-- the walk that it uses is the one that is kept, if that is ready
+used_kept : (g : given.Over) (c : After-after_run g) (root : StorageRoot) → IsReady c.args.cursor.further root (part_of c.args.part.now) (place_in c.args.cursor.state) c.args.kept.now
+    → c.used-met.result ≡ c.args.kept.now.met
+used_kept g c root ready =
+    used_ready c.args.cursor.further root (part_of c.args.part.now) _ c.args.kept.now _ _ _ c.further-further.ensures c.take.ensures.value c.used-met.ensures.same ready
+
+kept_given : (g : given.Over) (c : After-after_run g) (root : StorageRoot) → IsReady c.args.cursor.further root (part_of c.args.part.now) (place_in c.args.cursor.state) c.args.kept.now
+    → IsReadyIn c.args.cursor.further root (part_of c.args.part.now) c.in-Ok.begun.1 c.used-met.result
+kept_given g c root ready = ready_given c.args.cursor.further root (part_of c.args.part.now) c.args.cursor _ _ c.in-Ok.ensures.begins c.args.kept.now _ (used_kept g c root ready) ready
+
+-- and none if it is of an audit with the other option
+used_none : (g : given.Over) (c : After-after_run g) (root : StorageRoot) → HasOther c.args.cursor.further c.args.kept.now.met → c.used-met.result ≡ None
+used_none g c root other =
+    used_other c.args.cursor.further root (part_of c.args.part.now) c.args.kept.now _ _ _ c.further-further.ensures c.take.ensures.value c.used-met.ensures.other other
+
+none_given : (g : given.Over) (c : After-after_run g) (root : StorageRoot) → HasOther c.args.cursor.further c.args.kept.now.met
+    → IsReadyIn c.args.cursor.further root (part_of c.args.part.now) c.in-Ok.begun.1 c.used-met.result
+none_given g c root other = ready_unused c.args.cursor.further root (part_of c.args.part.now) _ _ (used_none g c root other)
 
 pub returns-in-Err-clause-any_store : goal.returns-in-Err-clause-any_store
 returns-in-Err-clause-any_store g c =
@@ -76,21 +95,42 @@ returns-clause-any_store g c =
 
 pub returns-clause-told : goal.returns-clause-told
 returns-clause-told g c told root over short worked ready =
-    let passes = passes g (goal.at.returns-clause-told g c).After-after_run told root over short ready in
-    runs_kept root (part_of c.args.part.now) _ _ _ _ _ (limits_of c.args.limits) c.args.kept.now _ c.take-met.ensures.value c.match-meet.last c.args.cursor _ c.in-Ok.ensures.begins
-    passes _ _ c.in-Some.ensures.value c.left_state-left.ensures.state
+    let at = (goal.at.returns-clause-told g c).After-after_run in
+    runs_kept c.args.cursor.further root (part_of c.args.part.now) _ _ _ _ _ (limits_of c.args.limits) c.args.kept.now _ (used_kept g at root ready) c.match-meet.last c.args.cursor _ c.in-Ok.ensures.begins
+    (passes g at told root over short (kept_given g at root ready)) _ _ c.in-Some.ensures.value c.left_state-left.ensures.state
 
 pub returns-clause-root : goal.returns-clause-root
 returns-clause-root g c told root over short ready =
-    tree_on root (part_of c.args.part.now) _ _ _ _ _ (limits_of c.args.limits) _ c.match-meet.last over (passes g (goal.at.returns-clause-root g c).After-after_run told root over short ready)
+    let at = (goal.at.returns-clause-root g c).After-after_run in
+    tree_on c.args.cursor.further root (part_of c.args.part.now) _ _ _ _ _ (limits_of c.args.limits) _ c.match-meet.last over (passes g at told root over short (kept_given g at root ready))
+
+pub returns-clause-other : goal.returns-clause-other
+returns-clause-other g c told root over short worked other =
+    let at = (goal.at.returns-clause-other g c).After-after_run in
+    runs_alone c.args.cursor.further root (part_of c.args.part.now) _ _ _ _ _ (limits_of c.args.limits) _ (used_none g at root other) c.match-meet.last c.args.cursor _ c.in-Ok.ensures.begins
+    (passes g at told root over short (none_given g at root other)) _ _ c.in-Some.ensures.value c.left_state-left.ensures.state
+
+-- the walk that is left is ready, if the one that was used was
+left_ready : (g : given.Over) (c : After-after_run g) → IsTrue g.T.Tree.told → (root : StorageRoot) → (g.T.Tree.state c.args.store.now).tree ≡ root → HasShortFiles root
+    → IsReadyIn c.args.cursor.further root (part_of c.args.part.now) c.in-Ok.begun.1 c.used-met.result
+    → (reached : Cursor) → reached ≡ after_run c.in-Ok.begun.0 c.match-meet.last.spent c.match-meet.last.files (state_of c.left_state-left.result)
+    → IsReadyIn c.args.cursor.further root (part_of c.args.part.now) (place_in reached.state) c.match-meet.last.met
+left_ready g c told root over short given reached is =
+    let further = c.args.cursor.further in
+    let part = part_of c.args.part.now in
+    let pass = c.match-meet.last in
+    ready_left further root part c.args.cursor _ _ c.in-Ok.ensures.begins reached pass.spent pass.files _ pass.end pass.last pass.met is c.left_state-left.ensures.state (passed g c).unspent
+    (ready_after further root part _ _ _ _ _ (limits_of c.args.limits) _ pass (passes g c told root over short given))
 
 pub returns-clause-ready : goal.returns-clause-ready
 returns-clause-ready g c told root over short ready =
-    let part = part_of c.args.part.now in
-    let pass = c.match-meet.last in
     let at = (goal.at.returns-clause-ready g c).After-after_run in
-    ready_left root part c.args.cursor _ _ c.in-Ok.ensures.begins _ pass.spent pass.files _ pass.end pass.last pass.met c.in-Some.ensures.value c.left_state-left.ensures.state (passed g at).unspent
-    (ready_after root part _ _ _ _ _ (limits_of c.args.limits) _ pass (passes g at told root over short ready))
+    left_ready g at told root over short (kept_given g at root ready) _ c.in-Some.ensures.value
+
+pub returns-clause-other_ready : goal.returns-clause-other_ready
+returns-clause-other_ready g c told root over short other =
+    let at = (goal.at.returns-clause-other_ready g c).After-after_run in
+    left_ready g at told root over short (none_given g at root other) _ c.in-Some.ensures.value
 
 pub returns-clause-spent : goal.returns-clause-spent
 returns-clause-spent g c = (passed g (goal.at.returns-clause-spent g c).After-after_run).spent

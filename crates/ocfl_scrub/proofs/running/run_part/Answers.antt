@@ -15,11 +15,12 @@ returns g c =
     let old = g.W.Write.contents c.args.out.now in
     let new = g.W.Write.contents c.run_on.new.out in
     let limits = limits_of c.args.limits in
-    let runs : IsTrue g.T.Tree.told → (root : StorageRoot) → s.tree ≡ root → HasShortFiles root → c.run_on.result.end ≢ status.Worn → RunsFromWithin (call_of root s t old new) part c.args.cursor limits c.run_on.result = λ told root over short made.
-    begins_so (call_of root s t old new) part kept c.args.cursor limits c.run_on.result c.none-kept.ensures
-    (c.run_on.ensures.told told root over short made (ready_none root part (place_in c.args.cursor.state) kept c.none-kept.ensures)) in
+    let further = c.args.cursor.further in
+    let runs : IsTrue g.T.Tree.told → (root : StorageRoot) → s.tree ≡ root → HasShortFiles root → c.run_on.result.end ≢ status.Worn → RunsFromWithin (call_of further root s t old new) part c.args.cursor limits c.run_on.result = λ told root over short made.
+    begins_so (call_of further root s t old new) part kept c.args.cursor limits c.run_on.result c.none-kept.ensures
+    (c.run_on.ensures.told told root over short made (ready_none further root part (place_in c.args.cursor.state) kept c.none-kept.ensures)) in
     record {
       any_store = c.run_on.ensures.any_store;
       told = runs;
-      unfailing = λ told root over short same. cleanly_so root part s t old new c.args.cursor limits c.run_on.result same (runs told root over short);
+      unfailing = λ told root over short same. cleanly_so further root part s t old new c.args.cursor limits c.run_on.result same (runs told root over short);
     }

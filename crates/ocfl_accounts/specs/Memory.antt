@@ -4,7 +4,7 @@ use Rattle.std.proofs.{Common.{◌∙◌, arith, sym}, lemmas.List.{take_all}}
 use Rattle.std.specs.List.{find, list_any}
 use Rattle.ocfl_tree.specs.Place.{Text, Place}
 use Rattle.ocfl_compare.specs.declared.change.{Change.{Change}, ChangeAt.{ChangeAt}}
-use Rattle.ocfl_compare.specs.declared.change.Change.TheVariants.{Gone, Undeclared, FileGone, Unlooked, Found, Repaired, Missing}
+use Rattle.ocfl_compare.specs.declared.change.Change.TheVariants.{Gone, Undeclared, FileGone, Unlooked, Found, Repaired, Missing, Rewritten, WentBack, NewVersion}
 use Rattle.ocfl_accounts.specs.{Cycle.{Cycle, Sight, there, away}, Crash.{Outcomes}, Kept.{Kept, Account, no_lists, with_lists}}
 use Rattle.ocfl_accounts.specs.declared.pair.Pair.{Pair}
 
@@ -97,6 +97,9 @@ is_grave c = by c.change
     by (Found code) = true
     by (Repaired code) = false
     by Missing = true
+    by Rewritten = true
+    by WentBack = true
+    by NewVersion = false
 
 -- that is said, whatever is kept
 abbrev pub says : Kept → Pair → List ChangeAt → Text → Bool → Type 0

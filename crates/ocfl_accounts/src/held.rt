@@ -297,7 +297,10 @@ pub(crate) fn is_grave(changes: &[ChangeAt]) -> bool
 fn is_news(change: &ChangeAt) -> bool
     ensures { result ≡ is_grave_of change.now }
 {
-    !matches!(change.change, Change::Unlooked | Change::Repaired(_))
+    !matches!(
+        change.change,
+        Change::Unlooked | Change::Repaired(_) | Change::NewVersion
+    )
 }
 
 /// The list of what is gone by these changes.

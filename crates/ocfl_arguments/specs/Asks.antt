@@ -3,6 +3,8 @@ use Rattle.std.specs.Prelude.{◌≡◌, ◌↔◌, ℕ, ◌≤◌, ◌<◌, ◌
 use Rattle.std.specs.declared.alloc.Global.{Global}
 use Rattle.std.specs.Str.Parse.{IsNumeral, digits_value, without_leading_plus}
 use Rattle.clap.specs.Words.{Row, Text, first_of, one_of}
+use Rattle.ocfl_report.specs.declared.further.Further.{Further}
+use Rattle.ocfl_report.specs.declared.further.Further.TheVariants.{Nothing, Inventories}
 use Rattle.ocfl_cursor.specs.declared.limits.Limits.{Limits}
 use Rattle.ocfl_arguments.specs.Budget.{IsSizeText}
 use Rattle.ocfl_arguments.specs.Line.{most_days, most_hours, most_parts, most_runs, most_split}
@@ -59,17 +61,24 @@ pub record HasCount (id : Text) (most : ℕ) (rows : List Row) (n : ℕ) : Type 
 abbrev pub HasRuns : List Row → ℕ → Type 0
 HasRuns = HasCount (codes "runs") most_runs
 
--- the deed that the subcommand of this name and its matches ask for
-abbrev pub IsDeed : Text → List Row → Deed → Type 0
-IsDeed name rows Audit = name ≡ codes "audit"
-IsDeed name rows (Run limits) = (name ≡ codes "run") × HasLimits rows limits
-IsDeed name rows (Cycle limits runs) = (name ≡ codes "cycle") × HasLimits rows limits × HasRuns rows runs
-IsDeed name rows (Check path) = (name ≡ codes "check") × HasText (codes "path") rows path
-IsDeed name rows Show = name ≡ codes "show"
-
 -- the flag is given, for which `clap` has this text
 abbrev pub IsGiven : Text → List Row → Type 0
 IsGiven id rows = first_of id rows ≡ Some (codes "true")
+
+-- what an audit checks beside what every audit checks: the inventories of version directories if their
+-- flag is given, else nothing
+abbrev pub IsFurther : List Row → Further → Type 0
+IsFurther rows Nothing = IsGiven (codes "inventories") rows → ⊥
+IsFurther rows Inventories = IsGiven (codes "inventories") rows
+
+-- the deed that the subcommand of this name and its matches ask for
+abbrev pub IsDeed : Text → List Row → Deed → Type 0
+IsDeed name rows (Audit further) = (name ≡ codes "audit") × IsFurther rows further
+IsDeed name rows (Run further limits) = (name ≡ codes "run") × IsFurther rows further × HasLimits rows limits
+IsDeed name rows (Cycle further limits runs) = (name ≡ codes "cycle") × IsFurther rows further
+    × HasLimits rows limits × HasRuns rows runs
+IsDeed name rows (Check further path) = (name ≡ codes "check") × IsFurther rows further × HasText (codes "path") rows path
+IsDeed name rows Show = name ≡ codes "show"
 
 -- which items they choose: a part by the file of the separators and its number, a branch by its
 -- place, and all of them if neither is given
@@ -89,7 +98,8 @@ pub record IsTask (name : Text) (rows : List Row) (t : Task) : Type 0 where
   pub file : option_map string_bytes t.file ≡ first_of (codes "file") rows
   pub quiet : IsTrue t.quiet ↔ IsGiven (codes "quiet") rows
 
--- how a storage root is to be split: a count and the folder, or a budget and a report
+-- how a storage root is to be split: a count and the folder, or a budget and a report, for an audit
+-- with or without `--inventories`
 abbrev pub IsSplit : List Row → Split → Type 0
 IsSplit rows (Listing count root) = HasCount (codes "count") most_split rows count × HasText (codes "root") rows root
     × IsLeftOut (codes "budget") rows × IsLeftOut (codes "report") rows
@@ -131,6 +141,7 @@ pub record IsNight (rows : List Row) (n : NightAsked) : Type 0 where
   pub root : HasText (codes "root") rows n.root
   pub bounds : HasBounds rows n.bounds
   pub chosen : IsChosen rows n.chosen
+  pub further : IsFurther rows n.further
   pub known : option_map string_bytes n.known ≡ first_of (codes "known") rows
   pub expected : option_map string_bytes n.expected ≡ first_of (codes "expected") rows
   pub create : IsTrue n.create ↔ IsGiven (codes "create") rows

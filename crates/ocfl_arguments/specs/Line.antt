@@ -6,7 +6,7 @@ use Rattle.clap.specs.{declared.builder.arg.Arg.{Arg}, declared.builder.command.
 use Rattle.clap.specs.declared.builder.command.Command.TheViews.{out-Command}
 use Rattle.clap.specs.declared.builder.value_parser.ValueParser.TheVariants as vp
 use Rattle.ocfl_arguments.specs.declared.command.Argument.{Argument}
-use Rattle.ocfl_arguments.specs.declared.command.Argument.TheVariants.{Needed, Optional, Wanted, Named, Flag, Root, Cursor, Budget, Files, Runs, Quiet, Parts, Part, Count, Hours, End, Every}
+use Rattle.ocfl_arguments.specs.declared.command.Argument.TheVariants.{Needed, Optional, Wanted, Named, Flag, Root, Cursor, Budget, Files, Runs, Quiet, Inventories, Parts, Part, Count, Hours, End, Every}
 
 abbrev pub most_runs : ℕ
 most_runs = 100000
@@ -112,6 +112,7 @@ rule_for Budget = budget_rule
 rule_for Files = files_rule
 rule_for Runs = runs_rule
 rule_for Quiet = flag_rule (codes "quiet")
+rule_for Inventories = flag_rule (codes "inventories")
 rule_for Parts = named_rule (codes "parts")
 rule_for Part = part_rule
 rule_for Count = count_rule
@@ -131,31 +132,32 @@ app_with name rules = on_top (λ s. record s { rules = rules }) (new_app name)
 
 abbrev pub audit_app : App
 audit_app = app_with (codes "audit") (named_rule (codes "under") ∷ named_rule (codes "parts") ∷ part_rule
-    ∷ flag_rule (codes "quiet") ∷ root_rule ∷ [])
+    ∷ flag_rule (codes "inventories") ∷ flag_rule (codes "quiet") ∷ root_rule ∷ [])
 
 abbrev pub run_app : App
 run_app = app_with (codes "run") (cursor_rule ∷ budget_rule ∷ files_rule ∷ named_rule (codes "parts") ∷ part_rule
-    ∷ flag_rule (codes "quiet") ∷ root_rule ∷ [])
+    ∷ flag_rule (codes "inventories") ∷ flag_rule (codes "quiet") ∷ root_rule ∷ [])
 
 abbrev pub cycle_app : App
-cycle_app = app_with (codes "cycle") (budget_rule ∷ files_rule ∷ runs_rule ∷ flag_rule (codes "quiet") ∷ root_rule ∷ [])
+cycle_app = app_with (codes "cycle") (budget_rule ∷ files_rule ∷ runs_rule ∷ flag_rule (codes "inventories")
+    ∷ flag_rule (codes "quiet") ∷ root_rule ∷ [])
 
 abbrev pub night_app : App
 night_app = app_with (codes "night") (wanted_rule (codes "state") ∷ named_rule (codes "budget")
     ∷ named_rule (codes "files") ∷ named_rule (codes "slice") ∷ hours_rule ∷ named_rule (codes "until") ∷ end_rule
-    ∷ every_rule ∷ named_rule (codes "parts") ∷ part_rule ∷ named_rule (codes "known") ∷ named_rule (codes "expected")
-    ∷ flag_rule (codes "create") ∷ flag_rule (codes "force-root") ∷ flag_rule (codes "stop-at-faults")
-    ∷ root_rule ∷ [])
+    ∷ every_rule ∷ named_rule (codes "parts") ∷ part_rule ∷ flag_rule (codes "inventories")
+    ∷ named_rule (codes "known") ∷ named_rule (codes "expected") ∷ flag_rule (codes "create") ∷ flag_rule (codes "force-root")
+    ∷ flag_rule (codes "stop-at-faults") ∷ root_rule ∷ [])
 
 abbrev pub check_app : App
-check_app = app_with (codes "check") (root_rule ∷ path_rule ∷ [])
+check_app = app_with (codes "check") (flag_rule (codes "inventories") ∷ root_rule ∷ path_rule ∷ [])
 
 abbrev pub show_app : App
 show_app = app_with (codes "show") (file_rule ∷ [])
 
 abbrev pub split_app : App
 split_app = app_with (codes "split") (count_rule ∷ named_rule (codes "budget") ∷ named_rule (codes "report")
-    ∷ optional_rule (codes "root") ∷ [])
+    ∷ flag_rule (codes "inventories") ∷ optional_rule (codes "root") ∷ [])
 
 abbrev pub join_app : App
 join_app = app_with (codes "join") (wanted_rule (codes "parts") ∷ wanted_rule (codes "state") ∷ [])

@@ -6,8 +6,8 @@ ghost use Rattle.ocfl_arguments.specs.Internal.Shapes.{app_for, number_rule, ran
 ghost use Rattle.ocfl_arguments.specs.declared.command.Range.TheVariants.{Count};
 
 use crate::command::Argument::{
-    Budget, Count, Cursor, End, Every, Files, Flag, Hours, Named, Needed, Optional, Part, Parts,
-    Quiet, Root, Runs, Wanted,
+    Budget, Count, Cursor, End, Every, Files, Flag, Hours, Inventories, Named, Needed, Optional,
+    Part, Parts, Quiet, Root, Runs, Wanted,
 };
 use crate::command::Taken::{Nothing, Number, Words, WordsOr};
 use clap::builder::ValueParser;
@@ -50,6 +50,8 @@ enum Argument<'a> {
     Files,
     Runs,
     Quiet,
+    /// Whether an audit checks the inventories of version directories too.
+    Inventories,
     /// The file of the separators.
     Parts,
     /// Which of the parts.
@@ -86,6 +88,8 @@ const RUNS: &str = "The most runs: 1 to 100000";
 
 const QUIET: &str = "Shows no progress; it is shown where standard error is a terminal";
 
+const INVENTORIES: &str = "Also checks the inventories of version directories";
+
 const UNDER: &str = "Takes only this place and what is below it, written as in report lines";
 
 const PARTS: &str = "The separators, one a line, which cut the root into parts; split writes them";
@@ -98,6 +102,8 @@ const ANY_BUDGET: &str = "Each part but the last costs N or one file more, in by
 file; N as run takes it";
 
 const REPORT: &str = "A report of the whole storage root, which says what each file cost";
+
+const ANY_INVENTORIES: &str = "Changes nothing: the parts are the same for an audit with it";
 
 const STATE: &str = "The state folder, which keeps the checkpoint, the reports and the log: one \
 for each storage root, or for each part of one";
@@ -212,6 +218,13 @@ fn shape_of<'a>(argument: Argument<'a>) -> Shape<'a>
         ),
         Runs => counted("runs", RUNS, "runs", true),
         Quiet => Shape("quiet", QUIET, Some("quiet"), false, Nothing),
+        Inventories => Shape(
+            "inventories",
+            INVENTORIES,
+            Some("inventories"),
+            false,
+            Nothing,
+        ),
         Parts => Shape("parts", PARTS, Some("parts"), false, Words("FILE")),
         Part => numbered("part", PART, "K", Range::Part),
         Count => counted("count", COUNT, "parts", false),
@@ -394,13 +407,23 @@ const AUDIT_ARGUMENTS: &[Argument<'static>] = &[
     Named("under", "PLACE", UNDER),
     Parts,
     Part,
+    Inventories,
     Quiet,
     Root,
 ];
 
-const RUN_ARGUMENTS: &[Argument<'static>] = &[Cursor, Budget, Files, Parts, Part, Quiet, Root];
+const RUN_ARGUMENTS: &[Argument<'static>] = &[
+    Cursor,
+    Budget,
+    Files,
+    Parts,
+    Part,
+    Inventories,
+    Quiet,
+    Root,
+];
 
-const CYCLE_ARGUMENTS: &[Argument<'static>] = &[Budget, Files, Runs, Quiet, Root];
+const CYCLE_ARGUMENTS: &[Argument<'static>] = &[Budget, Files, Runs, Inventories, Quiet, Root];
 
 const NIGHT_ARGUMENTS: &[Argument<'static>] = &[
     Wanted("state", "DIR", STATE),
@@ -413,6 +436,7 @@ const NIGHT_ARGUMENTS: &[Argument<'static>] = &[
     Every,
     Parts,
     Part,
+    Inventories,
     Named("known", "FILE", KNOWN),
     Named("expected", "FILE", EXPECTED),
     Flag("create", CREATE),
@@ -421,12 +445,13 @@ const NIGHT_ARGUMENTS: &[Argument<'static>] = &[
     Root,
 ];
 
-const CHECK_ARGUMENTS: &[Argument<'static>] = &[Root, Needed("path", "PATH", PATH)];
+const CHECK_ARGUMENTS: &[Argument<'static>] = &[Inventories, Root, Needed("path", "PATH", PATH)];
 
 const SPLIT_ARGUMENTS: &[Argument<'static>] = &[
     Count,
     Named("budget", "N", ANY_BUDGET),
     Named("report", "FILE", REPORT),
+    Flag("inventories", ANY_INVENTORIES),
     Optional("root", "ROOT", ROOT),
 ];
 

@@ -2,6 +2,7 @@
 
 use crate::task::Chosen;
 use ocfl_cursor::Budget;
+use ocfl_report::Further;
 
 /// When a night begins no further run.
 #[derive(Clone, Copy, Debug, PartialEq, Eq)]
@@ -48,6 +49,8 @@ pub struct NightAsked {
     pub bounds: NightBounds,
     /// Which items it takes: all of them, or those of one part.
     pub chosen: Chosen,
+    /// What its runs check beside what every audit checks.
+    pub further: Further,
     /// The file of findings that are known, if it is given.
     pub known: Option<String>,
     /// The file of the objects that must be there, if it is given: of a part those that are in it

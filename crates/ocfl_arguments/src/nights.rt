@@ -9,7 +9,7 @@ use crate::choosing::chosen_by;
 use crate::ending::until_of;
 use crate::night::{JoinAsked, NightAsked, NightBounds};
 use crate::task::Chosen;
-use crate::values::{copied, count_if_any, each_of, is_given, text_of};
+use crate::values::{copied, count_if_any, each_of, further_of, is_given, text_of};
 use clap::ArgMatches;
 use ocfl_cursor::Budget;
 use std::alloc::{AllocError, Global};
@@ -111,6 +111,7 @@ fn night_of(
         root,
         bounds,
         chosen,
+        further: further_of(inner),
         known,
         expected,
         create: is_given(inner, "create"),

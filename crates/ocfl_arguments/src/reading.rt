@@ -8,7 +8,7 @@ use crate::choosing::chosen_by;
 use crate::nights::{join_by, night_by};
 use crate::splitting::split_by;
 use crate::task::{Asked, Chosen, Task};
-use crate::values::{copied, count_of, each_of, is_given, text_of};
+use crate::values::{copied, count_of, each_of, further_of, is_given, text_of};
 use clap::ArgMatches;
 use ocfl_cursor::{FileLimit, Limits};
 use ocfl_deed::Deed;
@@ -37,15 +37,15 @@ fn runs_of(inner: &ArgMatches<'_>) -> Option<usize>
 fn run_of(inner: &ArgMatches<'_>) -> Option<Deed>
     ensures { IsRead (IsDeed (codes "run") (rows_of (found_of inner.now))) result }
 {
-    let limits = limits_of(inner)?;
-    Some(Deed::Run(limits))
+    Some(Deed::Run(further_of(inner), limits_of(inner)?))
 }
 
 /// A cycle, or `None` if its limits or its runs are not given.
 fn cycle_of(inner: &ArgMatches<'_>) -> Option<Deed>
     ensures { IsRead (IsDeed (codes "cycle") (rows_of (found_of inner.now))) result }
 {
-    Some(Deed::Cycle(limits_of(inner)?, runs_of(inner)?))
+    let limits = limits_of(inner)?;
+    Some(Deed::Cycle(further_of(inner), limits, runs_of(inner)?))
 }
 
 /// The check of a place, or `None` if its path is not given.
@@ -53,7 +53,7 @@ fn check_of(alloc: Global, inner: &ArgMatches<'_>) -> Result<Option<Deed>, Alloc
     ensures { IfOk result (IsRead (IsDeed (codes "check") (rows_of (found_of inner.now)))) }
 {
     match copied(alloc, inner, "path")? {
-        Some(path) => Ok(Some(Deed::Check(path))),
+        Some(path) => Ok(Some(Deed::Check(further_of(inner), path))),
         None => Ok(None),
     }
 }
@@ -63,7 +63,7 @@ fn deed_of(alloc: Global, name: &str, inner: &ArgMatches<'_>) -> Result<Option<D
     ensures { IfOk result (IsRead (IsDeed name.now (rows_of (found_of inner.now)))) }
 {
     match name {
-        "audit" => Ok(Some(Deed::Audit)),
+        "audit" => Ok(Some(Deed::Audit(further_of(inner)))),
         "run" => Ok(run_of(inner)),
         "cycle" => Ok(cycle_of(inner)),
         "check" => check_of(alloc, inner),

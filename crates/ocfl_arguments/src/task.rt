@@ -34,7 +34,7 @@ pub struct Task {
     pub quiet: bool,
 }
 
-/// How a storage root is to be split into parts.
+/// How a storage root is to be split into parts. They are the same whatever is checked further.
 #[derive(Debug, Drop, PartialEq, Eq)]
 pub enum Split {
     /// By the directories that it lists.

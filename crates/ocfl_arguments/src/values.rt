@@ -1,9 +1,10 @@
 //! The texts and numbers of the arguments that `clap` found.
 ghost use Rattle.std.specs.Prelude.{◌≡◌, ◌↔◌, ℕ, ◌<◌, ◌^◌, IfOk, IfSome, IsNone, IsTrue, option_map, string_bytes};
 ghost use Rattle.clap.specs.Words.{found_of, first_of, rows_of};
-ghost use Rattle.ocfl_arguments.specs.Asks.{HasCount, HasNumber, IsGiven, IsLeftOut, IsRead, MayHaveCount};
+ghost use Rattle.ocfl_arguments.specs.Asks.{HasCount, HasNumber, IsFurther, IsGiven, IsLeftOut, IsRead, MayHaveCount};
 
 use clap::ArgMatches;
+use ocfl_report::Further;
 use std::alloc::{AllocError, Global};
 
 /// The text of an argument, if it is given.
@@ -59,6 +60,17 @@ pub(crate) fn is_given(inner: &ArgMatches<'_>, id: &str) -> bool
     match text_of(inner, id) {
         Some(text) => text == "true",
         None => false,
+    }
+}
+
+/// What an audit is to check beside what every audit checks.
+pub(crate) fn further_of(inner: &ArgMatches<'_>) -> Further
+    ensures { IsFurther (rows_of (found_of inner.now)) result }
+{
+    if is_given(inner, "inventories") {
+        Further::Inventories
+    } else {
+        Further::Nothing
     }
 }
 

@@ -14,7 +14,7 @@ use Rattle.ocfl_compare.specs.Changes.{change_at, changes_at, comparison, has_be
 use Rattle.ocfl_compare.specs.Expected.{missing}
 use Rattle.ocfl_compare.specs.Seen.{Seen, change, changes_in, changes_seen, line, shown}
 use Rattle.ocfl_compare.specs.declared.{change.{Change.{Change}, ChangeAt.{ChangeAt}}, side.Side.{Side}, side.Side.TheVariants.{Before, Now}}
-use Rattle.ocfl_compare.specs.declared.change.Change.TheVariants.{Gone, Undeclared, FileGone, Unlooked, Found, Repaired, Missing}
+use Rattle.ocfl_compare.specs.declared.change.Change.TheVariants.{Gone, Undeclared, FileGone, Unlooked, Found, Repaired, Missing, Rewritten, WentBack, NewVersion}
 use Rattle.ocfl_messages.specs.declared.known.KnownEntry.{KnownEntry}
 use Rattle.ocfl_words.specs.Kept.{Kept, kept_seen, kept_with, none_kept, noted_from, with_finding}
 use Rattle.ocfl_words.specs.Noted.{Noted, changes_of, first_at, is_finding_at, is_named, noted, noted_in}
@@ -172,6 +172,9 @@ same_noted known b n before now p was is (c ∷ cs) = λ i. one c i ∷ same_not
     one FileGone = refl
     one Unlooked = refl
     one Missing = refl
+    one Rewritten = refl
+    one WentBack = refl
+    one NewVersion = refl
 
 noted_placed : (known : List KnownEntry) (before now : List Line) (p : Place) (cs : List Change) → noted_at known before now p cs ≡ map (noted_in known before now) (placed p cs)
 noted_placed known before now p [] = refl

@@ -146,6 +146,9 @@ pub record IsClosing (b : Beside) (pair : Pair) (w : Counted) (c : Closing) : Ty
   pub gone : c.gone.now ≡ shown_of w
   pub gone_count : IsCount c.gone_count (gone_in w)
   pub unlooked : IsCount c.unlooked w.unlooked
+  pub rewritten : IsCount c.moved.rewritten w.rewritten
+  pub went_back : IsCount c.moved.went_back w.went_back
+  pub newer : IsCount c.moved.newer w.newer
   pub back : c.back_count ≡ length c.back.now
 
 -- the text is that of the closing, whichever findings are the most serious of the new ones

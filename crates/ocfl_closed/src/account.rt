@@ -176,6 +176,7 @@ fn closing_of<'a>(with: &SaidWith<'a>, pair: &Pair, account: &'a Account) -> Clo
         gone: account.gone.as_slice(),
         gone_count: changes.gone_count(),
         unlooked: changes.unlooked,
+        moved: changes.moved,
     }
 }
 

@@ -53,7 +53,10 @@ impl TakeChange for Places {
             | Change::FileGone
             | Change::Unlooked
             | Change::Found(_)
-            | Change::Repaired(_) => Ok(()),
+            | Change::Repaired(_)
+            | Change::Rewritten
+            | Change::WentBack
+            | Change::NewVersion => Ok(()),
         }
     }
 

@@ -47,15 +47,21 @@ impl<L: Write + Drop> TakeChange for Taking<'_, L> {
         (stand_of (L.contents v.list.out) v.words v.is_grave) first then p q };
 }
 
-/// Whether something is gone by a change, or a finding is new that is not known.
+/// Whether something is gone by a change, a finding is new that is not known, or a root inventory is
+/// another one without a newer version.
 fn is_news(change: Change, is_known: bool) -> bool
     ensures { (p : ModelPlace) (line : Option ModelLine)
         → result ≡ is_news_by (noted (change_at p change) line is_known) }
 {
     match change {
-        Change::Gone | Change::Undeclared | Change::FileGone | Change::Missing => true,
+        Change::Gone
+        | Change::Undeclared
+        | Change::FileGone
+        | Change::Missing
+        | Change::Rewritten
+        | Change::WentBack => true,
         Change::Found(_) => !is_known,
-        Change::Unlooked | Change::Repaired(_) => false,
+        Change::Unlooked | Change::Repaired(_) | Change::NewVersion => false,
     }
 }
 

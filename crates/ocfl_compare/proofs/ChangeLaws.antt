@@ -1,16 +1,18 @@
 -- The laws of what changed.
 use Rattle.std.proofs.Common.{◌≡◌, ◌≢◌, ◌⊎◌, ◌↔◌, inl, inr, List, [], ◌∷◌, ◌++◌, Bool, true, false, map, refl, sym, ap, subst, ◌∙◌, append_assoc, append-nil}
 use Rattle.std.proofs.Math.Bool.{or-true}
-use Rattle.std.specs.{Prelude.{cond, ◌&&◌, ◌||◌, not, flat_map}, List.{list_any}}
-use Rattle.ocfl_tree.specs.{Ascending.{IsAmong}, Place.{Place}}
+use Rattle.std.specs.{Prelude.{ℕ, cond, ◌&&◌, ◌||◌, nat_lt, not, flat_map, Option, Some, None}, List.{list_any}}
+use Rattle.ocfl_tree.specs.{Ascending.{IsAmong}, Place.{Text, Place, text_eq}}
 use Rattle.ocfl_tree.proofs.{Orders.{among_left, among_right}, Places.{text_eq-same}}
 use Rattle.ocfl_tree.proofs.Stores.{among_either}
 use Rattle.ocfl_report.specs.{Line.{Line}, Text.{code_text}, declared.code.Code.{Code}}
 use Rattle.ocfl_codes.specs.Kinds.{is_empty, tells_object, tells_file, hides}
 use Rattle.ocfl_compare.specs.Changes.{has_code, is_code, finding_codes, new_codes, repaired_codes, when, gone_object, gone_file, changes_at, has_below, is_in_shut, lines_at, is_left, said_at, placed, places_of, comparison}
+use Rattle.ocfl_compare.specs.Versions.{inventory_changes, moved, note_in, version_of}
 use Rattle.ocfl_compare.specs.declared.change.Change.{Change}
-use Rattle.ocfl_compare.specs.declared.change.Change.TheVariants.{Gone, Undeclared, FileGone, Unlooked, Found, Repaired}
+use Rattle.ocfl_compare.specs.declared.change.Change.TheVariants.{Gone, Undeclared, FileGone, Unlooked, Found, Repaired, Rewritten, WentBack, NewVersion}
 use Rattle.ocfl_compare.specs.declared.question.Question.TheVariants.{Changed}
+use Rattle.ocfl_compare.proofs.Moves.{unchanged}
 
 -- a code is among codes with it
 has_itself : (front cs : List Code) (c : Code) → has_code (front ++ c ∷ cs) c ≡ true
@@ -31,10 +33,14 @@ none_repaired : (hidden : Bool) (ls : List Line) → map Repaired (cond hidden [
 none_repaired true ls = refl
 none_repaired false ls = ap (map Repaired) (none_new [] (finding_codes ls))
 
+none_moved : (note : Option Text) → inventory_changes note note ≡ []
+none_moved None = refl
+none_moved (Some t) = unchanged t
+
 same_lines : (shut has_lines : Bool) (ls : List Line) → changes_at shut has_lines ls ls ≡ []
 same_lines shut has_lines [] = refl
 same_lines shut has_lines (l ∷ ls) =
-    (λ i. none_gone (list_any tells_object (l ∷ ls)) (gone_object has_lines) i ++ (map Found (none_new [] (finding_codes (l ∷ ls)) i) ++ none_repaired (list_any hides (l ∷ ls)) (l ∷ ls) i))
+    (λ i. none_gone (list_any tells_object (l ∷ ls)) (gone_object has_lines) i ++ (map Found (none_new [] (finding_codes (l ∷ ls)) i) ++ (none_repaired (list_any hides (l ∷ ls)) (l ∷ ls) i ++ none_moved (note_in (l ∷ ls)) i)))
 
 module _ (left : List Place) (ls : List Line) where
   none_at : (p : Place) → placed p (said_at Changed left ls ls p) ≡ []
@@ -95,6 +101,32 @@ new_among others (d ∷ cs) c (inr i) e = by (has_code others d) (new_among othe
     by : (b : Bool) → IsAmong (new_codes others cs) c → IsAmong (cond (not b) (d ∷ new_codes others cs) (new_codes others cs)) c
     by true j = j
     by false j = inr j
+
+-- ---- what became of an inventory
+
+-- none of the three
+abbrev IsNoMove : Change → Type 0
+IsNoMove z = (z ≡ Rewritten → ⊥) × (z ≡ WentBack → ⊥) × (z ≡ NewVersion → ⊥)
+
+other_than_moved : (v w : Option ℕ) (z : Change) → IsNoMove z → z ≡ moved v w → ⊥
+other_than_moved None w z apart e = apart.0 e
+other_than_moved (Some v) None z apart e = apart.0 e
+other_than_moved (Some v) (Some w) z apart e = by (nat_lt v w) (nat_lt w v) e
+  where
+    by : (a b : Bool) → z ≡ cond a NewVersion (cond b WentBack Rewritten) → ⊥
+    by true b f = apart.2 f
+    by false true f = apart.1 f
+    by false false f = apart.0 f
+
+none_of_moved : (before now : Option Text) (z : Change) → IsNoMove z → IsAmong (inventory_changes before now) z → ⊥
+none_of_moved None now z apart i = i
+none_of_moved (Some b) None z apart i = i
+none_of_moved (Some b) (Some n) z apart i = by (text_eq b n) i
+  where
+    by : (q : Bool) → IsAmong (cond q [] (moved (version_of b) (version_of n) ∷ [])) z → ⊥
+    by true j = j
+    by false (inl e) = other_than_moved (version_of b) (version_of n) z apart e
+    by false (inr j) = j
 
 repair_is_no_object : (h : Bool) (c : Code) → Repaired c ≡ gone_object h → ⊥
 repair_is_no_object true c e = cc
@@ -165,32 +197,40 @@ module _ (shut has_lines : Bool) (before now : List Line) where
   abbrev fourth : List Change
   fourth = map Repaired (repaired_codes before now)
 
-  -- what is neither a code nor a repair comes before them
-  none_later : (z : Change) → ((c : Code) → z ≡ Found c → ⊥) → ((c : Code) → z ≡ Repaired c → ⊥) → IsAmong (third ++ fourth) z → ⊥
-  none_later z no_code no_repair i =
-      none_among Found z no_code (new_codes (finding_codes before) (finding_codes now))
-      (left_of (among_either third fourth z i) (none_among Repaired z no_repair (repaired_codes before now)))
+  abbrev fifth : List Change
+  fifth = inventory_changes (note_in before) (note_in now)
 
-  in_first : (z : Change) → (z ≡ gone_file shut → ⊥) → ((c : Code) → z ≡ Found c → ⊥) → ((c : Code) → z ≡ Repaired c → ⊥) → IsAmong (changes_at shut has_lines before now) z
+  abbrev later : List Change
+  later = third ++ (fourth ++ fifth)
+
+  -- what is neither a code nor a repair, nor of an inventory, comes before them
+  none_later : (z : Change) → ((c : Code) → z ≡ Found c → ⊥) → ((c : Code) → z ≡ Repaired c → ⊥) → IsNoMove z → IsAmong later z → ⊥
+  none_later z no_code no_repair no_move i =
+      none_among Found z no_code (new_codes (finding_codes before) (finding_codes now)) (left_of (among_either third (fourth ++ fifth) z i) not_behind)
+    where
+      not_behind : IsAmong (fourth ++ fifth) z → ⊥
+      not_behind j = none_among Repaired z no_repair (repaired_codes before now) (left_of (among_either fourth fifth z j) (none_of_moved (note_in before) (note_in now) z no_move))
+
+  in_first : (z : Change) → (z ≡ gone_file shut → ⊥) → ((c : Code) → z ≡ Found c → ⊥) → ((c : Code) → z ≡ Repaired c → ⊥) → IsNoMove z → IsAmong (changes_at shut has_lines before now) z
       → ((list_any tells_object now ≡ false) × (list_any tells_object before ≡ true)) × (z ≡ gone_object has_lines)
-  in_first z no_file no_code no_repair i =
-      let k = among_when (not (list_any tells_object now) && list_any tells_object before) (gone_object has_lines) z (left_of (among_either first (second ++ (third ++ fourth)) z i) not_later) in
+  in_first z no_file no_code no_repair no_move i =
+      let k = among_when (not (list_any tells_object now) && list_any tells_object before) (gone_object has_lines) z (left_of (among_either first (second ++ later) z i) not_later) in
       (not_and (list_any tells_object now) (list_any tells_object before) k.0, k.1)
     where
       not_second : IsAmong second z → ⊥
       not_second j = no_file (among_when (is_empty now && list_any tells_file before) (gone_file shut) z j).1
 
-      not_later : IsAmong (second ++ (third ++ fourth)) z → ⊥
-      not_later j = none_later z no_code no_repair (right_of (among_either second (third ++ fourth) z j) not_second)
+      not_later : IsAmong (second ++ later) z → ⊥
+      not_later j = none_later z no_code no_repair no_move (right_of (among_either second later z j) not_second)
 
   first_in : (list_any tells_object now ≡ false) × (list_any tells_object before ≡ true) → IsAmong (changes_at shut has_lines before now) (gone_object has_lines)
-  first_in k = among_left first (second ++ (third ++ fourth)) (gone_object has_lines) (subst (λ b. IsAmong (when b (gone_object has_lines)) (gone_object has_lines)) (sym (λ i. not (k.0 i) && k.1 i)) (inl refl))
+  first_in k = among_left first (second ++ later) (gone_object has_lines) (subst (λ b. IsAmong (when b (gone_object has_lines)) (gone_object has_lines)) (sym (λ i. not (k.0 i) && k.1 i)) (inl refl))
 
-  in_second : (z : Change) → (z ≡ gone_object has_lines → ⊥) → ((c : Code) → z ≡ Found c → ⊥) → ((c : Code) → z ≡ Repaired c → ⊥) → IsAmong (changes_at shut has_lines before now) z
+  in_second : (z : Change) → (z ≡ gone_object has_lines → ⊥) → ((c : Code) → z ≡ Found c → ⊥) → ((c : Code) → z ≡ Repaired c → ⊥) → IsNoMove z → IsAmong (changes_at shut has_lines before now) z
       → ((now ≡ []) × (list_any tells_file before ≡ true)) × (z ≡ gone_file shut)
-  in_second z no_object no_code no_repair i =
+  in_second z no_object no_code no_repair no_move i =
       let k = among_when (is_empty now && list_any tells_file before) (gone_file shut) z
-      (left_of (among_either second (third ++ fourth) z (right_of (among_either first (second ++ (third ++ fourth)) z i) not_first)) (none_later z no_code no_repair)) in
+      (left_of (among_either second later z (right_of (among_either first (second ++ later) z i) not_first)) (none_later z no_code no_repair no_move)) in
       (none_left now (list_any tells_file before) k.0, k.1)
     where
       not_first : IsAmong first z → ⊥
@@ -198,15 +238,15 @@ module _ (shut has_lines : Bool) (before now : List Line) where
 
   second_in : (now ≡ []) × (list_any tells_file before ≡ true) → IsAmong (changes_at shut has_lines before now) (gone_file shut)
   second_in k =
-      among_right first (second ++ (third ++ fourth)) (gone_file shut)
-      (among_left second (third ++ fourth) (gone_file shut) (subst (λ b. IsAmong (when b (gone_file shut)) (gone_file shut)) (sym (λ i. is_empty (k.0 i) && k.1 i)) (inl refl)))
+      among_right first (second ++ later) (gone_file shut)
+      (among_left second later (gone_file shut) (subst (λ b. IsAmong (when b (gone_file shut)) (gone_file shut)) (sym (λ i. is_empty (k.0 i) && k.1 i)) (inl refl)))
 
   -- ---- what is repaired
 
   repaired_last : (c : Code) → IsAmong (changes_at shut has_lines before now) (Repaired c) ↔ IsAmong fourth (Repaired c)
   repaired_last c = (
-    λ i. right_of (among_either third fourth (Repaired c) (right_of (among_either second (third ++ fourth) (Repaired c) (right_of (among_either first (second ++ (third ++ fourth)) (Repaired c) i) not_first)) not_second)) not_third,
-    λ i. among_right first (second ++ (third ++ fourth)) (Repaired c) (among_right second (third ++ fourth) (Repaired c) (among_right third fourth (Repaired c) i)),
+    λ i. left_of (among_either fourth fifth (Repaired c) (right_of (among_either third (fourth ++ fifth) (Repaired c) (right_of (among_either second later (Repaired c) (right_of (among_either first (second ++ later) (Repaired c) i) not_first)) not_second)) not_third)) not_fifth,
+    λ i. among_right first (second ++ later) (Repaired c) (among_right second later (Repaired c) (among_right third (fourth ++ fifth) (Repaired c) (among_left fourth fifth (Repaired c) i))),
   )
     where
       not_first : IsAmong first (Repaired c) → ⊥
@@ -217,6 +257,9 @@ module _ (shut has_lines : Bool) (before now : List Line) where
 
       not_third : IsAmong third (Repaired c) → ⊥
       not_third i = none_among Found (Repaired c) (λ d e. cc) (new_codes (finding_codes before) (finding_codes now)) i
+
+      not_fifth : IsAmong fifth (Repaired c) → ⊥
+      not_fifth = none_of_moved (note_in before) (note_in now) (Repaired c) (λ e. cc, λ e. cc, λ e. cc)
 
   pub repaired_is : (c : Code) → IsAmong (changes_at shut has_lines before now) (Repaired c)
       ↔ ((now ≢ []) × (list_any hides now ≡ false)) × (IsAmong (finding_codes before) c × (has_code (finding_codes now) c ≡ false))
@@ -256,25 +299,25 @@ IsFileAway before now = (now ≡ []) × (list_any tells_file before ≡ true)
 
 pub gone_is : (shut has_lines : Bool) (before now : List Line) → IsAmong (changes_at shut has_lines before now) Gone ↔ (has_lines ≡ false) × IsObjectAway before now
 gone_is shut has_lines before now = (
-  λ i. let k = in_first shut has_lines before now Gone (gone_is_no_file shut) (λ c e. cc) (λ c e. cc) i in (is_gone has_lines k.1, k.0),
+  λ i. let k = in_first shut has_lines before now Gone (gone_is_no_file shut) (λ c e. cc) (λ c e. cc) (λ e. cc, λ e. cc, λ e. cc) i in (is_gone has_lines k.1, k.0),
   λ k. subst (λ h. IsAmong (changes_at shut h before now) Gone) (sym k.0) (first_in shut false before now k.1),
 )
 
 pub undeclared_is : (shut has_lines : Bool) (before now : List Line) → IsAmong (changes_at shut has_lines before now) Undeclared ↔ (has_lines ≡ true) × IsObjectAway before now
 undeclared_is shut has_lines before now = (
-  λ i. let k = in_first shut has_lines before now Undeclared (undeclared_is_no_file shut) (λ c e. cc) (λ c e. cc) i in (is_undeclared has_lines k.1, k.0),
+  λ i. let k = in_first shut has_lines before now Undeclared (undeclared_is_no_file shut) (λ c e. cc) (λ c e. cc) (λ e. cc, λ e. cc, λ e. cc) i in (is_undeclared has_lines k.1, k.0),
   λ k. subst (λ h. IsAmong (changes_at shut h before now) Undeclared) (sym k.0) (first_in shut true before now k.1),
 )
 
 pub file_gone_is : (shut has_lines : Bool) (before now : List Line) → IsAmong (changes_at shut has_lines before now) FileGone ↔ (shut ≡ false) × IsFileAway before now
 file_gone_is shut has_lines before now = (
-  λ i. let k = in_second shut has_lines before now FileGone (file_is_no_object has_lines) (λ c e. cc) (λ c e. cc) i in (is_file_gone shut k.1, k.0),
+  λ i. let k = in_second shut has_lines before now FileGone (file_is_no_object has_lines) (λ c e. cc) (λ c e. cc) (λ e. cc, λ e. cc, λ e. cc) i in (is_file_gone shut k.1, k.0),
   λ k. subst (λ s. IsAmong (changes_at s has_lines before now) FileGone) (sym k.0) (second_in false has_lines before now k.1),
 )
 
 pub unlooked_is : (shut has_lines : Bool) (before now : List Line) → IsAmong (changes_at shut has_lines before now) Unlooked ↔ (shut ≡ true) × IsFileAway before now
 unlooked_is shut has_lines before now = (
-  λ i. let k = in_second shut has_lines before now Unlooked (unlooked_is_no_object has_lines) (λ c e. cc) (λ c e. cc) i in (is_unlooked shut k.1, k.0),
+  λ i. let k = in_second shut has_lines before now Unlooked (unlooked_is_no_object has_lines) (λ c e. cc) (λ c e. cc) (λ e. cc, λ e. cc, λ e. cc) i in (is_unlooked shut k.1, k.0),
   λ k. subst (λ s. IsAmong (changes_at s has_lines before now) Unlooked) (sym k.0) (second_in true has_lines before now k.1),
 )
 
@@ -293,6 +336,6 @@ from_nothing shut has_lines (l ∷ ls) =
     none_object true = refl
     none_object false = refl
 
-    none_before : (b : Bool) → map Repaired (cond b [] []) ≡ []
+    none_before : (b : Bool) → map Repaired (cond b [] []) ++ [] ≡ []
     none_before true = refl
     none_before false = refl

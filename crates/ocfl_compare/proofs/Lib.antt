@@ -1,5 +1,6 @@
 mod Reports
 mod Sights
+mod Moves
 mod Tellings
 mod Around
 mod Groups

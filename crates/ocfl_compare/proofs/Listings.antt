@@ -22,7 +22,6 @@ use Rattle.ocfl_compare.specs.Seen.{Seen, all_seen, changes_seen}
 use Rattle.ocfl_compare.proofs.Sights.{only_changes}
 use Rattle.ocfl_compare.specs.Changes.{lines_at, places_of, is_left, when, placed, said_at, answers}
 use Rattle.ocfl_compare.specs.declared.change.Change.TheVariants.{Missing}
-use Rattle.ocfl_compare.specs.declared.change.ChangeAt.{ChangeAt}
 use Rattle.ocfl_compare.specs.{Compared.{IsAnswered}, CompareStop.{StopsRightly, ReportStops}}
 use Rattle.ocfl_compare.specs.Expected.{is_missing, missing_objects, missing, IsSearched}
 use Rattle.ocfl_compare.specs.Internal.Listing.{as_object}

@@ -1,11 +1,11 @@
 -- What is seen of two reports, and the changes in it.
-use Rattle.std.proofs.Common.{◌≡◌, List, [], ◌∷◌, ◌++◌, map, refl, ap, sym, ◌∙◌, append-nil}
+use Rattle.std.proofs.Common.{◌≡◌, List, [], ◌∷◌, ◌++◌, refl, ap, sym, ◌∙◌}
 use Rattle.std.proofs.{lemmas.Grind.{flat_map-append}, lemmas.List.{map-append}}
 use Rattle.std.specs.Prelude.{flat_map}
 use Rattle.ocfl_tree.specs.Place.{Place}
 use Rattle.ocfl_report.specs.Line.{Line}
 use Rattle.ocfl_compare.specs.Changes.{answers, lines_at, placed, places_of, said_at}
-use Rattle.ocfl_compare.specs.Seen.{Seen, change, all_seen, change_in, changes_in, changes_seen, line_seen, lines_seen, seen_at, show_at, shown}
+use Rattle.ocfl_compare.specs.Seen.{change, all_seen, change_in, changes_in, changes_seen, lines_seen, seen_at, show_at, shown}
 use Rattle.ocfl_compare.specs.declared.change.{Change.{Change}, ChangeAt.{ChangeAt}}
 use Rattle.ocfl_compare.specs.declared.question.Question.{Question}
 use Rattle.ocfl_compare.specs.declared.question.Question.TheVariants.{Changed, Expected}

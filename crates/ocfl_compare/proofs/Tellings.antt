@@ -11,11 +11,11 @@ use Rattle.ocfl_report.specs.{Line.{Line, line_of}, declared.code.Code.{Code}}
 use Rattle.ocfl_report.specs.declared.line.Line.{Line as MadeLine}
 use Rattle.ocfl_codes.specs.Kinds.{is_empty, tells_object, tells_file, hides}
 use Rattle.ocfl_compare.specs.Changes.{has_code, with_code, codes_from, new_codes, stops, when}
-use Rattle.ocfl_compare.specs.Seen.{Seen, show_at, shown}
+use Rattle.ocfl_compare.specs.{Versions.{note_from, with_note}, Seen.{Seen, show_at, shown}}
 use Rattle.ocfl_compare.specs.declared.change.Change.{Change}
 use Rattle.ocfl_compare.specs.declared.change.Change.TheVariants.{Found, Repaired}
 use Rattle.ocfl_compare.specs.Internal.Reading.{listed, HasRead, IsNotAbove, IsBelow, IsAt, GoesOn}
-use Rattle.ocfl_compare.specs.Internal.Telling.{IsTold, new_at, repaired_at}
+use Rattle.ocfl_compare.specs.Internal.Telling.{IsTold, new_at, repaired_at, told_note}
 use Rattle.ocfl_compare.specs.Internal.Turns.{AreTaken}
 use Rattle.ocfl_compare.specs.declared.told.Told.{Told}
 
@@ -25,6 +25,10 @@ codes_more : (cs : List Code) (ls : List Line) (l : Line) → codes_from cs (ls 
 codes_more cs [] l = refl
 codes_more cs (m ∷ ls) l = codes_more (with_code cs m.code) ls l
 
+note_more : (note : Option Text) (ls : List Line) (l : Line) → note_from note (ls ++ l ∷ []) ≡ with_note (note_from note ls) l
+note_more note [] l = refl
+note_more note (m ∷ ls) l = note_more (with_note note m) ls l
+
 any_more : (test : Line → Bool) (ls : List Line) (l : Line) → list_any test (ls ++ l ∷ []) ≡ list_any test ls || test l
 any_more test ls l = list_any-append test ls (l ∷ []) ∙ ap (λ b. list_any test ls || b) (or-false (test l))
 
@@ -33,14 +37,16 @@ not_empty [] l = refl
 not_empty (m ∷ ls) l = refl
 
 pub told_more : (told after : Told) (own : List Line) (l : Line) → IsTold told own → after.absent ≡ false → after.object ≡ told.object || tells_object l → after.stopped ≡ told.stopped || stops l → after.file ≡ told.file || tells_file l
-    → after.hidden ≡ told.hidden || hides l → after.findings.items ≡ with_code told.findings.items l.code → IsTold after (own ++ l ∷ [])
-told_more told after own l h absent object stopped file hidden findings = record {
+    → after.hidden ≡ told.hidden || hides l → after.findings.items ≡ with_code told.findings.items l.code
+    → told_note after ≡ with_note (told_note told) l → IsTold after (own ++ l ∷ [])
+told_more told after own l h absent object stopped file hidden findings note = record {
   absent = absent ∙ not_empty own l;
   object = object ∙ ap (λ b. b || tells_object l) h.object ∙ sym (any_more tells_object own l);
   stopped = stopped ∙ ap (λ b. b || stops l) h.stopped ∙ sym (any_more stops own l);
   file = file ∙ ap (λ b. b || tells_file l) h.file ∙ sym (any_more tells_file own l);
   hidden = hidden ∙ ap (λ b. b || hides l) h.hidden ∙ sym (any_more hides own l);
   findings = findings ∙ ap (λ cs. with_code cs l.code) h.findings ∙ sym (codes_more [] own l);
+  note = note ∙ ap (λ n. with_note n l) h.note ∙ sym (note_more None own l);
 }
 
 -- ---- changes, one by one
@@ -63,14 +69,15 @@ repaired_changes p now (c ∷ before) = by (not (has_code now c)) (repaired_chan
     by true e = ap (λ cs. show_at p (Repaired c) ∷ cs) e
     by false e = e
 
--- four kinds of changes, taken in turn
+-- five kinds of changes, taken in turn
 pub all_taken : {T : Type 0} (Takes : T → List Seen → T → Type 0) (joined : (t u v : T) (first then : List Seen) → Takes t first u → Takes u then v → Takes t (first ++ then) v)
-    (p : Place) (a b c d : List Change) (start one two three four : T) → Takes start (shown p a) one → Takes one (shown p b) two → Takes two (shown p c) three → Takes three (shown p d) four
-    → Takes start (shown p (a ++ (b ++ (c ++ d)))) four
-all_taken Takes joined p a b c d start one two three four e f g h =
-    subst (λ cs. Takes start cs four) (sym (map-append (show_at p) a (b ++ (c ++ d)) ∙ ap (λ cs. shown p a ++ cs) (map-append (show_at p) b (c ++ d) ∙ ap (λ cs. shown p b ++ cs) (map-append (show_at p) c d))))
-    (joined start one four (shown p a) (shown p b ++ (shown p c ++ shown p d)) e
-    (joined one two four (shown p b) (shown p c ++ shown p d) f (joined two three four (shown p c) (shown p d) g h)))
+    (p : Place) (a b c d e : List Change) (start one two three four five : T) → Takes start (shown p a) one → Takes one (shown p b) two → Takes two (shown p c) three → Takes three (shown p d) four → Takes four (shown p e) five
+    → Takes start (shown p (a ++ (b ++ (c ++ (d ++ e))))) five
+all_taken Takes joined p a b c d e start one two three four five f g h i j =
+    subst (λ cs. Takes start cs five) (sym (map-append (show_at p) a (b ++ (c ++ (d ++ e))) ∙ ap (λ cs. shown p a ++ cs) (map-append (show_at p) b (c ++ (d ++ e)) ∙ ap (λ cs. shown p b ++ cs) (map-append (show_at p) c (d ++ e) ∙ ap (λ cs. shown p c ++ cs) (map-append (show_at p) d e)))))
+    (joined start one five (shown p a) (shown p b ++ (shown p c ++ (shown p d ++ shown p e))) f
+    (joined one two five (shown p b) (shown p c ++ (shown p d ++ shown p e)) g
+    (joined two three five (shown p c) (shown p d ++ shown p e) h (joined three four five (shown p d) (shown p e) i j))))
 
 -- ---- lines of a place, one by one
 

@@ -10,6 +10,7 @@ use Rattle.ocfl_compare.specs.declared.change.Change.TheVariants.{Gone, Undeclar
 use Rattle.ocfl_compare.specs.declared.change.ChangeAt.{ChangeAt}
 use Rattle.ocfl_compare.specs.declared.question.Question.{Question}
 use Rattle.ocfl_compare.specs.declared.question.Question.TheVariants.{Changed, Expected}
+use Rattle.ocfl_compare.specs.Versions.{inventory_changes, note_in}
 use Rattle.ocfl_codes.specs.Kinds.{is_empty, tells_object, tells_file, hides}
 
 -- ---- the codes of findings
@@ -92,7 +93,8 @@ changes_at shut has_lines before now =
     when (not (list_any tells_object now) && list_any tells_object before) (gone_object has_lines)
     ++ (when (is_empty now && list_any tells_file before) (gone_file shut)
     ++ (map Found (new_codes (finding_codes before) (finding_codes now))
-    ++ map Repaired (repaired_codes before now)))
+    ++ (map Repaired (repaired_codes before now)
+    ++ inventory_changes (note_in before) (note_in now))))
 
 -- of an object with this line in a list, and these lines in the report
 abbrev pub missing_at : List Line → List Line → List Change

@@ -1,3 +1,4 @@
+pub mod Versions
 pub mod Changes
 pub mod Seen
 pub mod Gone

@@ -21,6 +21,13 @@ pub enum Change {
     Repaired(Code),
     /// An object of a list has no line of an object at the place.
     Missing,
+    /// Both reports note what the root inventory of the object is, and it is another one of the same
+    /// version; or one of the versions is not known.
+    Rewritten,
+    /// The same, but of an older version.
+    WentBack,
+    /// The same, but of a newer version.
+    NewVersion,
 }
 
 /// A change, and where it is.

@@ -32,7 +32,8 @@ struct Both {
 /// Compares two reports of a storage root, and gives what changed, place by place in their order.
 /// [`Change`](crate::Change) says what that may be. Of a place the object or the file comes first,
 /// then the codes that were found there and were not before, and then those that are repaired, each
-/// code once. A finding is repaired only at a place that was looked at: it has lines in this report,
+/// code once; at last what became of an object's root inventory, if both reports note what it is. A
+/// finding is repaired only at a place that was looked at: it has lines in this report,
 /// and none behind which a finding may not be looked for, as where an object's head stops, or where a
 /// file could not be read or is no longer named.
 ///

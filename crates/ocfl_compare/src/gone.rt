@@ -1,4 +1,4 @@
-//! The list of what is gone.
+//! The list of what is gone, and of objects whose root inventory is another one.
 ghost use Rattle.std.specs.Prelude.{◌≡◌, [], ◌∷◌, ◌++◌, None, IfSome, OnOk};
 ghost use Rattle.std.specs.Io.KnownBytes.{Appends};
 ghost use Rattle.std.proofs.KnownBytes.{Appends-nil};
@@ -14,9 +14,11 @@ use ocfl_tree::Place;
 use std::alloc::{AllocError, Global};
 use std::io::Write;
 
-/// Writes a row for each change that makes something gone: its word, a tab, the place as reports
-/// write it, and a line feed. The word is `object`, `undeclared` for an object that is no longer
-/// declared, `file`, or `expected` for an object of a list. Other changes have no row.
+/// Writes a row for each change that makes something gone, and for each object whose root inventory
+/// is another one: a word, a tab, the place as reports write it, and a line feed. The word is
+/// `object`, `undeclared` for an object that is no longer declared, `file`, `expected` for an object
+/// of a list, or `changed`, `older` or `newer` for an inventory of the same version, of an older or of
+/// a newer one. Other changes have no row.
 #[derive(Drop)]
 pub struct GoneList<W: Write + Drop> {
     alloc: Global,
@@ -55,7 +57,7 @@ impl<W: Write + Drop> TakeChange for GoneList<W> {
         rows_joined (W.contents t.out) (W.contents u.out) (W.contents v.out) first then p q };
 }
 
-/// The word of a change that makes something gone.
+/// The word of the row of a change.
 fn word_of(change: Change) -> Option<&'static str>
     ensures some { IfSome result (λ word. gone_word change ≡ word.now ∷ []) }
     ensures none { result ≡ None → gone_word change ≡ [] }
@@ -65,6 +67,9 @@ fn word_of(change: Change) -> Option<&'static str>
         Change::Undeclared => Some("undeclared"),
         Change::FileGone => Some("file"),
         Change::Missing => Some("expected"),
+        Change::Rewritten => Some("changed"),
+        Change::WentBack => Some("older"),
+        Change::NewVersion => Some("newer"),
         Change::Unlooked | Change::Found(_) | Change::Repaired(_) => None,
     }
 }

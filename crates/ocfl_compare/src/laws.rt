@@ -1,11 +1,13 @@
 //! The laws of what changed between two reports.
-ghost use Rattle.std.specs.Prelude.{◌≡◌, ◌≢◌, ◌↔◌, Bool, List, [], false, true, map};
+ghost use Rattle.std.specs.Prelude.{◌≡◌, ◌≢◌, ◌<◌, ◌↔◌, ℕ, Bool, List, [], ◌∷◌, Some, false, true, map};
 ghost use Rattle.std.specs.List.{list_any};
-ghost use Rattle.ocfl_tree.specs.{Ascending.{IsAmong}, Place.{Place}};
+ghost use Rattle.ocfl_tree.specs.{Ascending.{IsAmong}, Place.{Place, Text}};
 ghost use Rattle.ocfl_compare.specs.Changes.{changes_at, comparison, finding_codes, has_code};
 ghost use Rattle.ocfl_compare.specs.declared.change.Change.TheVariants.{FileGone, Found, Gone};
 ghost use Rattle.ocfl_compare.specs.declared.change.Change.TheVariants.{Repaired, Undeclared};
-ghost use Rattle.ocfl_compare.specs.declared.change.Change.TheVariants.{Unlooked};
+ghost use Rattle.ocfl_compare.specs.declared.change.Change.TheVariants.{NewVersion, Rewritten};
+ghost use Rattle.ocfl_compare.specs.declared.change.Change.TheVariants.{Unlooked, WentBack};
+ghost use Rattle.ocfl_compare.specs.Versions.{inventory_changes, version_of};
 ghost use Rattle.ocfl_codes.specs.Kinds.{hides, tells_file, tells_object};
 ghost use Rattle.ocfl_report.specs.{Line.{Line}, declared.code.Code.{Code}};
 
@@ -50,4 +52,19 @@ pub fn what_is_repaired_was_looked_at()
 pub fn nothing_is_gone_from_nothing()
     ensures { (shut has_lines : Bool) (now : List Line)
         → changes_at shut has_lines [] now ≡ map Found (finding_codes now) }
+{}
+
+/// Of an inventory that is another one, the numbers of the versions that the notes of both reports
+/// name say what became of it. One that is noted as before is the same.
+#[tactic(auto, using(crate::proofs::Moves::newer, crate::proofs::Moves::older, crate::proofs::Moves::same_version, crate::proofs::Moves::unchanged))]
+pub fn another_inventory_is_of_a_version()
+    ensures newer { (before now : Text) (v w : ℕ) → before ≢ now → version_of before ≡ Some v
+        → version_of now ≡ Some w → v < w
+        → inventory_changes (Some before) (Some now) ≡ NewVersion ∷ [] }
+    ensures older { (before now : Text) (v w : ℕ) → before ≢ now → version_of before ≡ Some v
+        → version_of now ≡ Some w → w < v
+        → inventory_changes (Some before) (Some now) ≡ WentBack ∷ [] }
+    ensures same_version { (before now : Text) (v : ℕ) → before ≢ now → version_of before ≡ Some v
+        → version_of now ≡ Some v → inventory_changes (Some before) (Some now) ≡ Rewritten ∷ [] }
+    ensures unchanged { (note : Text) → inventory_changes (Some note) (Some note) ≡ [] }
 {}

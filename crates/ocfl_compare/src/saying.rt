@@ -3,18 +3,20 @@ ghost use Rattle.std.specs.Prelude.{◌≡◌, ◌&&◌, ◌||◌, [], List, OnO
 ghost use Rattle.ocfl_tree.specs.Place.{Place as ModelPlace};
 ghost use Rattle.ocfl_report.specs.Line.{Line as ModelLine};
 ghost use Rattle.ocfl_compare.specs.Changes.{gone_file, gone_object, is_left as is_left_out};
-ghost use Rattle.ocfl_compare.specs.{Changes.{when}, Seen.{shown}};
+ghost use Rattle.ocfl_compare.specs.{Changes.{when}, Seen.{shown}, Versions.{inventory_changes}};
 ghost use Rattle.ocfl_compare.specs.declared.change.Change.TheVariants.{Repaired};
 ghost use Rattle.ocfl_compare.specs.Internal.Telling.{IsTold, new_at, repaired_at};
-ghost use Rattle.ocfl_compare.specs.Internal.Telling.{told_answer, told_changes, told_repaired};
+ghost use Rattle.ocfl_compare.specs.Internal.Telling.{told_answer, told_changes, told_note};
+ghost use Rattle.ocfl_compare.specs.Internal.Telling.{told_repaired};
 ghost use Rattle.ocfl_compare.specs.Internal.Turns.{said_changes};
 
 use crate::change::Change;
 use crate::question::Question;
 use crate::taking::{TakeChange, TakeStop};
 use crate::told::{Told, has_code};
+use crate::versions::moved;
 use ocfl_report::Code;
-use ocfl_tree::Place;
+use ocfl_tree::{Place, is_text};
 
 /// What two reports say of a place and of those around it.
 #[derive(Clone, Copy)]
@@ -106,7 +108,8 @@ fn give_changes<T: TakeChange>(sides: Sides<'_>, taker: &mut T) -> Result<(), Ta
         now.findings.as_slice(),
         taker,
     )?;
-    give_all_repaired(sides, taker)
+    give_all_repaired(sides, taker)?;
+    give_inventory_change(place, before, now, taker)
 }
 
 /// Whether a line of an object was there before and is not there now.
@@ -172,6 +175,25 @@ fn give_all_repaired<T: TakeChange>(sides: Sides<'_>, taker: &mut T) -> Result<(
         before.findings.as_slice(),
         taker,
     )
+}
+
+/// Gives what became of the root inventory, if both reports note what it is, and differently.
+fn give_inventory_change<T: TakeChange>(
+    place: &Place,
+    before: &Told,
+    now: &Told,
+    taker: &mut T,
+) -> Result<(), TakeStop>
+    ensures { OnOk result (T.takes taker.old (shown place.now
+        (inventory_changes (told_note before.now) (told_note now.now))) taker.new) }
+{
+    let (Some(before), Some(now)) = (&before.note, &now.note) else {
+        return Ok(());
+    };
+    if is_text(before, now) {
+        return Ok(());
+    }
+    taker.take(place, moved(before, now))
 }
 
 /// Gives each code that was not there before.

@@ -1,9 +1,10 @@
 //! What the lines of one place say together.
-ghost use Rattle.std.specs.Prelude.{◌≡◌, ◌||◌, List, [], ◌∷◌, ◌++◌, IfOk, OnOk};
+ghost use Rattle.std.specs.Prelude.{◌≡◌, ◌||◌, List, [], ◌∷◌, ◌++◌, None, IfOk, OnOk, option_map, string_bytes};
 ghost use Rattle.ocfl_report.specs.Line.{Line as ModelLine, line_of};
 ghost use Rattle.ocfl_compare.specs.Changes.{has_code as has_that_code, stops, with_code};
-ghost use Rattle.ocfl_compare.specs.Internal.Telling.{IsTold};
+ghost use Rattle.ocfl_compare.specs.{Internal.Telling.{IsTold}, Versions.{with_note}};
 
+use crate::versions::is_note;
 use ocfl_codes::{is_hiding, is_of_file, is_of_object};
 use ocfl_report::{Code, Line};
 use ocfl_tree::is_text;
@@ -24,6 +25,8 @@ pub(crate) struct Told {
     pub(crate) hidden: bool,
     /// The codes of findings, each once.
     pub(crate) findings: Vec<Code>,
+    /// What the root inventory is, if a line notes that.
+    pub(crate) note: Option<String>,
 }
 
 /// What no line says.
@@ -37,6 +40,7 @@ pub(crate) fn nothing(alloc: Global) -> Told
         file: false,
         hidden: false,
         findings: Vec::new(alloc),
+        note: None,
     }
 }
 
@@ -52,8 +56,10 @@ pub(crate) fn tell(told: Told, line: &Line) -> Result<Told, AllocError>
         file,
         hidden,
         mut findings,
+        note,
     } = told;
     add_code(line, &mut findings)?;
+    let note = note_with(note, line)?;
     Ok(Told {
         absent: false,
         object: either(object, is_of_object(line)),
@@ -61,7 +67,30 @@ pub(crate) fn tell(told: Told, line: &Line) -> Result<Told, AllocError>
         file: either(file, is_of_file(line)),
         hidden: either(hidden, is_hiding(line.code)),
         findings,
+        note,
     })
+}
+
+/// What a root inventory is, by the first line that notes it, with one more line.
+fn note_with(note: Option<String>, line: &Line) -> Result<Option<String>, AllocError>
+    ensures { IfOk result (λ after. option_map string_bytes after
+        ≡ with_note (option_map string_bytes note) (line_of line.now)) }
+{
+    match note {
+        Some(note) => Ok(Some(note)),
+        None => first_note(line),
+    }
+}
+
+/// What a root inventory is, by this line alone.
+fn first_note(line: &Line) -> Result<Option<String>, AllocError>
+    ensures { IfOk result (λ note. option_map string_bytes note
+        ≡ with_note None (line_of line.now)) }
+{
+    if !is_note(line.code) {
+        return Ok(None);
+    }
+    Ok(Some(line.detail.clone()?))
 }
 
 /// Whether the head of an object stops at this line.

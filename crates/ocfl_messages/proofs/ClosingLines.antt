@@ -8,11 +8,11 @@ use Rattle.ocfl_report.specs.{Line.{Line, line_of}, Text.{IsLine, escape}, decla
 use Rattle.ocfl_report.specs.declared.line.Line.{Line as MadeLine}
 use Rattle.ocfl_report.proofs.{Bytes.{IsByte}, Escapes.{escape_printable}, LineTexts.{no_line_feed}}
 use Rattle.ocfl_codes.specs.Kinds.{is_dash}
-use Rattle.ocfl_messages.specs.{Command.{path_text}, Finding.{Finding, IsPlaced}, Gravest.{by_weight, gravest, most_kept}}
-use Rattle.ocfl_messages.specs.Closing.{AreCounts, IsMade, above_text, alone_text, back_head, back_line, back_lines, back_room, back_text, behind_new, changed_command, changed_text, closing_text, counted_text, counts_text, ended_text, gone_head, gone_line, gone_lines, gone_room, gone_text, kind_text, lead_text, list_command, most_closing_lines, most_of, new_head, new_lines, new_room, new_text, not_shown, not_whole_text, one_unless, repaired_head, repaired_line, repaired_lines, repaired_room, repaired_text, room_of_sections, run_count_text, section_lines, section_text, since_text, some_gone_text, some_new_text, some_unlooked_text, summary_text, two_unless, uncompared_text, unlooked_text, why_lines, word_lines}
+use Rattle.ocfl_messages.specs.{Command.{over_text, path_text}, Finding.{Finding, IsPlaced}, Gravest.{by_weight, gravest, most_kept}}
+use Rattle.ocfl_messages.specs.Closing.{AreCounts, IsMade, above_text, alone_text, back_head, back_line, back_lines, back_room, back_text, behind_new, changed_command, changed_text, closing_text, counted_text, counts_text, ended_text, gone_head, gone_line, gone_lines, gone_room, gone_text, is_unmoved, kind_text, lead_text, list_command, moved_text, most_closing_lines, most_of, new_head, new_lines, new_room, new_text, not_shown, not_whole_text, one_unless, repaired_head, repaired_line, repaired_lines, repaired_room, repaired_text, room_of_sections, run_count_text, section_lines, section_text, since_text, some_gone_text, some_moved_text, some_new_text, some_unlooked_text, summary_text, two_unless, uncompared_text, unlooked_text, why_lines, word_lines}
 use Rattle.ocfl_messages.specs.{Grouped.{groups_text, led_by, line_count, shown_leads}, Many.{are_text, many_text, scaled_text, size_text}, Night.{findings_command, more_text}}
 use Rattle.ocfl_messages.specs.Wording.{at_space, both_text, coded_text, cut_text, detail_text, digests_text, has_digests, most_digits, named_text, plain_detail, path_part}
-use Rattle.ocfl_messages.specs.{declared.closing.Closing.{Closing}, declared.closing.Gone.{Gone}, declared.closing.GoneKind.{GoneKind}, declared.tally.Counts.{Counts}}
+use Rattle.ocfl_messages.specs.{declared.closing.Closing.{Closing}, declared.closing.Gone.{Gone}, declared.closing.GoneKind.{GoneKind}, declared.closing.Moved.{Moved}, declared.tally.Counts.{Counts}}
 use Rattle.ocfl_messages.specs.declared.closing.GoneKind.TheVariants.{Object, Undeclared, File, Expected}
 use Rattle.ocfl_messages.proofs.LineCounts.{both, coded_flat, digits_flat, escape_flat, gravest_placed, groups_fit, many_flat, more_short, none, over_flat, part_flat, path_flat}
 
@@ -69,7 +69,7 @@ detail_flat c detail h = elim (has_digests c) as (λ q. line_count (cond q (name
 repaired_one : (l : Line) → IsLine l → line_count (repaired_line l) ≡ 1
 repaired_one l h =
     let P = path_part (path_text l.place) in
-    let C = coded_text l.code l.detail in
+    let C = coded_text l in
     let D = detail_text l.code l.detail in
     both (((codes "\t" ++ P) ++ C) ++ D) (codes "\n")
     ∙ omega (
@@ -78,7 +78,7 @@ repaired_one l h =
       both (codes "\t" ++ P) C,
       both (codes "\t") P,
       part_flat (path_text l.place) (path_flat l.place h.place),
-      coded_flat l.code l.detail,
+      coded_flat l,
       detail_flat l.code l.detail h.detail,
     )
 
@@ -272,6 +272,29 @@ unlooked_short n l =
     ∙ omega (arith, both A (are_text n), both M (codes " of objects that are gone, or whose inventory cannot be used,"), many_flat n (codes "file") (codes "files") l refl refl, are_flat n) in
     elim (n == 0) as (λ q. line_count (cond q [] (some_unlooked_text n)) ≤ one_unless q) [ true ↦ omega arith | false ↦ omega (arith, some) ]
 
+moved_short : (m : Moved) (list : Text) → m.rewritten < 2 ^ 64 → m.went_back < 2 ^ 64 → m.newer < 2 ^ 64 → IsUtf8 list → line_count (moved_text m list) ≤ one_unless (is_unmoved m)
+moved_short m list r b n u =
+    let A = codes "Root inventories: " ++ decimal m.rewritten in
+    let B = (A ++ codes " changed without a new version, ") ++ decimal m.went_back in
+    let C = (B ++ codes " went back, ") ++ decimal m.newer in
+    let D = (C ++ codes " of a new version: ") ++ over_text list_command list in
+    let some : line_count (some_moved_text m list) ≡ 1 = both D (codes "\n")
+    ∙ omega (
+      arith,
+      both (C ++ codes " of a new version: ") (over_text list_command list),
+      both C (codes " of a new version: "),
+      both (B ++ codes " went back, ") (decimal m.newer),
+      both B (codes " went back, "),
+      both (A ++ codes " changed without a new version, ") (decimal m.went_back),
+      both A (codes " changed without a new version, "),
+      both (codes "Root inventories: ") (decimal m.rewritten),
+      digits_flat m.rewritten r,
+      digits_flat m.went_back b,
+      digits_flat m.newer n,
+      over_flat list_command list refl u,
+    ) in
+    elim (is_unmoved m) as (λ q. line_count (cond q [] (some_moved_text m list)) ≤ one_unless q) [ true ↦ omega arith | false ↦ omega (arith, some) ]
+
 -- ---- the lines before sections
 
 gone_head_one : (n cycle : ℕ) → n < 2 ^ 64 → cycle < 2 ^ 64 → line_count (gone_head n cycle) ≡ 1
@@ -443,11 +466,11 @@ one_most : (b : Bool) → one_unless b ≤ 1
 one_most true = omega arith
 one_most false = omega arith
 
-all_of : (e u g l n r b w y o room gl nl rl bl all : ℕ) → w ≤ 3 → y ≤ 1 → o ≤ 1 → room ≡ 13 - w - y - o → e ≤ w → u ≤ y → l ≤ o → g ≤ gl → n ≤ nl → r ≤ rl → b ≤ bl
-    → gl + nl + rl + bl ≤ room → all ≡ e + u + g + l + n + r + b → all ≤ 13
-all_of e u g l n r b w y o room gl nl rl bl all a1 a2 a3 a4 a5 a6 a7 a8 a9 b1 b2 b3 b4 = omega (arith, a1, a2, a3, a4, a5, a6, a7, a8, a9, b1, b2, b3, b4)
+all_of : (e u g l v n r b w y o z room gl nl rl bl all : ℕ) → w ≤ 3 → y ≤ 1 → o ≤ 1 → room ≡ 13 - w - y - o → e ≤ w → u ≤ y → l ≤ o → v ≤ z → g ≤ gl → n ≤ nl → r ≤ rl → b ≤ bl
+    → gl + nl + rl + bl ≤ room → all ≡ e + u + g + l + v + n + r + b → all ≤ 13 + z
+all_of e u g l v n r b w y o z room gl nl rl bl all a1 a2 a3 a4 a5 a6 a7 a8 a9 b1 b2 b3 b4 b5 = omega (arith, a1, a2, a3, a4, a5, a6, a7, a8, a9, b1, b2, b3, b4, b5)
 
-pub closing_is_short : (c : Closing) (fs : List Finding) → IsMade c → All IsPlaced fs → line_count (closing_text c fs) ≤ most_closing_lines
+pub closing_is_short : (c : Closing) (fs : List Finding) → IsMade c → All IsPlaced fs → line_count (closing_text c fs) ≤ most_closing_lines + one_unless (is_unmoved c.moved)
 closing_is_short c fs h placed =
     let w = word_most c.whole in
     let y = why_most c.uncompared.now in
@@ -470,6 +493,7 @@ closing_is_short c fs h placed =
     let U = uncompared_text c.uncompared.now in
     let G = gone_text c in
     let L = unlooked_text c.unlooked in
+    let V = moved_text c.moved c.list.now in
     let N = new_text c fs in
     let R = repaired_text c in
     let B = back_text c in
@@ -477,11 +501,12 @@ closing_is_short c fs h placed =
     let su = uncompared_short c.uncompared.now h.why in
     let sg = gone_short c h (λ k. first.0) in
     let sl = unlooked_short c.unlooked h.unlooked in
+    let sv = moved_short c.moved c.list.now h.rewritten h.went_back h.newer h.list in
     let sn = new_short c fs h placed new_two in
     let sr = repaired_short c h (λ k. omega (arith, rest.0, two_some c.repaired_count k)) in
     let sb = back_short c h (λ k. omega (arith, rest.1, two_some c.back_count k)) in
-    let joined = both (((((E ++ U) ++ G) ++ L) ++ N) ++ R) B in
-    let split : line_count (((((E ++ U) ++ G) ++ L) ++ N) ++ R) ≡ line_count E + line_count U + line_count G + line_count L + line_count N + line_count R =
-    omega (arith, both ((((E ++ U) ++ G) ++ L) ++ N) R, both (((E ++ U) ++ G) ++ L) N, both ((E ++ U) ++ G) L, both (E ++ U) G, both E U) in
-    all_of (line_count E) (line_count U) (line_count G) (line_count L) (line_count N) (line_count R) (line_count B) (word_lines c.whole) (why_lines c.uncompared.now) (one_unless (c.unlooked == 0))
-    (room_of_sections c) _ _ _ _ _ w y o refl se su sl sg sn sr sb sum (joined ∙ ap (λ k. k + line_count B) split)
+    let joined = both ((((((E ++ U) ++ G) ++ L) ++ V) ++ N) ++ R) B in
+    let split : line_count ((((((E ++ U) ++ G) ++ L) ++ V) ++ N) ++ R) ≡ line_count E + line_count U + line_count G + line_count L + line_count V + line_count N + line_count R =
+    omega (arith, both (((((E ++ U) ++ G) ++ L) ++ V) ++ N) R, both ((((E ++ U) ++ G) ++ L) ++ V) N, both (((E ++ U) ++ G) ++ L) V, both ((E ++ U) ++ G) L, both (E ++ U) G, both E U) in
+    all_of (line_count E) (line_count U) (line_count G) (line_count L) (line_count V) (line_count N) (line_count R) (line_count B) (word_lines c.whole) (why_lines c.uncompared.now)
+    (one_unless (c.unlooked == 0)) (one_unless (is_unmoved c.moved)) (room_of_sections c) _ _ _ _ _ w y o refl se su sl sv sg sn sr sb sum (joined ∙ ap (λ k. k + line_count B) split)

@@ -4,8 +4,7 @@ use Rattle.std.proofs.lemmas.List.{at_drop_more, drop-map, length-drop, length-m
 use Rattle.std.specs.{Prelude.{◌||◌, Option, Some, if◌then◌else◌}, List.{list_any}}
 use Rattle.ocfl_tree.specs.Place.{Text}
 use Rattle.ocfl_messages.specs.Finding.{Finding, finding_of}
-use Rattle.ocfl_codes.specs.Meaning.{first_step_of}
-use Rattle.ocfl_messages.specs.Grouped.{Sorted, each_text, first_with, fit_text, is_with, lead_with, leads_after, leads_of, led_by, line_count, one_if, one_step_text, picked, says_step, shown_group}
+use Rattle.ocfl_messages.specs.Grouped.{Sorted, each_text, first_with, fit_text, is_with, lead_with, leads_after, leads_of, led_by, line_count, one_if, one_step_text, picked, says_step, shown_group, step_of}
 use Rattle.ocfl_messages.specs.declared.finding.Finding.{Finding as MadeFinding}
 
 -- one more of a list
@@ -89,7 +88,7 @@ pub step_seen : (alone before : List Finding) (g : Finding) → list_any (says_s
 step_seen alone before g e = rw e refl
 
 pub step_new : (alone before : List Finding) (g : Finding) → list_any (says_step alone g) before ≡ false
-    → one_step_text alone before g ≡ codes "\tTo do: " ++ first_step_of g.line.code ++ codes "\n"
+    → one_step_text alone before g ≡ codes "\tTo do: " ++ step_of g ++ codes "\n"
 step_new alone before g e = rw e refl
 
 -- the first of a list that is of a group, from here on

@@ -4,10 +4,10 @@ use Rattle.std.proofs.lemmas.{Bool.Decides.{nat_tests}, List.{length-take}}
 use Rattle.std.proofs.lemmas.List.Elements.{All-append, All-cons, All-drop, All-filter, All-head, All-nil, All-tail, All-take, filter-append}
 use Rattle.std.specs.{Prelude.{IfSome, Option, Some, None, ◌&&◌, nat_lt, not}, List.{filter, list_any}}
 use Rattle.ocfl_tree.specs.{Name.{IsName, IsPlace}, Path.{slashed}, Place.{Text, Place}}
-use Rattle.ocfl_report.specs.{Text.{code_text, escape, place_text}, declared.code.Code.{Code}}
-use Rattle.ocfl_report.specs.declared.code.Code.TheVariants.{Clean, E001, E003, E007, E015, E017, E018, E023, E024, E025, E033, E036, E041, E058, E060, E061, E063, E069, E072, E073, E076, E080, E092, E093, E096, E097, E099, E100, E101, S01, S02, S03, S04, S05, S06, S07, S08}
+use Rattle.ocfl_report.specs.{Line.{Line}, Text.{code_text, escape, place_text}, declared.code.Code.{Code}}
+use Rattle.ocfl_report.specs.declared.code.Code.TheVariants.{Clean, E001, E003, E007, E015, E017, E018, E023, E024, E025, E033, E036, E041, E058, E060, E061, E063, E064, E069, E072, E073, E076, E080, E092, E093, E096, E097, E099, E100, E101, S01, S02, S03, S04, S05, S06, S07, S08, S09}
 use Rattle.ocfl_report.proofs.{Bytes.{utf8_bytes}, CodeTexts.{code_text_printable}, Escapes.{escape_printable}, LineTexts.{no_line_feed}, Numbers.{decimal_no_line_feed}, PlaceTexts.{place_text_printable}, ReadPaths.{path_utf8}}
-use Rattle.ocfl_codes.specs.Meaning.{meaning_of}
+use Rattle.ocfl_codes.specs.{Inventories.{is_version_inventory}, Meaning.{meaning_at, meaning_of, version_meaning_of}}
 use Rattle.ocfl_messages.specs.{Command.{is_plain, over_text, path_text}, Finding.{Finding, IsPlaced}, Quoted.{has_control, quoted, quoted_byte}}
 use Rattle.ocfl_messages.specs.Grouped.{Sorted, below_text, brief_body, brief_finding, brief_head, brief_respelt, brief_text, count_with, first_with, fit_text, group_text, groups_text, inner_text, is_alone, is_beside, is_with, kept_of, lead_with, leads_after, leads_of, led_by, line_count, one_if, others_text, picked, respelt_of, respelt_words, shown_group, shown_leads, sorted}
 use Rattle.ocfl_codes.specs.declared.weight.Weight.{Weight}
@@ -62,6 +62,7 @@ meaning_flat E058 = refl
 meaning_flat E060 = refl
 meaning_flat E061 = refl
 meaning_flat E063 = refl
+meaning_flat E064 = refl
 meaning_flat E069 = refl
 meaning_flat E072 = refl
 meaning_flat E073 = refl
@@ -82,14 +83,27 @@ meaning_flat S05 = refl
 meaning_flat S06 = refl
 meaning_flat S07 = refl
 meaning_flat S08 = refl
+meaning_flat S09 = refl
 
-words_flat : (c : Code) (detail : Text) → line_count (words_text c detail) ≡ 0
-words_flat c detail = elim (has_digests c && is_missing (at_space detail)) as (λ b. line_count (cond b (codes "missing") (meaning_of c)) ≡ 0) [ true ↦ refl | false ↦ meaning_flat c ]
+version_flat : (c : Code) → line_count (version_meaning_of c) ≡ 0
+version_flat E058 = refl
+version_flat E060 = refl
+version_flat E061 = refl
+version_flat c = meaning_flat c
 
-pub coded_flat : (c : Code) (detail : Text) → line_count (coded_text c detail) ≡ 0
-coded_flat c detail =
-    both ((words_text c detail ++ codes " (") ++ code_text c) (codes ")") ∙ ap (λ n. n + 0) (both (words_text c detail ++ codes " (") (code_text c))
-    ∙ omega (arith, both (words_text c detail) (codes " ("), words_flat c detail, code_flat c)
+meaning_there_flat : (c : Code) (p : Place) → line_count (meaning_at c p) ≡ 0
+meaning_there_flat c p = elim (is_version_inventory p) as (λ b. line_count (cond b (version_meaning_of c) (meaning_of c)) ≡ 0) [ true ↦ version_flat c | false ↦ meaning_flat c ]
+
+words_flat : (l : Line) → line_count (words_text l) ≡ 0
+words_flat l = elim (has_digests l.code && is_missing (at_space l.detail)) as (λ b. line_count (cond b (codes "missing") (meaning_at l.code l.place)) ≡ 0) [
+  | true ↦ refl
+  | false ↦ meaning_there_flat l.code l.place
+]
+
+pub coded_flat : (l : Line) → line_count (coded_text l) ≡ 0
+coded_flat l =
+    both ((words_text l ++ codes " (") ++ code_text l.code) (codes ")") ∙ ap (λ n. n + 0) (both (words_text l ++ codes " (") (code_text l.code))
+    ∙ omega (arith, both (words_text l) (codes " ("), words_flat l, code_flat l.code)
 
 pub part_flat : (t : Text) → line_count t ≡ 0 → line_count (path_part t) ≡ 0
 part_flat [] e = refl
@@ -129,9 +143,9 @@ fewer f fs = shorter (is_with f) fs
 finding_flat : (n : ℕ) (f : Finding) → n < 2 ^ 64 → IsPlaced f → line_count (brief_finding n f) ≡ 0
 finding_flat n f l h =
     let P = path_part (below_text f.object f.line.place) in
-    let C = coded_text f.line.code f.line.detail in
+    let C = coded_text f.line in
     both (P ++ C) (others_text (n - 1))
-    ∙ omega (arith, both P C, part_flat (below_text f.object f.line.place) (below_flat f.object f.line.place h.place), coded_flat f.line.code f.line.detail, others_flat (n - 1) (omega (arith, l)))
+    ∙ omega (arith, both P C, part_flat (below_text f.object f.line.place) (below_flat f.object f.line.place h.place), coded_flat f.line, others_flat (n - 1) (omega (arith, l)))
 
 respelt_flat : (n : ℕ) (f : Finding) → n < 2 ^ 64 → IsPlaced f → line_count (brief_respelt n f) ≡ 0
 respelt_flat n f l h =

@@ -4,7 +4,7 @@ use Rattle.std.proofs.{lemmas.Bool.{false≢true}, lemmas.List.{append-nil}, lem
 use Rattle.std.specs.Prelude.{◌&&◌, not}
 use Rattle.ocfl_tree.specs.Place.{Place as Spot, Text}
 use Rattle.ocfl_report.specs.Line.{Line, is_finding_code}
-use Rattle.ocfl_codes.specs.Kinds.{is_dash, is_empty, is_file, is_head, kind_of, tells_file, tells_object}
+use Rattle.ocfl_codes.specs.Kinds.{is_dash, is_empty, is_file, is_head, kind_at, tells_file, tells_object}
 use Rattle.ocfl_codes.specs.declared.kind.Kind.{Kind}
 use Rattle.ocfl_codes.specs.declared.kind.Kind.TheVariants.{Object, File, Place as PlaceKind, ObjectOrFile}
 use Rattle.ocfl_messages.specs.Finding.{Section, ended_after, ended_with, head_after, head_with, is_other, section_after, section_at, section_with}
@@ -45,7 +45,7 @@ left_true false b e = e
 no_other : (head : Option Spot) (l : Line) → is_right l ≡ true → is_other head l ≡ false
 no_other head l e =
     let file = left_true (tells_file l) (not (is_finding_code l.code)) e in
-    by (not (is_empty l.place)) (is_head (kind_of l.code) l.detail) (no_head (kind_of l.code) l.detail file)
+    by (not (is_empty l.place)) (is_head (kind_at l.code l.place) l.detail) (no_head (kind_at l.code l.place) l.detail file)
   where
     by : (a b : Bool) → b ≡ false → ((a && b) && not (is_last head l.place)) ≡ false
     by true b f = rw f refl

@@ -1,5 +1,5 @@
 -- What is said of a cycle that was closed.
-use Rattle.std.specs.Prelude.{ℕ, ◌+◌, ◌-◌, ◌^◌, ◌<◌, ◌≤◌, ◌==◌, nat_lt, min, All, IfSome, List, [], ◌∷◌, ◌++◌, Bool, Option, Some, None, length, map, take, flat_map, codes, decimal, if◌then◌else◌}
+use Rattle.std.specs.Prelude.{ℕ, ◌+◌, ◌-◌, ◌^◌, ◌<◌, ◌≤◌, ◌==◌, ◌&&◌, nat_lt, min, All, IfSome, List, [], ◌∷◌, ◌++◌, Bool, Option, Some, None, length, map, take, flat_map, codes, decimal, if◌then◌else◌}
 use Rattle.std.specs.Str.{IsUtf8}
 use Rattle.ocfl_tree.specs.{Name.{IsPlace}, Place.{Text, Place}}
 use Rattle.ocfl_report.specs.{Line.{Line, line_of}, Text.{IsLine, escape}}
@@ -8,7 +8,7 @@ use Rattle.ocfl_messages.specs.{Many.{are_text, many_text, size_text}, Night.{mo
 use Rattle.ocfl_messages.specs.declared.tally.Counts.{Counts}
 use Rattle.ocfl_messages.specs.declared.closing.GoneKind.{GoneKind}
 use Rattle.ocfl_messages.specs.declared.closing.GoneKind.TheVariants.{Object, Undeclared, File, Expected}
-use Rattle.ocfl_messages.specs.{declared.closing.Gone.{Gone}, declared.closing.Closing.{Closing}, declared.joined.Joined.{Joined}}
+use Rattle.ocfl_messages.specs.{declared.closing.Gone.{Gone}, declared.closing.Moved.{Moved}, declared.closing.Closing.{Closing}, declared.joined.Joined.{Joined}}
 
 abbrev pub not_whole_text : ℕ → Text → Text
 not_whole_text cycle report = codes "Cycle " ++ decimal cycle ++ codes " ended, but its report is incomplete: " ++ escape report ++ codes "\n"
@@ -80,7 +80,7 @@ uncompared_text (b ∷ why) = not_known_text (b ∷ why)
 
 -- ---- in how many lines
 
--- how many lines all of it has at most
+-- how many lines all of it has at most, without the line on root inventories
 abbrev pub most_closing_lines : ℕ
 most_closing_lines = 13
 
@@ -203,12 +203,26 @@ some_unlooked_text count =
 abbrev pub unlooked_text : ℕ → Text
 unlooked_text count = if count == 0 then [] else some_unlooked_text count
 
--- the commands that show what changed between the reports, and what is gone
+-- the commands that show what changed between the reports, and what is gone, with the objects whose root
+-- inventories are others
 abbrev pub changed_command : Closing → Text
 changed_command c = over_text (codes "ocfl-scrub-reports changed") c.earlier.now
 
 abbrev pub list_command : Text
 list_command = codes "cat"
+
+-- no root inventory is another one
+abbrev pub is_unmoved : Moved → Bool
+is_unmoved m = (m.rewritten == 0) && (m.went_back == 0) && (m.newer == 0)
+
+abbrev pub some_moved_text : Moved → Text → Text
+some_moved_text m list =
+    codes "Root inventories: " ++ decimal m.rewritten ++ codes " changed without a new version, " ++ decimal m.went_back ++ codes " went back, " ++ decimal m.newer
+    ++ codes " of a new version: " ++ over_text list_command list ++ codes "\n"
+
+-- how many root inventories are others, and the command that lists their objects
+abbrev pub moved_text : Moved → Text → Text
+moved_text m list = if is_unmoved m then [] else some_moved_text m list
 
 -- of a cycle whose new findings that were not said are these
 abbrev pub new_text : Closing → List Finding → Text
@@ -229,7 +243,8 @@ gone_text c = section_text c.gone_count (gone_head c.gone_count c.cycle) (gone_l
 
 -- lost objects come first
 abbrev pub closing_text : Closing → List Finding → Text
-closing_text c fs = ended_text c ++ uncompared_text c.uncompared.now ++ gone_text c ++ unlooked_text c.unlooked ++ new_text c fs ++ repaired_text c
+closing_text c fs = ended_text c ++ uncompared_text c.uncompared.now ++ gone_text c ++ unlooked_text c.unlooked ++ moved_text c.moved c.list.now
+    ++ new_text c fs ++ repaired_text c
     ++ back_text c
 
 -- ---- what closings that are made have
@@ -257,6 +272,9 @@ pub record IsMade (c : Closing) : Type 0 where
   pub appeared : IsU64 c.appeared_count
   pub said : IsU64 c.said
   pub unlooked : IsU64 c.unlooked
+  pub rewritten : IsU64 c.moved.rewritten
+  pub went_back : IsU64 c.moved.went_back
+  pub newer : IsU64 c.moved.newer
   pub gone_count : IsU64 c.gone_count
   pub gone : All (λ g. IsPlace g.place) c.gone.now
   pub all_gone : length c.gone.now ≤ c.gone_count

@@ -3,9 +3,9 @@ use Rattle.std.specs.Prelude.{ℕ, ◌-◌, ◌==◌, ◌&&◌, nat_lt, nat_le, 
 use Rattle.std.specs.List.{filter, list_any}
 use Rattle.unicode_normalization.specs.Forms.{nfc}
 use Rattle.ocfl_tree.specs.{Path.{slashed}, Place.{Text, Place, place_eq, text_eq}}
-use Rattle.ocfl_report.specs.{Text.{code_text}, declared.code.Code.{Code}}
+use Rattle.ocfl_report.specs.{Line.{Line}, Text.{code_text}, declared.code.Code.{Code}}
 use Rattle.ocfl_report.specs.declared.code.Code.TheVariants.{E023, E092, E093}
-use Rattle.ocfl_codes.specs.Meaning.{first_step_of, meaning_of}
+use Rattle.ocfl_codes.specs.Meaning.{first_step_at, meaning_at}
 use Rattle.ocfl_messages.specs.{Command.{again_text, path_text}, Finding.{Finding, finding_of}, Known.{code_eq}, Many.{many_text}}
 use Rattle.ocfl_messages.specs.{Wording.{at_space, coded_text, is_missing, path_part, said_text}, declared.grouped.Sorted.{Sorted as MadeSorted}}
 use Rattle.ocfl_messages.specs.declared.finding.FileCounts.{FileCounts}
@@ -51,9 +51,9 @@ below_text (Some o) p = inner_text (drop (length o) p)
 abbrev pub finding_text : Finding → Text
 finding_text f = said_text (below_text f.object f.line.place) f.line
 
--- so many more of a code
-abbrev pub folded_text : ℕ → Code → Text
-folded_text n c = codes "\tand " ++ decimal n ++ codes " more: " ++ meaning_of c ++ codes " (" ++ code_text c ++ codes ")\n"
+-- so many more of the code of a line
+abbrev pub folded_text : ℕ → Line → Text
+folded_text n l = codes "\tand " ++ decimal n ++ codes " more: " ++ meaning_at l.code l.place ++ codes " (" ++ code_text l.code ++ codes ")\n"
 
 -- each of a list in turn, with those before it
 abbrev pub each_text : (List Finding → Finding → Text) → List Finding → List Finding → Text
@@ -63,7 +63,7 @@ each_text one seen (f ∷ fs) = one seen f ++ each_text one (seen ++ f ∷ []) f
 -- one of a list, before which n alike stand: the first are shown, and then the number of the rest
 abbrev pub shown_text : ℕ → List Finding → Finding → Text
 shown_text n fs f =
-    if nat_lt n most_alike then finding_text f else if n == most_alike then folded_text (count_like f fs - most_alike) f.line.code else []
+    if nat_lt n most_alike then finding_text f else if n == most_alike then folded_text (count_like f fs - most_alike) f.line else []
 
 -- unless it is not of the group of another finding
 abbrev pub member_text : Finding → List Finding → List Finding → Finding → Text
@@ -191,9 +191,13 @@ respelt_member_text first fs seen f = if is_with first f then some_respelt_text 
 
 -- ---- groups
 
--- the codes say the same of what to do first
+-- what to do first about a finding
+abbrev pub step_of : Finding → Text
+step_of f = first_step_at f.line.code f.line.place
+
+-- it is the same for both
 abbrev pub is_same_step : Finding → Finding → Bool
-is_same_step f g = text_eq (first_step_of f.line.code) (first_step_of g.line.code)
+is_same_step f g = text_eq (step_of f) (step_of g)
 
 -- the first finding of a group that is in no pair, if there is one, says the same of it as another
 abbrev pub is_same_step_as : Finding → Option Finding → Bool
@@ -206,7 +210,7 @@ says_step alone g f = is_same_step_as g (first_with f alone)
 
 -- what to do first about a finding, unless one of the groups of these has said so
 abbrev pub one_step_text : List Finding → List Finding → Finding → Text
-one_step_text alone before g = if list_any (says_step alone g) before then [] else codes "\tTo do: " ++ first_step_of g.line.code ++ codes "\n"
+one_step_text alone before g = if list_any (says_step alone g) before then [] else codes "\tTo do: " ++ step_of g ++ codes "\n"
 
 -- about the first finding of a group that is in no pair
 abbrev pub step_text : List Finding → List Finding → Option Finding → Text
@@ -229,7 +233,7 @@ brief_head None = codes "Elsewhere: "
 
 -- a finding of n of a group
 abbrev pub brief_finding : ℕ → Finding → Text
-brief_finding n g = path_part (below_text g.object g.line.place) ++ coded_text g.line.code g.line.detail ++ others_text (n - 1)
+brief_finding n g = path_part (below_text g.object g.line.place) ++ coded_text g.line ++ others_text (n - 1)
 
 -- a file under another spelling, which is two of n
 abbrev pub brief_respelt : ℕ → Finding → Text

@@ -1,10 +1,11 @@
 -- Why a night did nothing, in words.
 use Rattle.std.specs.Prelude.{ℕ, ◌++◌, codes, decimal}
 use Rattle.ocfl_tree.specs.Place.{Text}
-use Rattle.ocfl_report.specs.Text.{escape}
+use Rattle.ocfl_report.specs.{Text.{escape}, declared.further.Further.{Further}}
+use Rattle.ocfl_report.specs.declared.further.Further.TheVariants as further
 use Rattle.ocfl_messages.specs.Quoted.{quoted}
 use Rattle.ocfl_messages.specs.declared.refusal.RefusalMessage.{RefusalMessage}
-use Rattle.ocfl_messages.specs.declared.refusal.RefusalMessage.TheVariants.{NoCheckpoint, HasReports, NotCheckpoint, Version, Damaged, Malformed, OfScripts, NoRoot, OtherRoot, OtherDeclaration, OtherPart, NamesGone, Older, RootChanged, Worn}
+use Rattle.ocfl_messages.specs.declared.refusal.RefusalMessage.TheVariants.{NoCheckpoint, HasReports, NotCheckpoint, Version, Damaged, Malformed, OfScripts, NoRoot, OtherRoot, OtherDeclaration, OtherPart, OtherAudit, NamesGone, Older, RootChanged, Worn}
 
 -- longer ones
 abbrev pub other_root_text : Text → Text → Text → Text
@@ -15,6 +16,11 @@ other_declaration_text root state = escape state ++ codes ": the declaration of 
 
 abbrev pub other_part_text : Text → Text → Text
 other_part_text root state = escape state ++ codes " belongs to another part of " ++ escape root ++ codes ", or to all of it. Other parts need new state folders."
+
+-- by what they check beside what every audit checks
+abbrev pub other_audit_text : Further → Text
+other_audit_text further.Nothing = codes ": the folder's nights are of an audit without --inventories."
+other_audit_text further.Inventories = codes ": the folder's nights are of an audit with --inventories."
 
 abbrev pub names_gone_text : ℕ → ℕ → Text → Text
 names_gone_text gone before root = decimal gone ++ codes " of the " ++ decimal before ++ codes " names in " ++ escape root ++ codes " are gone: is its file system mounted? --force-root runs it anyway."
@@ -39,6 +45,7 @@ reason_text NoRoot root state = escape root ++ codes " does not declare itself a
 reason_text (OtherRoot bound) root state = other_root_text bound.now root state
 reason_text OtherDeclaration root state = other_declaration_text root state
 reason_text OtherPart root state = other_part_text root state
+reason_text (OtherAudit checked) root state = escape state ++ other_audit_text checked
 reason_text (NamesGone gone before) root state = names_gone_text gone before root
 reason_text (Older cycle) root state = older_text cycle state
 reason_text RootChanged root state = root_changed_text root

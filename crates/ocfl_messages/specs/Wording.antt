@@ -3,7 +3,7 @@ use Rattle.std.specs.Prelude.{ℕ, ◌==◌, ◌&&◌, nat_le, [], ◌∷◌, �
 use Rattle.ocfl_tree.specs.Place.{Text, text_eq}
 use Rattle.ocfl_report.specs.{Line.{Line}, Text.{code_text, escape}, declared.code.Code.{Code}}
 use Rattle.ocfl_report.specs.declared.code.Code.TheVariants.{E060, E092, E093}
-use Rattle.ocfl_codes.specs.{Kinds.{is_dash}, Meaning.{meaning_of}}
+use Rattle.ocfl_codes.specs.{Kinds.{is_dash}, Meaning.{meaning_at}}
 
 -- what comes before the first space, and what follows it
 abbrev pub at_space : Text → Option (Text × Text)
@@ -50,8 +50,8 @@ abbrev pub is_missing : Option (Text × Text) → Bool
 is_missing None = false
 is_missing (Some p) = text_eq p.1 (codes "missing")
 
-abbrev pub words_text : Code → Text → Text
-words_text c detail = if has_digests c && is_missing (at_space detail) then codes "missing" else meaning_of c
+abbrev pub words_text : Line → Text
+words_text l = if has_digests l.code && is_missing (at_space l.detail) then codes "missing" else meaning_at l.code l.place
 
 -- a path, unless it is empty, and what separates it from what is said of it
 abbrev pub path_part : Text → Text
@@ -59,9 +59,9 @@ path_part [] = []
 path_part (b ∷ t) = (b ∷ t) ++ codes ": "
 
 -- the words and the code
-abbrev pub coded_text : Code → Text → Text
-coded_text c detail = words_text c detail ++ codes " (" ++ code_text c ++ codes ")"
+abbrev pub coded_text : Line → Text
+coded_text l = words_text l ++ codes " (" ++ code_text l.code ++ codes ")"
 
 -- a finding at this path
 abbrev pub said_text : Text → Line → Text
-said_text path l = codes "\t" ++ path_part path ++ coded_text l.code l.detail ++ detail_text l.code l.detail ++ codes "\n"
+said_text path l = codes "\t" ++ path_part path ++ coded_text l ++ detail_text l.code l.detail ++ codes "\n"

@@ -3,7 +3,7 @@
 ghost use Rattle.std.specs.Prelude.{◌≡◌, ◌≢◌, ◌-◌, ◌++◌, ◌^◌, ◌<◌, List, [], Some, codes, decimal, length, map, take, IfOk, OnOk, string_bytes};
 ghost use Rattle.ocfl_report.specs.Line.{line_of};
 ghost use Rattle.ocfl_messages.specs.{Finding.{Finding as ModelFinding, finding_of}, Gravest.{IsOf, by_weight}};
-ghost use Rattle.ocfl_messages.specs.Closing.{closing_text as text_of_closing, above_text, alone_text, back_head, back_line, back_lines, back_text, changed_text, counted_text, counts_text, ended_text, gone_lines, gone_line, not_shown, new_head, repaired_head, gone_head, gone_text, kind_text, lead_of, new_text, repaired_line, repaired_lines, repaired_text, not_known_text, not_whole_text, run_count_text, since_text, some_above_text, some_gone_text, some_new_text, some_run_count_text, some_unlooked_text, summary_text, uncompared_text, unlooked_text, unsaid_text};
+ghost use Rattle.ocfl_messages.specs.Closing.{closing_text as text_of_closing, above_text, alone_text, back_head, back_line, back_lines, back_text, changed_text, counted_text, counts_text, ended_text, gone_lines, gone_line, not_shown, new_head, repaired_head, gone_head, gone_text, is_unmoved as is_unmoved_by, kind_text, lead_of, moved_text, new_text, repaired_line, repaired_lines, repaired_text, not_known_text, not_whole_text, run_count_text, since_text, some_above_text, some_gone_text, some_moved_text, some_new_text, some_run_count_text, some_unlooked_text, summary_text, uncompared_text, unlooked_text, unsaid_text};
 ghost use Rattle.ocfl_messages.specs.Closing.{back_room as room_of_back, behind_gone as left_behind_gone, behind_new as left_behind_new, changed_command as command_of_changes, gone_room as room_of_gone, list_command as command_of_list, most_of, new_lines as lines_of_new, new_room as room_of_new, repaired_room as room_of_repaired, room_of_sections as all_room, section_lines as lines_of_section, two_unless as two_lines_unless};
 ghost use Rattle.ocfl_messages.specs.Night.{more_text};
 
@@ -46,6 +46,17 @@ pub struct Gone {
     pub kind: GoneKind,
     /// Its place.
     pub place: Place,
+}
+
+/// How many objects have another root inventory than before.
+#[derive(Clone, Copy, Debug, PartialEq, Eq)]
+pub struct Moved {
+    /// Of the same version.
+    pub rewritten: u64,
+    /// Of an older version.
+    pub went_back: u64,
+    /// Of a newer version.
+    pub newer: u64,
 }
 
 /// What a closed cycle found. Each slice has the first of what it is of, [`SHOWN`] or more if there
@@ -95,6 +106,8 @@ pub struct Closing<'a> {
     pub gone_count: u64,
     /// How many files are not looked at any more: their object is gone, or its head stops now.
     pub unlooked: u64,
+    /// How many objects have another root inventory than the last whole report notes.
+    pub moved: Moved,
 }
 
 fn not_whole(alloc: Global, cycle: u64, report: &str) -> Result<String, AllocError>
@@ -724,6 +737,34 @@ fn some_unlooked(alloc: Global, count: u64) -> Result<String, AllocError>
     )
 }
 
+/// Whether no root inventory is another one.
+fn is_unmoved(moved: Moved) -> bool
+    ensures { result ≡ is_unmoved_by moved }
+{
+    moved.rewritten == 0 && moved.went_back == 0 && moved.newer == 0
+}
+
+/// How many root inventories are others; nothing of none.
+fn root_inventories(alloc: Global, moved: Moved, list: &str) -> Result<String, AllocError>
+    ensures { IfOk result (λ text. string_bytes text ≡ moved_text moved list.now) }
+{
+    if is_unmoved(moved) {
+        return Ok(String::new(alloc));
+    }
+    some_root_inventories(alloc, moved, list)
+}
+
+fn some_root_inventories(alloc: Global, moved: Moved, list: &str) -> Result<String, AllocError>
+    ensures { IfOk result (λ text. string_bytes text ≡ some_moved_text moved list.now) }
+{
+    let (rewritten, went_back, newer) = (moved.rewritten, moved.went_back, moved.newer);
+    let listed = over(alloc, list_command(), list)?;
+    format!(in alloc;
+        "Root inventories: {rewritten} changed without a new version, {went_back} went back, \
+         {newer} of a new version: {listed}\n"
+    )
+}
+
 /// Appends what changed: what is new, repaired and back.
 fn put_changes(alloc: Global, closing: &Closing<'_>, text: &mut Vec<u8>) -> Result<(), AllocError>
     ensures { OnOk result ((fs : List ModelFinding) → IsOf closing.now.appeared.now fs
@@ -735,14 +776,15 @@ fn put_changes(alloc: Global, closing: &Closing<'_>, text: &mut Vec<u8>) -> Resu
     put_all_back(alloc, closing, text)
 }
 
-/// What is said of a closed cycle, in at most 13 lines, in this order:
+/// What is said of a closed cycle, in at most 13 lines, and one more if a root inventory is another
+/// one, in this order:
 ///
 /// - if what the report counts is known, the word at its end: how many files are right of how many,
 ///   how many objects and bytes, and, if that is known, in how many runs; then how much is new and
 ///   gone since the cycle that it was compared with, or that its report is incomplete;
 /// - if nothing was compared, that, and why;
-/// - what is gone, how many files are not looked at any more, and what is new, repaired and back.
-///   Of each of these there is a line with their number, and the first of them while there is room,
+/// - what is gone, how many files are not looked at any more, how many root inventories are others,
+///   if any is, and what is new, repaired and back. Of each section there is a line with their number, and the first of them while there is room,
 ///   what comes first in that order before the rest; then how many more there are, and the command
 ///   that lists them.
 ///
@@ -769,6 +811,7 @@ fn put_closing(alloc: Global, closing: &Closing<'_>, text: &mut Vec<u8>) -> Resu
     put_made(uncompared(alloc, closing.uncompared), text)?;
     put_gone_section(alloc, closing, text)?;
     put_made(unlooked(alloc, closing.unlooked), text)?;
+    put_made(root_inventories(alloc, closing.moved, closing.list), text)?;
     put_changes(alloc, closing, text)
 }
 

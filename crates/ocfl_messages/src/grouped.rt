@@ -1,11 +1,10 @@
 //! Findings by the objects that they are in.
 ghost use Rattle.std.specs.Prelude.{◌≡◌, ◌-◌, ◌++◌, ◌∷◌, [], Some, None, IfOk, OnOk, codes, decimal, map, option_map, string_bytes};
 ghost use Rattle.std.specs.List.{list_any};
-ghost use Rattle.ocfl_codes.specs.Meaning.{first_step_of};
-ghost use Rattle.ocfl_report.specs.Text.{code_text};
+ghost use Rattle.ocfl_report.specs.{Line.{line_of}, Text.{code_text}};
 ghost use Rattle.ocfl_messages.specs.Command.{path_text};
 ghost use Rattle.ocfl_messages.specs.Finding.{finding_of};
-ghost use Rattle.ocfl_messages.specs.Grouped.{below_text, brief_body, brief_finding, brief_head, brief_respelt, brief_text, count_like as count_alike, count_with as count_of_one, each_text, extent_text, files_text, finding_text, first_with as first_of_one, fit_text, folded_text, group_text, group_head, inner_text, is_like as are_alike, is_same as are_same, is_same_step as are_same_step, is_with as are_of_one, lead_with, leads_of as first_ones, led_by, line_count, member_text, more_respelt_text, one_step_text, others_text, respelt_member_text, respelt_said, respelt_text, respelt_words, says_step as group_says_step, shown_group as text_of_group, shown_leads as ones_shown, shown_text, some_files_text, some_respelt_text, sorted as sorted_findings, sorted_of, step_text};
+ghost use Rattle.ocfl_messages.specs.Grouped.{below_text, brief_body, brief_finding, brief_head, brief_respelt, brief_text, count_like as count_alike, count_with as count_of_one, each_text, extent_text, files_text, finding_text, first_with as first_of_one, fit_text, folded_text, group_text, group_head, inner_text, is_like as are_alike, is_same as are_same, is_same_step as are_same_step, is_with as are_of_one, lead_with, leads_of as first_ones, led_by, line_count, member_text, more_respelt_text, one_step_text, others_text, respelt_member_text, respelt_said, respelt_text, respelt_words, says_step as group_says_step, shown_group as text_of_group, shown_leads as ones_shown, shown_text, some_files_text, some_respelt_text, step_of, sorted as sorted_findings, sorted_of, step_text};
 
 use crate::appending::put_made;
 use crate::command::{again, path_of};
@@ -14,8 +13,8 @@ use crate::known::{is_code, is_place};
 use crate::many::many;
 use crate::respelt::{find_alone, find_kept, find_respelt};
 use crate::wording::{put_path_part, put_said, put_words};
-use ocfl_codes::{first_step, meaning};
-use ocfl_report::Code;
+use ocfl_codes::{first_step_at, meaning_at};
+use ocfl_report::{Code, Line};
 use ocfl_tree::{Place, is_text};
 use std::alloc::{AllocError, Global};
 
@@ -93,11 +92,11 @@ fn put_finding(alloc: Global, finding: &Finding, text: &mut Vec<u8>) -> Result<(
     put_said(alloc, path.as_str(), &finding.line, text)
 }
 
-/// How many more there are of a code.
-fn folded(alloc: Global, count: usize, code: Code) -> Result<String, AllocError>
-    ensures { IfOk result (λ text. string_bytes text ≡ folded_text count code) }
+/// How many more there are of the code of a line.
+fn folded(alloc: Global, count: usize, line: &Line) -> Result<String, AllocError>
+    ensures { IfOk result (λ text. string_bytes text ≡ folded_text count (line_of line.now)) }
 {
-    let (meaning, code) = (meaning(code), code.text());
+    let (meaning, code) = (meaning_at(line.code, &line.place), line.code.text());
     format!(in alloc; "\tand {count} more: {meaning} ({code})\n")
 }
 
@@ -117,7 +116,7 @@ fn put_shown(
     }
     if before == ALIKE {
         let count = count_like(finding, all).saturating_sub(ALIKE);
-        return put_made(folded(alloc, count, finding.line.code), text);
+        return put_made(folded(alloc, count, &finding.line), text);
     }
     Ok(())
 }
@@ -328,11 +327,18 @@ fn other_head(alloc: Global, code: Code) -> Result<String, AllocError>
     format!(in alloc; "Elsewhere, {code}:\n")
 }
 
-/// Whether the codes of two findings say the same of what to do first.
+/// What to do first about a finding.
+fn first_step_of(finding: &Finding) -> &'static str
+    ensures { result.now ≡ step_of (finding_of finding.now) }
+{
+    first_step_at(finding.line.code, &finding.line.place)
+}
+
+/// Whether the same is to be done first about two findings.
 fn is_same_step(one: &Finding, other: &Finding) -> bool
     ensures { result ≡ are_same_step (finding_of one.now) (finding_of other.now) }
 {
-    is_text(first_step(one.line.code), first_step(other.line.code))
+    is_text(first_step_of(one), first_step_of(other))
 }
 
 /// The first of some findings that is of the group of another one.
@@ -381,7 +387,7 @@ fn put_one_step(
     if any_step(alone, finding, before) {
         return Ok(());
     }
-    put_made(step(alloc, finding.line.code), text)
+    put_made(step(alloc, finding), text)
 }
 
 /// Appends what to do first about the first finding of a group that is in no pair.
@@ -401,12 +407,12 @@ fn put_step(
     }
 }
 
-/// What to do first about a finding of this code.
-fn step(alloc: Global, code: Code) -> Result<String, AllocError>
+/// The line of what to do first about a finding.
+fn step(alloc: Global, finding: &Finding) -> Result<String, AllocError>
     ensures { IfOk result (λ text. string_bytes text
-        ≡ codes "\tTo do: " ++ first_step_of code ++ codes "\n") }
+        ≡ codes "\tTo do: " ++ step_of (finding_of finding.now) ++ codes "\n") }
 {
-    let first = first_step(code);
+    let first = first_step_of(finding);
     format!(in alloc; "\tTo do: {first}\n")
 }
 
@@ -490,7 +496,7 @@ fn put_brief_finding(
 {
     let path = below(alloc, &finding.object, &finding.line.place)?;
     put_path_part(path.as_str(), text)?;
-    put_words(finding.line.code, finding.line.detail.as_str(), text)?;
+    put_words(&finding.line, text)?;
     put_made(others(alloc, count.saturating_sub(1)), text)
 }
 

@@ -1,5 +1,5 @@
 //! The laws of findings by weight and in groups, and of lists of known findings.
-ghost use Rattle.std.specs.{Prelude.{◌≡◌, ◌^◌, ◌<◌, ◌≤◌, ℕ, All, List, false, length}, Str.{IsUtf8}};
+ghost use Rattle.std.specs.{Prelude.{◌≡◌, ◌+◌, ◌^◌, ◌<◌, ◌≤◌, ℕ, All, List, false, length}, Str.{IsUtf8}};
 ghost use Rattle.ocfl_tree.specs.{Name.{IsPlace}, Place.{Text, Place as ModelPlace}};
 ghost use Rattle.ocfl_report.specs.Line.{Line as ModelLine};
 ghost use Rattle.std.specs.List.Sorted.{IsPermutation};
@@ -8,7 +8,8 @@ ghost use Rattle.ocfl_messages.specs.{Command.{path_text}, Quoted.{has_control, 
 ghost use Rattle.ocfl_messages.specs.Grouped.{groups_text, line_count};
 ghost use Rattle.ocfl_messages.specs.{Gravest.{findings, by_weight}, declared.night.Night.{Night}};
 ghost use Rattle.ocfl_messages.specs.{Night.{IsNamed, most_night_lines, night_text}, declared.closing.Closing.{Closing}};
-ghost use Rattle.ocfl_messages.specs.Closing.{IsMade, closing_text, most_closing_lines};
+ghost use Rattle.ocfl_messages.specs.Closing.{IsMade, closing_text, is_unmoved};
+ghost use Rattle.ocfl_messages.specs.Closing.{most_closing_lines, one_unless};
 ghost use Rattle.ocfl_messages.specs.declared.known.KnownEntry.{KnownEntry as ModelEntry};
 
 /// No finding is lost when they are ordered by weight.
@@ -50,9 +51,10 @@ pub fn messages_of_nights_are_short()
         → All IsPlaced fs → line_count (night_text n fs) ≤ most_night_lines }
 {}
 
-/// What is said of a closed cycle has at most 13 lines, if no list has more than is counted.
+/// What is said of a closed cycle has at most 13 lines, and one more if a root inventory is another
+/// one, if no list has more than is counted.
 #[tactic(auto, using(crate::proofs::ClosingLines::closing_is_short))]
 pub fn closings_are_short()
     ensures { (c : Closing) (fs : List ModelFinding) → IsMade c → All IsPlaced fs
-        → line_count (closing_text c fs) ≤ most_closing_lines }
+        → line_count (closing_text c fs) ≤ most_closing_lines + one_unless (is_unmoved c.moved) }
 {}

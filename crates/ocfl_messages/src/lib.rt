@@ -30,7 +30,7 @@ mod stop;
 mod tally;
 mod wording;
 
-pub use closing::{Closing, Gone, GoneKind, SHOWN, closing_text};
+pub use closing::{Closing, Gone, GoneKind, Moved, SHOWN, closing_text};
 pub use finding::{FileCounts, Finding, Heads};
 pub use found::Found;
 pub use gathering::Gathering;

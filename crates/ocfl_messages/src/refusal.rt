@@ -1,10 +1,11 @@
 //! Why a night did nothing: a sentence for each reason.
 ghost use Rattle.std.specs.Prelude.{◌≡◌, ◌++◌, [], IfOk, string_bytes};
 ghost use Rattle.ocfl_report.specs.Text.{escape};
-ghost use Rattle.ocfl_messages.specs.Refusal.{refusal_text as text_of_refusal, reason_text, ending_text, names_gone_text, older_text, other_declaration_text, other_part_text, other_root_text};
+ghost use Rattle.ocfl_messages.specs.Refusal.{refusal_text as text_of_refusal, reason_text, ending_text, names_gone_text, older_text, other_audit_text, other_declaration_text, other_part_text, other_root_text};
 
 use crate::quoted::Quoted;
 use crate::shown::Shown;
+use ocfl_report::Further;
 use std::alloc::{AllocError, Global};
 
 /// Why a night did nothing.
@@ -32,6 +33,9 @@ pub enum RefusalMessage<'a> {
     OtherDeclaration,
     /// The state folder belongs to another part, or to the whole.
     OtherPart,
+    /// Its nights check this beside what every audit checks, and this night does not, or the other
+    /// way round.
+    OtherAudit(Further),
     /// More than half of the names in the root's folder are gone.
     NamesGone {
         /// How many are gone.
@@ -91,6 +95,7 @@ fn reason(
         RefusalMessage::OtherRoot(bound) => other_root(alloc, bound, root, state),
         RefusalMessage::OtherDeclaration => other_declaration(alloc, root, state),
         RefusalMessage::OtherPart => other_part(alloc, root, state),
+        RefusalMessage::OtherAudit(further) => told_of(alloc, state, other_audit(further)),
         RefusalMessage::NamesGone { gone, before } => names_gone(alloc, gone, before, root),
         RefusalMessage::Older { cycle } => older(alloc, cycle, state),
         RefusalMessage::RootChanged => told_of(alloc, root, ROOT_CHANGED),
@@ -153,6 +158,16 @@ fn other_part(alloc: Global, root: Shown<'_>, state: Shown<'_>) -> Result<String
     )
 }
 
+/// Of a folder whose nights check this further.
+fn other_audit(further: Further) -> &'static str
+    ensures { result.now ≡ other_audit_text further }
+{
+    match further {
+        Further::Nothing => ": the folder's nights are of an audit without --inventories.",
+        Further::Inventories => ": the folder's nights are of an audit with --inventories.",
+    }
+}
+
 /// Of a root that lost most of its names.
 fn names_gone(alloc: Global, gone: u64, before: u64, root: Shown<'_>) -> Result<String, AllocError>
     ensures { IfOk result
@@ -193,6 +208,7 @@ fn ending(refusal: RefusalMessage<'_>) -> &'static str
         | RefusalMessage::OtherRoot(_)
         | RefusalMessage::OtherDeclaration
         | RefusalMessage::OtherPart
+        | RefusalMessage::OtherAudit(_)
         | RefusalMessage::NamesGone { .. }
         | RefusalMessage::Older { .. }
         | RefusalMessage::Worn => " Nothing was run.\n",

@@ -5,7 +5,7 @@ ghost use Rattle.ocfl_messages.specs.Wording.{at_space, both_text, coded_text, c
 
 use crate::appending::put_made;
 use crate::shown::{Shown, escaped};
-use ocfl_codes::meaning;
+use ocfl_codes::meaning_at;
 use ocfl_report::{Code, Line, split_once};
 use ocfl_tree::{is_bytes, is_text};
 use std::alloc::{AllocError, Global};
@@ -38,13 +38,13 @@ pub(crate) fn is_missing(parts: Option<(&[u8], &[u8])>) -> bool
 }
 
 /// What a finding means, in words.
-fn words(code: Code, detail: &str) -> &'static str
-    ensures { result.now ≡ words_text code detail.now }
+fn words(line: &Line) -> &'static str
+    ensures { result.now ≡ words_text (line_of line.now) }
 {
-    if has_digests(code) && is_missing(split(detail.as_bytes())) {
+    if has_digests(line.code) && is_missing(split(line.detail.as_bytes())) {
         return "missing";
     }
-    meaning(code)
+    meaning_at(line.code, &line.place)
 }
 
 /// The first digits of a digest.
@@ -151,12 +151,12 @@ pub(crate) fn put_path_part(path: &str, text: &mut Vec<u8>) -> Result<(), AllocE
 }
 
 /// Appends the words for a finding, and its code.
-pub(crate) fn put_words(code: Code, detail: &str, text: &mut Vec<u8>) -> Result<(), AllocError>
-    ensures { OnOk result (text.new.items ≡ text.old.items ++ coded_text code detail.now) }
+pub(crate) fn put_words(line: &Line, text: &mut Vec<u8>) -> Result<(), AllocError>
+    ensures { OnOk result (text.new.items ≡ text.old.items ++ coded_text (line_of line.now)) }
 {
-    text.extend_from_slice(words(code, detail).as_bytes())?;
+    text.extend_from_slice(words(line).as_bytes())?;
     text.extend_from_slice(b" (")?;
-    text.extend_from_slice(code.text().as_bytes())?;
+    text.extend_from_slice(line.code.text().as_bytes())?;
     text.extend_from_slice(b")")
 }
 
@@ -172,7 +172,7 @@ pub(crate) fn put_said(
 {
     text.extend_from_slice(b"\t")?;
     put_path_part(path, text)?;
-    put_words(line.code, line.detail.as_str(), text)?;
+    put_words(line, text)?;
     put_detail(alloc, line.code, line.detail.as_str(), text)?;
     text.extend_from_slice(b"\n")
 }

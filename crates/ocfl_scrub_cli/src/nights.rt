@@ -1,4 +1,6 @@
 //! A night over a storage root and its state folder.
+ghost use Rattle.std.specs.Prelude.{◌≡◌};
+
 mod clock;
 mod speaking;
 
@@ -53,13 +55,21 @@ impl Drop for Planned<'_> {
 
 impl<'a> Planned<'a> {
     /// Of what a night is made with, and may do.
-    fn of(found: Found<'a>, plan: Plan) -> Planned<'a> {
+    fn of(found: Found<'a>, plan: Plan) -> Planned<'a>
+        ensures site { result.site ≡ record {
+          path = found.entry.place;
+          ends = found.entry.ends;
+          further = found.entry.given.asked.now.further;
+        } }
+        ensures plan { result.plan ≡ plan }
+    {
         let Found { given, place, ends } = found;
-        Planned {
-            given,
-            site: Site { path: place, ends },
-            plan,
-        }
+        let site = Site {
+            path: place,
+            ends,
+            further: given.asked.further,
+        };
+        Planned { given, site, plan }
     }
 }
 

@@ -6,7 +6,7 @@ use Rattle.ocfl_tree.specs.Place.{Place as Spot, Text}
 use Rattle.ocfl_tree.proofs.Places.{place_eq-Decides}
 use Rattle.ocfl_report.specs.{Line.{Line, is_finding_code}, Text.{IsLine, lines_text}}
 use Rattle.ocfl_report.proofs.LineTexts.{lines_text_determines}
-use Rattle.ocfl_codes.specs.Kinds.{is_dash, is_empty, is_file, is_head, kind_of, tells_file, tells_object}
+use Rattle.ocfl_codes.specs.Kinds.{is_dash, is_empty, is_file, is_head, kind_at, tells_file, tells_object}
 use Rattle.ocfl_codes.specs.declared.kind.Kind.{Kind}
 use Rattle.ocfl_codes.specs.declared.kind.Kind.TheVariants.{Object, File, Place as PlaceKind, ObjectOrFile}
 use Rattle.ocfl_messages.specs.{Finding.{Section, first_section, head_after, head_with, section_after, section_at, section_with}, Found.{IsAfter}, Tally.{is_last, is_right}}
@@ -35,7 +35,7 @@ left_true false b e = e
 no_object : (l : Line) → is_right l ≡ true → tells_object l ≡ false
 no_object l e =
     let file = left_true (tells_file l) (not (is_finding_code l.code)) e in
-    by (not (is_empty l.place)) (is_head (kind_of l.code) l.detail) (no_head (kind_of l.code) l.detail file)
+    by (not (is_empty l.place)) (is_head (kind_at l.code l.place) l.detail) (no_head (kind_at l.code l.place) l.detail file)
   where
     by : (a b : Bool) → b ≡ false → (a && b) ≡ false
     by true b f = f

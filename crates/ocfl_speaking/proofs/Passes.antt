@@ -10,7 +10,7 @@ use Rattle.ocfl_report.specs.declared.code.Code.{Code}
 use Rattle.ocfl_report.specs.declared.code.Code.TheVariants.{Clean}
 use Rattle.ocfl_report.proofs.{CodeTexts.{code_text_injective, code_text_printable}, Escapes.{unescape}, LineTexts.{IsLine-from_text, no_tab}}
 use Rattle.ocfl_report.proofs.{PlaceTexts.{names_of, names_of-place_text, place_text_printable}, Separators.{first_parts}}
-use Rattle.ocfl_codes.specs.Kinds.{is_dash, is_file, kind_of}
+use Rattle.ocfl_codes.specs.Kinds.{is_dash, is_file, kind_at}
 use Rattle.ocfl_messages.specs.Tally.{is_right}
 use Rattle.ocfl_speaking.specs.Sifting.{IsRightIn, beginning, is_passed}
 
@@ -96,8 +96,8 @@ no_dash t l e n = by (is_dash l.detail) refl
 
 is_right_clean : (l : Line) → l.code ≡ Clean → is_dash l.detail ≡ false → is_right l ≡ true
 is_right_clean l e d =
-    let clean : (is_file (kind_of Clean) l.detail && not (is_finding_code Clean)) ≡ true = rw d refl in
-    subst (λ (c : Code). (is_file (kind_of c) l.detail && not (is_finding_code c)) ≡ true) (sym e) clean
+    let clean : (is_file (kind_at Clean l.place) l.detail && not (is_finding_code Clean)) ≡ true = rw d refl in
+    subst (λ (c : Code). (is_file (kind_at c l.place) l.detail && not (is_finding_code c)) ≡ true) (sym e) clean
 
 -- what is passed and is the text of a line is that of a right file in the object
 pub passed_right : (o : Place) (t : Text) (l : Line) → IsPlace o → o ≢ [] → is_passed (Some o) t ≡ true → IsLineText t l → IsRightIn (Some o) l

@@ -8,7 +8,7 @@ use Rattle.ocfl_tree.proofs.Places.{begins-itself}
 use Rattle.ocfl_report.specs.{Line.{Line}, Text.{IsLine, IsLineText, line_text, lines_text}}
 use Rattle.ocfl_report.specs.declared.code.Code.TheVariants.{Clean}
 use Rattle.ocfl_report.proofs.LineTexts.{IsLine-from_text, lines_text_determines}
-use Rattle.ocfl_codes.specs.Kinds.{is_empty, is_head, kind_of}
+use Rattle.ocfl_codes.specs.Kinds.{is_empty, is_head, kind_at}
 use Rattle.ocfl_messages.specs.{Finding.{head_after, head_with, is_within, placed_after}, Found.{AreAll, IsAfter}, Gathering.{AreRightIn}, Gravest.{IsOf}, Known.{unknown}, Tally.{IsCount, is_right}}
 use Rattle.ocfl_messages.specs.declared.{found.Found.{Found}, finding.Heads.{Heads}, gravest.Gravest.{Gravest}, known.KnownEntry.{KnownEntry}}
 use Rattle.ocfl_speaking.specs.Sifting.{AreTaken, Given, IsFor, IsFound, IsOne, IsRightIn, IsSeen, IsSifted, IsTaken, Taken, beginning, broken_end, broken_in, given_behind, given_on, is_passed, line_in, lines_in, texts_in}
@@ -173,7 +173,7 @@ some_place (n ∷ p) e f = cc
 
 -- the head of a line is seen, and is the last one
 seen_with : (seen head : Option Place) (l : Line) → IsPlace l.place → IsSeen seen head → IsSeen (head_with seen l) (head_with head l)
-seen_with seen head l h k = by (not (is_empty l.place)) (is_head (kind_of l.code) l.detail) refl
+seen_with seen head l h k = by (not (is_empty l.place)) (is_head (kind_at l.code l.place) l.detail) refl
   where
     by : (a b : Bool) → not (is_empty l.place) ≡ a → IsSeen (cond (a && b) (Some l.place) seen) (cond (a && b) (Some l.place) head)
     by true true e = (h, some_place l.place e, refl)

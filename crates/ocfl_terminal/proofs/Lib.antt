@@ -1,3 +1,4 @@
 mod Respelling
 mod Scopes
 mod Givens
+mod Foreign

@@ -1,4 +1,5 @@
 pub mod Paths
+pub mod Naming
 pub mod Whole
 pub mod Words
 pub mod Chosen

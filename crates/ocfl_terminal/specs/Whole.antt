@@ -30,8 +30,8 @@ IsChosenWhole here old new = ⊥
 
 -- the path that is checked is one in the storage root
 abbrev pub IsDeedWhole : Deed → Deed → Type 0
-IsDeedWhole (deed.Check path) (deed.Check new) = IsAsReports (string_bytes path) (string_bytes new)
-IsDeedWhole (deed.Check path) new = ⊥
+IsDeedWhole (deed.Check further path) (deed.Check same new) = (same ≡ further) × IsAsReports (string_bytes path) (string_bytes new)
+IsDeedWhole (deed.Check further path) new = ⊥
 IsDeedWhole old new = new ≡ old
 
 pub record IsTaskWhole (here : Text) (old new : Task) : Type 0 where
@@ -50,6 +50,7 @@ pub record IsNightWhole (here : Text) (old new : NightAsked) : Type 0 where
   pub state : string_bytes new.state ≡ whole_in here (string_bytes old.state)
   pub root : string_bytes new.root ≡ whole_in here (string_bytes old.root)
   pub chosen : IsChosenWhole here old.chosen new.chosen
+  pub further : new.further ≡ old.further
   pub known : option_map string_bytes new.known ≡ option_map (λ p. whole_in here (string_bytes p)) old.known
   pub expected : option_map string_bytes new.expected ≡ option_map (λ p. whole_in here (string_bytes p)) old.expected
   pub bounds : new.bounds ≡ old.bounds

@@ -9,6 +9,10 @@
 //! - `read_scope` answers all items, the branch of the path that is chosen, or a part, and refuses
 //!   nothing else. `find_ends` has the ends of that part alone.
 //! - `say_no_scope` gives the status of the reason.
+//! - `why_no_place` says why a path names no place, by the first of its names that is empty, `.` or
+//!   `..` (`no_place_text`).
+//! - Why a folder is not listed is said with a name only if one that is not UTF-8 was read there, and
+//!   that is shown in printable ASCII (`IsWhy`).
 #![tactic(auto)]
 
 pub mod cursors;

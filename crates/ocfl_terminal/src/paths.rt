@@ -1,11 +1,13 @@
 //! Paths of items as users write them: as reports do, or by the names themselves.
-ghost use Rattle.std.specs.Prelude.{◌≡◌, IfOk, MatchOption, OnOk, string_bytes};
-ghost use Rattle.ocfl_tree.specs.Path.{names_of};
+ghost use Rattle.std.specs.Prelude.{◌≡◌, IfOk, MatchOption, OnOk, find, option_map, string_bytes};
+ghost use Rattle.ocfl_tree.specs.Path.{elements, names_of};
+ghost use Rattle.ocfl_inventory.specs.ListedPath.{is_empty_or_dots};
 ghost use Rattle.ocfl_report.specs.Text.{place_text};
-ghost use Rattle.ocfl_terminal.specs.Paths.{IsAsReports, IsByNames, IsRespelt, Stays};
+ghost use Rattle.ocfl_terminal.specs.Paths.{IsAsReports, IsByNames, IsRespelt, Stays, begins_or_ends_with_slash};
+ghost use Rattle.ocfl_terminal.specs.Paths.{name_fault_text, no_place_text};
 
 use ocfl_report::{DisplayPlace, TextStop, read_place};
-use ocfl_tree::Place;
+use ocfl_tree::{Place, is_text};
 use std::alloc::{AllocError, Global};
 
 /// Makes a word the text of a path as reports write it. A word that reads so stays as it is; another
@@ -33,7 +35,7 @@ fn respell(alloc: Global, word: &str) -> Result<Option<String>, AllocError>
     }
 }
 
-/// The text of the place below the root with this path. `None` if there is none.
+/// The text of the place below the root with this path. `None` if no place there has it.
 fn text_by_names(alloc: Global, word: &str) -> Result<Option<String>, AllocError>
     ensures { IfOk result (λ o. MatchOption o (IsByNames word.now → ⊥)
         (λ text. IsByNames word.now × (string_bytes text ≡ place_text (names_of word.now)))) }
@@ -47,20 +49,47 @@ fn text_by_names(alloc: Global, word: &str) -> Result<Option<String>, AllocError
     Ok(Some(format!(in alloc; "{}", DisplayPlace(&place))?))
 }
 
+/// Whether a name is empty, `.` or `..`.
+fn is_empty_or_dots(name: &str) -> bool
+    ensures { result ≡ is_empty_or_dots name.now }
+{
+    is_text(name, "") || is_text(name, ".") || is_text(name, "..")
+}
+
+/// The first name of a path that is empty, `.` or `..`.
+fn find_fault(path: &str) -> Option<&str>
+    ensures { option_map (λ name. name.now) result ≡ find is_empty_or_dots (elements path.now) }
+{
+    path.split('/').find(|name| is_empty_or_dots(name))
+}
+
+/// Whether a path begins or ends with a slash.
+fn is_slashed(path: &str) -> bool
+    ensures { result ≡ begins_or_ends_with_slash path.now }
+{
+    path.starts_with('/') || path.ends_with('/')
+}
+
+/// Why a path names no place, by the first of its names that is empty, `.` or `..`.
+fn why_by_name(fault: Option<&str>) -> &'static str
+    ensures { result.now ≡ name_fault_text (option_map (λ name. name.now) fault.entry) }
+{
+    match fault {
+        Some("") => "the path has an empty name between two slashes",
+        Some(_) => "no name in the path may be '.' or '..'",
+        None => "the path has a name that no file can have",
+    }
+}
+
 /// Why a path names no place.
-pub fn why_no_place(path: &str) -> &'static str {
+pub fn why_no_place(path: &str) -> &'static str
+    ensures { result.now ≡ no_place_text path.now }
+{
     if path.is_empty() {
         return "the path is empty: the storage root itself is '.'";
     }
-    if path.starts_with('/') || path.ends_with('/') {
+    if is_slashed(path) {
         return "give the path below the storage root, without a slash at its beginning or end";
     }
-    for name in path.split('/') {
-        match name {
-            "" => return "the path has an empty name between two slashes",
-            "." | ".." => return "no name in the path may be '.' or '..'",
-            _ => {}
-        }
-    }
-    "the path has a name that no file can have"
+    why_by_name(find_fault(path))
 }

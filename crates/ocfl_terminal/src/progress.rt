@@ -310,15 +310,17 @@ impl<R, T> Watched<'_, R, T> {
         }
     }
 
-    /// Whether the file at a place is content: declarations, inventories and sidecars are in the
-    /// storage root itself or in an object's root directory, and content never is.
+    /// Whether the file at a place is hashed for itself: content, or the inventory of a version
+    /// directory. Declarations and the inventory of the object are in the storage root or in the
+    /// object's root directory, sidecars there and in version directories. Content is deeper.
     fn has_content_at(&self, place: &Place) -> bool {
-        let Some((directory, _)) = place.split_last() else {
+        let (Some(object), Some((_, name))) = (&self.object, place.split_last()) else {
             return false;
         };
-        match &self.object {
-            Some(object) => directory != object.path() && !directory.is_empty(),
-            None => false,
+        match place.depth().saturating_sub(object.depth()) {
+            0 | 1 => false,
+            2 => name == "inventory.json",
+            _ => true,
         }
     }
 }

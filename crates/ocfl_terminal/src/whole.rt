@@ -95,8 +95,8 @@ fn make_deed_whole(alloc: Global, deed: &mut Deed) -> Result<(), AllocError>
     ensures { OnOk result (IsDeedWhole deed.old deed.new) }
 {
     match deed {
-        Deed::Check(path) => write_as_reports(alloc, path),
-        Deed::Audit | Deed::Run(_) | Deed::Cycle(_, _) | Deed::Show => Ok(()),
+        Deed::Check(_, path) => write_as_reports(alloc, path),
+        Deed::Audit(_) | Deed::Run(_, _) | Deed::Cycle(_, _, _) | Deed::Show => Ok(()),
     }
 }
 

@@ -5,7 +5,7 @@ use Rattle.ocfl_tree.specs.Place.{Place}
 use Rattle.ocfl_report.specs.Line.{Line, is_finding_code, line_of}
 use Rattle.ocfl_report.specs.declared.{code.Code.{Code}, line.Line.{Line as MadeLine}}
 use Rattle.ocfl_compare.specs.{Changes.{change_at, lines_at}, declared.change.Change.{Change}}
-use Rattle.ocfl_compare.specs.declared.change.Change.TheVariants.{Gone, Undeclared, FileGone, Unlooked, Found, Repaired, Missing}
+use Rattle.ocfl_compare.specs.declared.change.Change.TheVariants.{Gone, Undeclared, FileGone, Unlooked, Found, Repaired, Missing, Rewritten, WentBack, NewVersion}
 use Rattle.ocfl_messages.specs.declared.known.KnownEntry.{KnownEntry}
 use Rattle.ocfl_words.specs.{Counted.{is_found}, Kept.{kept_with, with_finding}, Noted.{first_at, is_finding_at, is_known_in, is_named, line_in}}
 
@@ -78,3 +78,6 @@ known_by_line known before now p Undeclared o e = and_false (is_named known o)
 known_by_line known before now p FileGone o e = and_false (is_named known o)
 known_by_line known before now p Unlooked o e = and_false (is_named known o)
 known_by_line known before now p Missing o e = and_false (is_named known o)
+known_by_line known before now p Rewritten o e = and_false (is_named known o)
+known_by_line known before now p WentBack o e = and_false (is_named known o)
+known_by_line known before now p NewVersion o e = and_false (is_named known o)

@@ -4,7 +4,7 @@ use Rattle.std.specs.Option.{option_to_list}
 use Rattle.ocfl_tree.specs.Place.{Place}
 use Rattle.ocfl_report.specs.Line.{Line, line_of}
 use Rattle.ocfl_compare.specs.declared.change.Change.{Change}
-use Rattle.ocfl_compare.specs.declared.change.Change.TheVariants.{Gone, Undeclared, FileGone, Unlooked, Found, Repaired, Missing}
+use Rattle.ocfl_compare.specs.declared.change.Change.TheVariants.{Gone, Undeclared, FileGone, Unlooked, Found, Repaired, Missing, Rewritten, WentBack, NewVersion}
 use Rattle.ocfl_messages.specs.Tally.{IsCount}
 use Rattle.ocfl_messages.specs.declared.closing.{Gone.{Gone as GoneRow}, GoneKind.{GoneKind}}
 use Rattle.ocfl_messages.specs.declared.closing.GoneKind.TheVariants as kind
@@ -34,6 +34,9 @@ object_kind Unlooked = None
 object_kind (Found code) = None
 object_kind (Repaired code) = None
 object_kind Missing = None
+object_kind Rewritten = None
+object_kind WentBack = None
+object_kind NewVersion = None
 
 -- a file that has no line any more
 abbrev pub file_kind : Change → Option GoneKind
@@ -44,6 +47,9 @@ file_kind Unlooked = None
 file_kind (Found code) = None
 file_kind (Repaired code) = None
 file_kind Missing = None
+file_kind Rewritten = None
+file_kind WentBack = None
+file_kind NewVersion = None
 
 -- an object of the list that has no line
 abbrev pub expected_kind : Change → Option GoneKind
@@ -54,6 +60,9 @@ expected_kind FileGone = None
 expected_kind Unlooked = None
 expected_kind (Found code) = None
 expected_kind (Repaired code) = None
+expected_kind Rewritten = None
+expected_kind WentBack = None
+expected_kind NewVersion = None
 
 abbrev pub row_of : (Change → Option GoneKind) → Noted → List GoneRow
 row_of kind n = rows_at n.at.place (kind n.at.change)
@@ -71,6 +80,9 @@ is_unlooked FileGone = false
 is_unlooked (Found code) = false
 is_unlooked (Repaired code) = false
 is_unlooked Missing = false
+is_unlooked Rewritten = false
+is_unlooked WentBack = false
+is_unlooked NewVersion = false
 
 abbrev pub is_repaired : Change → Bool
 is_repaired (Repaired code) = true
@@ -80,6 +92,9 @@ is_repaired FileGone = false
 is_repaired Unlooked = false
 is_repaired (Found code) = false
 is_repaired Missing = false
+is_repaired Rewritten = false
+is_repaired WentBack = false
+is_repaired NewVersion = false
 
 -- the line of the report before of a finding that is repaired
 abbrev pub repaired_line : Noted → List Line
@@ -96,6 +111,9 @@ is_found FileGone = false
 is_found Unlooked = false
 is_found (Repaired code) = false
 is_found Missing = false
+is_found Rewritten = false
+is_found WentBack = false
+is_found NewVersion = false
 
 -- a finding that is new and known, or new and not known
 abbrev pub is_known_finding : Noted → Bool
@@ -104,10 +122,24 @@ is_known_finding n = if is_found n.at.change then n.is_known else false
 abbrev pub is_new_finding : Noted → Bool
 is_new_finding n = if is_found n.at.change then not n.is_known else false
 
+-- a root inventory is another one: of the same version, of an older one, or of a newer one
+abbrev pub is_rewritten : Change → Bool
+is_rewritten Rewritten = true
+is_rewritten _ = false
+
+abbrev pub is_back : Change → Bool
+is_back WentBack = true
+is_back _ = false
+
+abbrev pub is_newer : Change → Bool
+is_newer NewVersion = true
+is_newer _ = false
+
 abbrev pub count_of : (Noted → Bool) → List Noted → ℕ
 count_of counts ns = length (filter counts ns)
 
--- something is gone, or a finding is new that is not known
+-- something is gone, a finding is new that is not known, or a root inventory is another one without a
+-- newer version
 abbrev pub is_news : Noted → Bool
 is_news n = by n.at.change
   where
@@ -119,6 +151,9 @@ is_news n = by n.at.change
     by (Found code) = not n.is_known
     by (Repaired code) = false
     by Missing = true
+    by Rewritten = true
+    by WentBack = true
+    by NewVersion = false
 
 -- the first of what is gone, and how much there is
 pub record Many : Type 0 where
@@ -141,6 +176,9 @@ pub record Counted : Type 0 where
   pub repaired_shown : List Line
   pub appeared : ℕ
   pub known : ℕ
+  pub rewritten : ℕ
+  pub went_back : ℕ
+  pub newer : ℕ
 
 -- of the changes of one comparison
 abbrev pub counted : List Noted → Counted
@@ -153,6 +191,9 @@ counted ns = record {
   repaired_shown = in_order (take most_shown (repaired_lines ns));
   appeared = count_of is_new_finding ns;
   known = count_of is_known_finding ns;
+  rewritten = count_of (λ n. is_rewritten n.at.change) ns;
+  went_back = count_of (λ n. is_back n.at.change) ns;
+  newer = count_of (λ n. is_newer n.at.change) ns;
 }
 
 abbrev pub joined : Counted → Counted → Counted
@@ -165,6 +206,9 @@ joined v w = record {
   repaired_shown = v.repaired_shown ++ w.repaired_shown;
   appeared = v.appeared + w.appeared;
   known = v.known + w.known;
+  rewritten = v.rewritten + w.rewritten;
+  went_back = v.went_back + w.went_back;
+  newer = v.newer + w.newer;
 }
 
 -- what is shown of what is gone: objects before files
@@ -189,3 +233,6 @@ pub record AreCounted (c : Changes) (w : Counted) : Type 0 where
   pub repaired_shown : map line_of c.repaired.items ≡ w.repaired_shown
   pub appeared : IsCount c.appeared_count w.appeared
   pub known : IsCount c.known_count w.known
+  pub rewritten : IsCount c.moved.rewritten w.rewritten
+  pub went_back : IsCount c.moved.went_back w.went_back
+  pub newer : IsCount c.moved.newer w.newer

@@ -6,7 +6,7 @@ use Rattle.ocfl_tree.specs.Place.{Text, Place, place_eq}
 use Rattle.ocfl_report.specs.{Line.{Line, is_finding_code}, declared.code.Code.{Code}}
 use Rattle.ocfl_compare.specs.{Changes.{comparison, is_code}, Compared.{IsReport}}
 use Rattle.ocfl_compare.specs.declared.change.{Change.{Change}, ChangeAt.{ChangeAt}}
-use Rattle.ocfl_compare.specs.declared.change.Change.TheVariants.{Gone, Undeclared, FileGone, Unlooked, Found, Repaired, Missing}
+use Rattle.ocfl_compare.specs.declared.change.Change.TheVariants.{Gone, Undeclared, FileGone, Unlooked, Found, Repaired, Missing, Rewritten, WentBack, NewVersion}
 use Rattle.ocfl_messages.specs.{Known.{is_known}, declared.known.KnownEntry.{KnownEntry}}
 
 -- a change; the line of the finding that it is of, if it is of one; and whether it is a finding that is
@@ -43,6 +43,9 @@ line_in before now c = by c.change
     by FileGone = None
     by Unlooked = None
     by Missing = None
+    by Rewritten = None
+    by WentBack = None
+    by NewVersion = None
 
 -- ---- what is known
 
@@ -64,6 +67,9 @@ is_known_in known now c = by c.change
     by Unlooked = false
     by (Repaired code) = false
     by Missing = false
+    by Rewritten = false
+    by WentBack = false
+    by NewVersion = false
 
 -- ---- what is noted
 

@@ -7,6 +7,8 @@ ghost use Rattle.ocfl_compare.specs.Changes.{change_at};
 ghost use Rattle.ocfl_messages.specs.Tally.{IsCount};
 ghost use Rattle.ocfl_words.specs.Counted.{Counted, counted, expected_kind};
 ghost use Rattle.ocfl_words.specs.Counted.{file_kind, gone_in, is_known_finding, is_new_finding};
+ghost use Rattle.ocfl_words.specs.Counted.{is_back as is_back_change, is_newer as is_newer_change};
+ghost use Rattle.ocfl_words.specs.Counted.{is_rewritten as is_rewritten_change};
 ghost use Rattle.ocfl_words.specs.Counted.{is_repaired as is_repaired_change};
 ghost use Rattle.ocfl_words.specs.Counted.{is_unlooked as is_unlooked_change, joined};
 ghost use Rattle.ocfl_words.specs.Counted.{object_kind, shown_of};
@@ -15,7 +17,7 @@ ghost use Rattle.ocfl_words.specs.Noted.{Noted, noted};
 use crate::missing::{Missing, add_count};
 use crate::repaired::keep_repaired;
 use ocfl_compare::Change;
-use ocfl_messages::{Gone, GoneKind};
+use ocfl_messages::{Gone, GoneKind, Moved};
 use ocfl_report::Line;
 use ocfl_tree::Place;
 use std::alloc::{AllocError, Global};
@@ -38,6 +40,8 @@ pub struct Changes {
     pub expected: Missing,
     /// How many files are not looked at any more: their object is gone, or its head stops now.
     pub unlooked: u64,
+    /// How many root inventories are others.
+    pub moved: Moved,
 }
 
 /// Written by hand, so that to let it go is one call wherever that happens.
@@ -52,6 +56,7 @@ impl Drop for Changes {
             files: _files,
             expected: _expected,
             unlooked: _unlooked,
+            moved: _moved,
         } = self;
     }
 }
@@ -72,6 +77,11 @@ impl Changes {
             files: Missing::new(alloc),
             expected: Missing::new(alloc),
             unlooked: 0,
+            moved: Moved {
+                rewritten: 0,
+                went_back: 0,
+                newer: 0,
+            },
         }
     }
 
@@ -104,6 +114,7 @@ impl Changes {
         self.known_count = add_count(self.known_count, other.known_count);
         self.repaired_count = add_count(self.repaired_count, other.repaired_count);
         self.unlooked = add_count(self.unlooked, other.unlooked);
+        self.moved = sum_of(self.moved, other.moved);
         self.repaired.append(&mut other.repaired)?;
         self.objects.join(&mut other.objects)?;
         self.files.join(&mut other.files)?;
@@ -134,6 +145,7 @@ impl Changes {
         self.appeared_count = add_count(self.appeared_count, appeared);
         let known = one_if(is_new_and_known(change, is_known));
         self.known_count = add_count(self.known_count, known);
+        self.moved = sum_of(self.moved, moved_by(change));
         keep_repaired(&mut self.repaired, is_repaired(change), line)?;
         Ok(())
     }
@@ -150,6 +162,53 @@ fn put_copies(rows: &[Gone], copies: &mut Vec<Gone>) -> Result<(), AllocError>
         })?;
     }
     Ok(())
+}
+
+/// The sums of two counts, as far as they fit.
+fn sum_of(one: Moved, other: Moved) -> Moved
+    ensures rewritten { (m k : ℕ) → IsCount one.rewritten m → IsCount other.rewritten k
+        → IsCount result.rewritten (m + k) }
+    ensures went_back { (m k : ℕ) → IsCount one.went_back m → IsCount other.went_back k
+        → IsCount result.went_back (m + k) }
+    ensures newer { (m k : ℕ) → IsCount one.newer m → IsCount other.newer k
+        → IsCount result.newer (m + k) }
+{
+    Moved {
+        rewritten: add_count(one.rewritten, other.rewritten),
+        went_back: add_count(one.went_back, other.went_back),
+        newer: add_count(one.newer, other.newer),
+    }
+}
+
+fn is_rewritten(change: Change) -> bool
+    ensures { result ≡ is_rewritten_change change }
+{
+    matches!(change, Change::Rewritten)
+}
+
+fn is_back(change: Change) -> bool
+    ensures { result ≡ is_back_change change }
+{
+    matches!(change, Change::WentBack)
+}
+
+fn is_newer(change: Change) -> bool
+    ensures { result ≡ is_newer_change change }
+{
+    matches!(change, Change::NewVersion)
+}
+
+/// What a change counts of root inventories that are others.
+fn moved_by(change: Change) -> Moved
+    ensures rewritten { result.rewritten ≡ (if is_rewritten_change change then 1 else 0) }
+    ensures went_back { result.went_back ≡ (if is_back_change change then 1 else 0) }
+    ensures newer { result.newer ≡ (if is_newer_change change then 1 else 0) }
+{
+    Moved {
+        rewritten: one_if(is_rewritten(change)),
+        went_back: one_if(is_back(change)),
+        newer: one_if(is_newer(change)),
+    }
 }
 
 /// One, if something counts.
@@ -169,7 +228,10 @@ fn object_kind_of(change: Change) -> Option<GoneKind>
         | Change::Unlooked
         | Change::Found(_)
         | Change::Repaired(_)
-        | Change::Missing => None,
+        | Change::Missing
+        | Change::Rewritten
+        | Change::WentBack
+        | Change::NewVersion => None,
     }
 }
 
@@ -183,7 +245,10 @@ fn file_kind_of(change: Change) -> Option<GoneKind>
         | Change::Unlooked
         | Change::Found(_)
         | Change::Repaired(_)
-        | Change::Missing => None,
+        | Change::Missing
+        | Change::Rewritten
+        | Change::WentBack
+        | Change::NewVersion => None,
     }
 }
 
@@ -197,7 +262,10 @@ fn expected_kind_of(change: Change) -> Option<GoneKind>
         | Change::FileGone
         | Change::Unlooked
         | Change::Found(_)
-        | Change::Repaired(_) => None,
+        | Change::Repaired(_)
+        | Change::Rewritten
+        | Change::WentBack
+        | Change::NewVersion => None,
     }
 }
 
@@ -211,7 +279,10 @@ fn is_unlooked(change: Change) -> bool
         | Change::FileGone
         | Change::Found(_)
         | Change::Repaired(_)
-        | Change::Missing => false,
+        | Change::Missing
+        | Change::Rewritten
+        | Change::WentBack
+        | Change::NewVersion => false,
     }
 }
 
@@ -225,7 +296,10 @@ fn is_repaired(change: Change) -> bool
         | Change::FileGone
         | Change::Unlooked
         | Change::Found(_)
-        | Change::Missing => false,
+        | Change::Missing
+        | Change::Rewritten
+        | Change::WentBack
+        | Change::NewVersion => false,
     }
 }
 
@@ -241,7 +315,10 @@ fn is_new(change: Change, is_known: bool) -> bool
         | Change::FileGone
         | Change::Unlooked
         | Change::Repaired(_)
-        | Change::Missing => false,
+        | Change::Missing
+        | Change::Rewritten
+        | Change::WentBack
+        | Change::NewVersion => false,
     }
 }
 
@@ -257,6 +334,9 @@ fn is_new_and_known(change: Change, is_known: bool) -> bool
         | Change::FileGone
         | Change::Unlooked
         | Change::Repaired(_)
-        | Change::Missing => false,
+        | Change::Missing
+        | Change::Rewritten
+        | Change::WentBack
+        | Change::NewVersion => false,
     }
 }

@@ -67,8 +67,14 @@ pub(crate) fn line_of_change<'l>(
     match change {
         Change::Found(code) => find_at(now, code, place),
         Change::Repaired(code) => find_at(before, code, place),
-        Change::Gone | Change::Undeclared | Change::FileGone | Change::Unlooked | Change::Missing =>
-            None,
+        Change::Gone
+        | Change::Undeclared
+        | Change::FileGone
+        | Change::Unlooked
+        | Change::Missing
+        | Change::Rewritten
+        | Change::WentBack
+        | Change::NewVersion => None,
     }
 }
 
@@ -82,7 +88,10 @@ fn is_found(change: Change) -> bool
         | Change::FileGone
         | Change::Unlooked
         | Change::Repaired(_)
-        | Change::Missing => false,
+        | Change::Missing
+        | Change::Rewritten
+        | Change::WentBack
+        | Change::NewVersion => false,
     }
 }
 

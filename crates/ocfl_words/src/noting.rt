@@ -245,7 +245,10 @@ impl<'k> Noting<'k> {
             | Change::FileGone
             | Change::Unlooked
             | Change::Repaired(_)
-            | Change::Missing => Ok(()),
+            | Change::Missing
+            | Change::Rewritten
+            | Change::WentBack
+            | Change::NewVersion => Ok(()),
         }
     }
 

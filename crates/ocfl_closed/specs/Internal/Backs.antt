@@ -5,7 +5,7 @@ use Rattle.std.proofs.lemmas.Grind.{flat_map-append}
 use Rattle.ocfl_tree.specs.Place.{Place}
 use Rattle.ocfl_compare.specs.Seen.{Seen, change_in, changes_in}
 use Rattle.ocfl_compare.specs.declared.change.{Change.{Change}, ChangeAt.{ChangeAt}}
-use Rattle.ocfl_compare.specs.declared.change.Change.TheVariants.{Gone, Undeclared, FileGone, Unlooked, Found, Repaired, Missing}
+use Rattle.ocfl_compare.specs.declared.change.Change.TheVariants.{Gone, Undeclared, FileGone, Unlooked, Found, Repaired, Missing, Rewritten, WentBack, NewVersion}
 
 abbrev pub place_missing : ChangeAt → List Place
 place_missing c = by c.change
@@ -18,6 +18,9 @@ place_missing c = by c.change
     by Unlooked = []
     by (Found code) = []
     by (Repaired code) = []
+    by Rewritten = []
+    by WentBack = []
+    by NewVersion = []
 
 -- the places of objects that are missing
 abbrev pub missing_in : List ChangeAt → List Place

@@ -1,12 +1,12 @@
 -- What the lines of one place say together.
-use Rattle.std.specs.Prelude.{◌≡◌, ◌&&◌, ◌||◌, List, [], ◌++◌, Bool, not, map, if◌then◌else◌, Option}
+use Rattle.std.specs.Prelude.{◌≡◌, ◌&&◌, ◌||◌, List, [], ◌++◌, Bool, not, map, if◌then◌else◌, Option, option_map, string_bytes}
 use Rattle.std.specs.List.{list_any}
-use Rattle.ocfl_tree.specs.Place.{Place}
+use Rattle.ocfl_tree.specs.Place.{Text, Place}
 use Rattle.ocfl_report.specs.{Line.{Line}, declared.code.Code.{Code}}
 use Rattle.ocfl_report.specs.declared.line.Line.{Line as MadeLine}
 use Rattle.ocfl_codes.specs.Kinds.{is_empty, tells_object, tells_file, hides}
 use Rattle.ocfl_compare.specs.Changes.{finding_codes, new_codes, has_code, stops, gone_object, gone_file, when}
-use Rattle.ocfl_compare.specs.Seen.{Seen, lines_seen, shown}
+use Rattle.ocfl_compare.specs.{Versions.{inventory_changes, note_in}, Seen.{Seen, lines_seen, shown}}
 use Rattle.ocfl_compare.specs.declared.side.Side.{Side}
 use Rattle.ocfl_compare.specs.declared.change.Change.{Change}
 use Rattle.ocfl_compare.specs.declared.change.Change.TheVariants.{Found, Repaired, Missing}
@@ -16,6 +16,9 @@ use Rattle.ocfl_compare.specs.declared.question.Question.TheVariants.{Changed, E
 use Rattle.ocfl_compare.specs.{declared.told.Told.{Told}, declared.reading.Telling.{Telling}}
 use Rattle.ocfl_compare.specs.declared.reading.Telling.TheVariants.{More, Whole}
 
+abbrev pub told_note : Told → Option Text
+told_note told = option_map string_bytes told.note
+
 pub record IsTold (told : Told) (ls : List Line) : Type 0 where
   pub absent : told.absent ≡ is_empty ls
   pub object : told.object ≡ list_any tells_object ls
@@ -23,6 +26,7 @@ pub record IsTold (told : Told) (ls : List Line) : Type 0 where
   pub file : told.file ≡ list_any tells_file ls
   pub hidden : told.hidden ≡ list_any hides ls
   pub findings : told.findings.items ≡ finding_codes ls
+  pub note : told_note told ≡ note_in ls
 
 -- the codes that were found before and are found no more
 abbrev pub told_repaired : Told → Told → List Code
@@ -42,7 +46,8 @@ told_changes shut has_lines before now =
     when (not now.object && before.object) (gone_object has_lines)
     ++ (when (now.absent && before.file) (gone_file shut)
     ++ (map Found (new_codes before.findings.items now.findings.items)
-    ++ map Repaired (told_repaired before now)))
+    ++ (map Repaired (told_repaired before now)
+    ++ inventory_changes (told_note before) (told_note now))))
 
 abbrev pub told_missing : Told → Told → List Change
 told_missing listed now = when (not now.object && listed.object) Missing

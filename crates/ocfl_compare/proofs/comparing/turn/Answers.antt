@@ -1,4 +1,4 @@
-use Rattle.std.proofs.Common.{[], ◌∙◌, ap}
+use Rattle.std.proofs.Common.{◌∙◌, ap}
 use Rattle.std.specs.Prelude.{◌&&◌, ◌||◌, not, flat_map}
 use Rattle.ocfl_compare.specs.Internal.Turns.{shut_after}
 use Rattle.ocfl_compare.proofs.SoFar.{place_more}

@@ -5,6 +5,6 @@ use Rattle.ocfl_compare.proofs.told.tell.Goals as goal
 
 pub returns : goal.returns
 returns c = λ own h.
-    told_more c.args.told (record { absent = false; object = c.either.result; stopped = c.either-2.result; file = c.either-3.result; hidden = c.either-4.result; findings = c.add_code.new.findings }) own (line_of c.args.line.now) h refl
+    told_more c.args.told (record { absent = false; object = c.either.result; stopped = c.either-2.result; file = c.either-3.result; hidden = c.either-4.result; findings = c.add_code.new.findings; note = c.in_ok-note.note }) own (line_of c.args.line.now) h refl
     (c.either.ensures ∙ ap (λ b. c.args.told.object || b) c.is_of_object.ensures) (c.either-2.ensures ∙ ap (λ b. c.args.told.stopped || b) c.is_stop.ensures)
-    (c.either-3.ensures ∙ ap (λ b. c.args.told.file || b) c.is_of_file.ensures) (c.either-4.ensures ∙ ap (λ b. c.args.told.hidden || b) c.is_hiding.ensures) c.in_ok-add_code.ensures
+    (c.either-3.ensures ∙ ap (λ b. c.args.told.file || b) c.is_of_file.ensures) (c.either-4.ensures ∙ ap (λ b. c.args.told.hidden || b) c.is_hiding.ensures) c.in_ok-add_code.ensures c.in_ok-note.ensures

@@ -1,9 +1,9 @@
-use Rattle.std.proofs.Common.{◌≡◌, map, sym, subst, take, ◌∙◌}
+use Rattle.std.proofs.Common.{◌≡◌, map, refl, sym, subst, take, ◌∙◌}
 use Rattle.std.specs.Option.{option_map}
 use Rattle.ocfl_report.specs.Line.{line_of}
 use Rattle.ocfl_compare.specs.Changes.{change_at}
 use Rattle.ocfl_messages.specs.Tally.{IsCount}
-use Rattle.ocfl_words.specs.{Counted.{IsMany, expected_kind, file_kind, is_known_finding, is_new_finding, is_repaired, is_unlooked, many_of, most_shown, object_kind, repaired_lines, rows_of}, Noted.{noted}, Shown.{in_order}}
+use Rattle.ocfl_words.specs.{Counted.{IsMany, expected_kind, file_kind, is_back, is_known_finding, is_new_finding, is_newer, is_repaired, is_rewritten, is_unlooked, many_of, most_shown, object_kind, repaired_lines, rows_of}, Noted.{noted}, Shown.{in_order}}
 use Rattle.ocfl_words.proofs.Firsts.{count_more, kept_one, lines_more, rows_more}
 use Rattle.ocfl_words.proofs.changes.Changes.add.Goals as goal
 
@@ -28,4 +28,10 @@ returns c = λ ns h.
           (c.add_count-self-3.ensures _ _ h.appeared (c.one_if-appeared.ensures ∙ sym (kept_one c.is_new.result)));
       known = subst (IsCount c.add_count-self-4.result) (count_more is_known_finding ns n c.is_new_and_known.result (c.is_new_and_known.ensures p l))
           (c.add_count-self-4.ensures _ _ h.known (c.one_if-known.ensures ∙ sym (kept_one c.is_new_and_known.result)));
+      rewritten = subst (IsCount c.sum_of-self.result.rewritten) (count_more (λ m. is_rewritten m.at.change) ns n (is_rewritten ch) refl)
+          (c.sum_of-self.ensures.rewritten _ _ h.rewritten (c.moved_by.ensures.rewritten ∙ sym (kept_one (is_rewritten ch))));
+      went_back = subst (IsCount c.sum_of-self.result.went_back) (count_more (λ m. is_back m.at.change) ns n (is_back ch) refl)
+          (c.sum_of-self.ensures.went_back _ _ h.went_back (c.moved_by.ensures.went_back ∙ sym (kept_one (is_back ch))));
+      newer = subst (IsCount c.sum_of-self.result.newer) (count_more (λ m. is_newer m.at.change) ns n (is_newer ch) refl)
+          (c.sum_of-self.ensures.newer _ _ h.newer (c.moved_by.ensures.newer ∙ sym (kept_one (is_newer ch))));
     }

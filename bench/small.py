@@ -59,11 +59,11 @@ def print_calls(root):
     print("\nSystem calls a file: %.2f (%s)." % (sum(made.values()) / ALL, names), flush=True)
 
 
-def instructions(root: str) -> int:
+def instructions(root: str, program: str = measure.PROGRAM) -> int:
     """How many instructions an audit takes, without those of the system."""
     with tempfile.NamedTemporaryFile("r") as counted:
         command = ["valgrind", "--tool=callgrind", "--callgrind-out-file=" + counted.name,
-                   measure.PROGRAM, "audit", root]
+                   program, "audit", root]
         subprocess.run(command, stdout=subprocess.DEVNULL, stderr=subprocess.DEVNULL, check=True)
         return total_of(counted.read())
 

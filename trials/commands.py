@@ -117,7 +117,7 @@ def refused_cursors(file, run):
     cases = [
         ("empty", b"", "not a cursor"),
         ("too long", b"ocfl-scrub cursor 2\n" + b"x" * 262_125, "not a cursor"),
-        ("later version", b"ocfl-scrub cursor 3\n", "version"),
+        ("later version", b"ocfl-scrub cursor 4\n", "version"),
         ("cut", b"ocfl-scrub cursor 2\ncycle 1\n", "damaged"),
         ("leading zero", malformed + b"digest %s\n" % digest(malformed).encode(), "malformed"),
     ]
@@ -140,7 +140,7 @@ def checkpoints(folder):
           (0, shown.encode(), b""))
     for name, data, why in [
         ("its first words alone", b"ocfl-scrub checkpoint ", "version"),
-        ("later version", text.replace(b"checkpoint 1", b"checkpoint 2"), "version"),
+        ("later version", text.replace(b"checkpoint 1", b"checkpoint 3"), "version"),
         ("cut", text[:-1], "damaged"),
         ("changed", text.replace(b"runs 0", b"runs 1"), "damaged"),
         ("leading zero", checkpoint_text(told="00"), "malformed"),

@@ -4,8 +4,9 @@
 The root is as tools of the field write it (`shared/library.py`). After a night over it as it was
 made, 21 objects are damaged, each in another way, and the next night's message has to name each of
 them by its place, in at most 40 lines, none over 100 characters but for paths, and none twice.
-Three more damages are of kinds that a night does not look at: it says nothing of them. Three checks
-of its lines were seen to fail on a program that showed twenty findings in three lines each.
+Three more damages are of kinds that a night does not look at without `--inventories`: it says
+nothing of them; `inventories.py` tries them with it. Three checks of its lines were seen to fail on
+a program that showed twenty findings in three lines each.
 
 Then bash runs what `ocfl-scrub-reports repair` shows with a copy of the root as it was made, and the
 next night finds only what no copy repairs.

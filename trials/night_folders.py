@@ -371,7 +371,7 @@ def changed_checkpoint(folder: str) -> None:
     sealed = good.rindex(b"sha256 ")
     other = good[:sealed + 8] + (b"1" if good[sealed + 8:sealed + 9] == b"0" else b"0") \
         + good[sealed + 9:]
-    later = good.replace(b"checkpoint 1\n", b"checkpoint 2\n", 1)
+    later = good.replace(b"checkpoint 1\n", b"checkpoint 3\n", 1)
     for name, text in [("another digit", other), ("no text", b""), ("a text", b"cycle 1\n"),
                        ("half of it", good[:len(good) // 2]), ("without its end", good[:-1]),
                        ("zeros", bytes(len(good))), ("another version", later),

@@ -322,11 +322,15 @@ def gallery(folder):
     page = read(TOP + "/docs/GALLERY.md")
     maker = TOP + "/samples/gallery"
     check("the page is that of the script", ran([maker, "--page"])[1] == page, True)
-    check("gallery", ran([maker, folder + "/root"]), (0, "", ""))
-    check("not over another", ran([maker, folder + "/root"])[0:2], (2, ""))
-    lines = re.findall(r"^    ((?:ok|[ES]\d+)\t.*\n)", page, re.MULTILINE)
-    status, out, said = ran([PROGRAM, "audit", folder + "/root"])
-    check("its audit", (status, out.splitlines(True), said), (1, lines, ""))
+    lines = []
+    for part, words in zip(page.split("\n## With --inventories\n"), [[], ["--inventories"]]):
+        root = folder + "/root" + "".join(words)
+        check("gallery %s" % words, ran([maker, *words, root]), (0, "", ""))
+        check("not over another %s" % words, ran([maker, *words, root])[0:2], (2, ""))
+        shown = re.findall(r"^    ((?:ok|[ES]\d+)\t.*\n)", part, re.MULTILINE)
+        status, out, said = ran([PROGRAM, "audit", *words, root])
+        check("its audit %s" % words, (status, out.splitlines(True), said), (1, shown, ""))
+        lines += shown
     apart = {"E069", "E076", "S08"}
     check("codes", sorted(codes_of_rules() - {line.split("\t")[0] for line in lines}),
           sorted(apart))

@@ -25,14 +25,15 @@ OTHERWISE = {
     "S03_manifest_of_a_wrong_kind": {"E106"},
     "S04_link": {"E090"},
     "S06_path_outside_of_content": {"E042"},
+    "minimal_version_without_inventory": {"no inventory in v1"},
 }
 # What is no object, nor meant to be one.
 NO_OBJECTS = {"S05_too_deep"}
 
 
-def made(folder, name):
-    root = os.path.join(folder, name)
-    check("samples/" + name, ran([os.path.join(TOP, "samples", name), root]), (0, "", ""))
+def made(folder, name, *words):
+    root = os.path.join(folder, name + "".join(words))
+    check("samples/" + name, ran([os.path.join(TOP, "samples", name), *words, root]), (0, "", ""))
     return root
 
 
@@ -47,11 +48,12 @@ def sample(folder):
 
 def gallery(folder):
     """Each object has the faults of the codes in its name, and no other."""
-    root = made(folder, "gallery")
-    names = sorted(entry.name for entry in os.scandir(root) if entry.is_dir())
-    for name in [name for name in names if name not in NO_OBJECTS]:
-        shown = OTHERWISE.get(name, set(re.findall(r"E\d{3}", name)))
-        check("faults of " + name, faults(os.path.join(root, name)), shown)
+    for words in [[], ["--inventories"]]:
+        root = made(folder, "gallery", *words)
+        names = sorted(entry.name for entry in os.scandir(root) if entry.is_dir())
+        for name in [name for name in names if name not in NO_OBJECTS]:
+            shown = OTHERWISE.get(name, set(re.findall(r"E\d{3}", name)))
+            check("faults of " + name, faults(os.path.join(root, name)), shown)
 
 
 # nights/REPAIR.md

@@ -98,7 +98,7 @@ def table_of_codes():
     check("codes of places", {row[0] for row in rows if row[2] == "place"},
           {"E001", "E015", "E024", "E069", "E072", "E073", "E076", "E080", "S04", "S05"})
     check("codes of files", {row[0] for row in rows if row[2] == "file"},
-          {"E023", "E092", "E093", "S08"})
+          {"E023", "E064", "E092", "E093", "S08"})
 
 
 # Statements

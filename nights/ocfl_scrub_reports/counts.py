@@ -8,14 +8,12 @@ from itertools import groupby, islice
 from typing import IO, Dict, Iterable, Iterator, List, NamedTuple, Sequence, Tuple
 
 from . import files, questions, standing
-from .report import APART, RIGHT, Comparing, Mark, Reading, is_within
+from .report import APART, NO_FINDINGS, RIGHT, Comparing, Mark, Reading, is_within
 from .state import NOT_KNOWN
 from .weights import HIDING, Known, Weights
 
-# Codes of lines that are said of content files, besides `ok`.
-OF_FILES = Weights().of_files
 # Codes of lines whose detail begins with the algorithm of a digest that is not the expected one.
-OF_DIGESTS = {b"E060", b"E092", b"E093"}
+OF_DIGESTS = {b"E060", b"E064", b"E092", b"E093"}
 # What is written like an algorithm. Inventories can name anything.
 ALGORITHM = re.compile(rb"[A-Za-z0-9/_-]{1,40}")
 MOST_ALGORITHMS = 20
@@ -70,6 +68,8 @@ class Count:
     def __init__(self, report: str, left: list[str] | None,
                  marks: list[Mark] | None = None) -> None:
         self.objects = self.sound = self.content = self.right = self.bytes = 0
+        # How many objects have a note of what their root inventory is.
+        self.noted = 0
         self.codes: Counter[str] = Counter()
         # The findings themselves, as lines.
         self.found = files.spool()
@@ -99,14 +99,15 @@ class Count:
             self.is_sound = not any(is_within(place, path) for place in self.left or ())
             self.objects += 1
             self.sound += self.is_sound
-        if code in OF_FILES and path != self.file:
+        if path != self.file and self.weights.is_of_file(code, path):
             self.file = path
             self.content += 1
         if code == b"S07":
             add_algorithm(self.not_computed, detail)
         if code in OF_DIGESTS:
             add_algorithm(self.wrong, detail.partition(b" ")[0])
-        if code in (b"ok", b"S07"):
+        self.noted += code == b"S09"
+        if code in NO_FINDINGS:
             return
         self.codes[code.decode()] += 1
         self.found.write(b"%s\t%s\t%s\n" % (code, path, detail))

@@ -14,7 +14,7 @@ from .objects import id_of, in_one_form, is_root
 from .report import Line, Reading, is_within, lines_at
 from .shared import Failed, many, many_are, many_were, refuse_links
 from .state import NOT_KNOWN, State, cycle_name
-from .statement import Statement, cycle_of, kind_of, plain
+from .statement import MOVED, Statement, cycle_of, kind_of, plain
 from .verify import GUESSED, LIST_OF_GONE, Check
 from .units import size
 from .weights import Weights
@@ -29,6 +29,8 @@ GONE = [("Objects gone", "object", "gone"), ("Objects no longer declared", "obje
         ("Files gone", "file", "gone"), ("Expected objects missing", "expected object", "missing")]
 NOT_BACK = ["Objects gone and not back", "Objects no longer declared, and not back",
             "Files gone and not back"]
+# Those on objects whose root inventory is another one; the first two are grave.
+REWRITTEN = list(MOVED)
 OTHER_FORM = ": the name of a missing file in another form of Unicode"
 
 
@@ -60,7 +62,7 @@ class Findings:
                 within = of_object if of_object and is_within(line.path, of_object) else (
                     object_above(line.path, undeclared))
                 self.add(Found(line, weights.weight(line.text()), within))
-                self.of_meaning[line.code.decode(), words.meaning(line.code, line.detail)] += 1
+                self.of_meaning[line.code.decode(), words.meaning(*line[1:])] += 1
         held = (it for weight in sorted(self.of_weight) for it in self.of_weight[weight])
         self.shown = sorted(islice(held, SHOWN), key=lambda it: it.line.number)
         self.all = sum(self.count.values())
@@ -164,7 +166,7 @@ class Page:
         lost_objects = [name for name, kind, _ in GONE if kind == "object"] + NOT_BACK[:2]
         if self.findings.count.get(b"1") or any(map(self.number, lost_objects)):
             return 2
-        losses = [name for name, _, _ in GONE] + NOT_BACK
+        losses = [name for name, _, _ in GONE] + NOT_BACK + REWRITTEN[:2]
         is_unknown = self.number("Objects gone") is None and self.cycle > 1
         return int(bool(self.findings.all or not self.is_whole or is_unknown
                         or self.number("Broken lines") or any(map(self.number, losses))))
@@ -195,6 +197,7 @@ class Page:
                 count for count, *_ in counts) else "is gone", self.why_not_compared())
         elif not any(count for count, *_ in counts):
             yield self.nothing_gone()
+        yield from ("%s: %s" % (name, self.said[name]) for name in REWRITTEN if self.number(name))
         before = len(list(islice(self.gone_before(), SHOWN)))
         if before:
             yield "What was gone before, and is not back: %s%s" % (
@@ -252,7 +255,7 @@ class Page:
     # What was found
 
     def about_findings(self) -> str:
-        rows = [(meaning, code, count, self.words.steps.get(code.encode(), ""))
+        rows = [(meaning, code, count, self.words.step(code.encode(), meaning))
                 for (code, meaning), count in sorted(self.findings.of_meaning.items())]
         if not self.findings.all:
             return section("What was found", paragraph("Nothing: no line of the report is a "
@@ -284,7 +287,7 @@ class Page:
         missing = {in_one_form(it.line.path) for it in found
                    if it.line.detail.endswith(b" missing")}
         return head + table("", ("place", "what", "code", "detail", self.head_of_changes()), [
-            (place_within(it.line.path, path), self.words.meaning(it.line.code, it.line.detail)
+            (place_within(it.line.path, path), self.words.meaning(*it.line[1:])
              + OTHER_FORM * (it.line.code == b"E023" and in_one_form(it.line.path) in missing),
              it.line.code.decode(), detail(it.line.code, it.line.detail),
              now.get(it.line.code + b"\t" + it.line.path, NOT_KNOWN)) for it in found],
@@ -373,12 +376,12 @@ class Page:
         now: dict[bytes, list[str]] = {}
         for line in lines_at(self.report, {it[1] for it in rows}):
             now.setdefault(line.path, []).append(
-                "right" if not line.is_finding() else self.words.meaning(line.code, line.detail))
+                "right" if not line.is_finding() else self.words.meaning(*line[1:]))
         left = (self.number("Former findings") or 0) - len(rows)
         reasons = self.reasons_given()
         head = ("place", "what it was", "code", "now", *("reason given" for _ in reasons and [1]))
         return (table("Findings of the report before that are not there any more", head, [
-            (place(path), self.words.meaning(code, None), code.decode(),
+            (place(path), self.words.meaning(code, path, None), code.decode(),
              ", ".join(dict.fromkeys(now.get(path, []))), *(
                  [reasons.get((code, path), "")] if reasons else [])) for code, path in rows])
                 if rows else "") + (paragraph("and {:,} more".format(left)) if left > 0 else "")

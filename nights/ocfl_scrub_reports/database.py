@@ -35,6 +35,7 @@ with
 content as (
   select distinct path from line
   where (code = 'ok' and detail <> '-') or code in (OF_FILES)
+  or (code in ('E058', 'E060', 'E061') and path glob '?*/v[0-9]*/inventory.json')
 ),
 verified as (
   select path, max(began) as began from dated

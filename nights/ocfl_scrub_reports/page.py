@@ -12,7 +12,7 @@ from .counts import CHANGES, Before, of_changes
 from .log import Closing, Entry
 from .markup import Markup, detail, place, section, shown, table, text
 from .shared import many, many_are
-from .standing import kinds_gone
+from .standing import kinds_gone, kinds_moved
 from .state import NOT_KNOWN, State, cycle_name
 from .statement import Statement, plain
 from .status import Log, Root, Standing, with_reason, worst_of
@@ -173,7 +173,7 @@ def about_findings(standing: Standing) -> str:
     for line in questions.lines_of(found.listed):
         words = line.split(b"\t")
         if len(words) == 3 and len(rows) < SHOWN:
-            rows.append([place(words[1]), words_of.meaning(words[0], words[2]), words[0].decode(),
+            rows.append([place(words[1]), words_of.meaning(*words), words[0].decode(),
                          detail(words[0], words[2])])
         elif len(words) == 2 and len(gone) < SHOWN:
             gone.append((LOST.get(words[0], words[0].decode()), place(words[1])))
@@ -225,10 +225,13 @@ def of_statement(state: State, cycle: int) -> tuple[int | str, str]:
 
 def gone_text(state: State, cycle: int, closing: Closing) -> str:
     """What was gone when a cycle was closed."""
-    kinds = kinds_gone(state.find("gone", cycle))
+    listed = state.find("gone", cycle)
+    kinds = kinds_gone(listed) + kinds_moved(listed)
     gone = [many(kinds[word], name) + more for word, name, more in (
         (b"object", "object", ""), (b"undeclared", "object", " no longer declared"),
-        (b"file", "file", ""), (b"expected", "expected object", " missing")) if kinds[word]]
+        (b"file", "file", ""), (b"expected", "expected object", " missing"),
+        (b"changed", "object", " changed without a new version"),
+        (b"older", "object", " gone back to an older version")) if kinds[word]]
     if closing.unlooked:
         gone.append(many(closing.unlooked, "file") + " no longer looked at")
     why = closing.why_not_compared(cycle)

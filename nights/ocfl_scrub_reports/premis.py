@@ -23,7 +23,8 @@ HEAD = """<?xml version="1.0" encoding="UTF-8"?>
 VOCABULARY = "http://id.loc.gov/vocabulary/preservation/"
 LOSSES = ("Objects gone", "Objects no longer declared", "Files gone", "Expected objects missing")
 # What is said of a row of a list of what is gone.
-NOTES = {b"expected": b"missing: ", b"undeclared": b"no longer declared, and not looked at: "}
+NOTES = {b"expected": b"missing: ", b"undeclared": b"no longer declared, and not looked at: ",
+         b"changed": b"changed without a new version: ", b"older": b"went back to an older version: "}
 # What no document of XML 1.0 may hold.
 FORBIDDEN = re.compile("[\x00-\x08\x0b\x0c\x0e-\x1f\ud800-\udfff\ufffe\uffff]")
 # What is markup, and what other readers would make other characters of.
@@ -229,6 +230,8 @@ class Events:
         last = b""
         for number, line in enumerate(files.lines(path) if path else [], 1):
             kind, _, place = line.partition(b"\t")
+            if kind == b"newer":
+                continue
             last = place if kind in (b"object", b"undeclared") else last
             is_away = kind == b"file" and is_within(place, last)
             note = (b"no longer looked at: " if is_away else NOTES.get(kind, b"gone: ")) + place

@@ -6,6 +6,7 @@ import sys
 from itertools import groupby
 
 from . import files, standing
+from .report import NOTES
 from .shared import Failed, find_program
 from .state import State
 from .weights import HIDING, Known, Weights
@@ -20,7 +21,7 @@ def show(state: State, known: str | None) -> int:
     root, leave_out = state.bound_to("root"), Known(known)
     if not root:
         raise Failed("%s is not bound to a storage root" % state.path)
-    looking = Looking(find_program(), root)
+    looking = Looking(find_program(), root, state.options())
     looking.refuse_other_root()
     status = 0
     found = (line for line in standing.open_findings(state) if not leave_out.has(line))
@@ -37,17 +38,17 @@ OUTSIDE = b"E072"
 
 
 class Looking:
-    """Looks at places of a storage root by the program."""
+    """Looks at places of a storage root by the program, with the options of an audit."""
 
-    def __init__(self, program: str, root: str) -> None:
-        self.program, self.root, self.weights = program, root, Weights()
+    def __init__(self, program: str, root: str, options: list[str]) -> None:
+        self.command, self.root, self.weights = [program, "check", *options], root, Weights()
         # Whether the folders above files are objects that are looked into.
         self.objects: dict[bytes, bool] = {}
 
     def lines_at(self, place: bytes) -> list[bytes] | None:
         """The lines of a place; None, with a word on standard error, if the program could not
         tell."""
-        done = subprocess.run([self.program, "check", "--", self.root, place],
+        done = subprocess.run([*self.command, "--", self.root, place],
                               stdout=subprocess.PIPE, stderr=subprocess.PIPE, check=False)
         if done.returncode in (0, 1):
             return done.stdout.splitlines()
@@ -70,7 +71,7 @@ class Looking:
         lines = self.lines_at(place)
         if lines is None:
             return 3
-        now = [line for line in lines if not line.startswith((b"ok\t", b"S07\t"))]
+        now = [line for line in lines if not line.startswith((b"ok\t", *NOTES))]
         codes = {code_of(it) for it in before}
         away = [it for it in before if code_of(it) not in set(map(code_of, now))]
         is_there = any(it.split(b"\t", 2)[1:2] == [place] for it in lines)

@@ -19,7 +19,7 @@ from .objects import INVENTORY, in_one_form, inventory_of, is_root, is_way_to, n
 from .shared import Failed, many, many_are
 from .state import State
 from .statement import plain
-from .weights import Known
+from .weights import VERSION_INVENTORY, Known
 
 # Findings that the right bytes repair: of content files, of inventories, and of their sidecars.
 OF_CONTENT = (b"E092", b"E093", b"S08")
@@ -169,7 +169,9 @@ def ancestors(place: bytes) -> list[bytes]:
 def expect_of(wanted: Wanted, root: str) -> None:
     """Finds what the bytes of a file must be."""
     of_code = {line.partition(b"\t")[0]: line.split(b"\t")[2] for line in reversed(wanted.findings)}
-    if not of_code.keys().isdisjoint(OF_INVENTORIES):
+    if VERSION_INVENTORY.fullmatch(wanted.place):
+        expect_of_version(wanted, root, of_code)
+    elif not of_code.keys().isdisjoint(OF_INVENTORIES):
         wanted.object = wanted.object or wanted.place
         wanted.place, wanted.is_inventory = wanted.object + b"/" + INVENTORY, True
         expect_of_inventory(wanted, root, of_code.get(b"E060", b""))
@@ -209,6 +211,22 @@ def expect_of_inventory(wanted: Wanted, root: str, detail: bytes) -> None:
         wanted.expect(algorithm.decode(), digests.partition(b" ")[0].decode())
     for name in SIDECARS:
         wanted.expect(name, sidecar_of(root, wanted.object, name) or "")
+
+
+def expect_of_version(wanted: Wanted, root: str, of_code: dict[bytes, bytes]) -> None:
+    """What the inventory of a version must be the sidecar beside it says, and the root inventory may
+    be that; or if the sidecar is damaged or missing, what it must name."""
+    root_inventory = wanted.object + b"/" + INVENTORY
+    wanted.object = wanted.place.rpartition(b"/")[0]
+    if of_code.keys().isdisjoint((b"E060", b"S08")):
+        expect_of_sidecar(wanted, root)
+        return
+    for name in SIDECARS:
+        wanted.expect(name, sidecar_of(root, wanted.object, name) or "")
+    if not wanted.digest:
+        wanted.why = "no sidecar beside it says what it must be"
+    elif has_digest(root, root_inventory, wanted):
+        wanted.others = [root_inventory]
 
 
 def expect_of_sidecar(wanted: Wanted, root: str) -> None:

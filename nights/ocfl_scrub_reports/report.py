@@ -25,7 +25,9 @@ OTHER = re.compile(rb"\n(?!ok\t)([^\n]+)")
 # All lines but those of content files that were found right.
 APART = re.compile(rb"\n(?!ok\t[^\t\n]+\t[0-9])([^\t\n]+)\t([^\t\n]+)\t([^\n]+)")
 RIGHT = re.compile(rb"\nok\t[^\t\n]+\t([0-9]+)")
-NO_FINDINGS = (b"ok", b"S07")
+# Lines of these codes are no findings: of what is right, and the notes.
+NO_FINDINGS = (b"ok", b"S07", b"S09")
+NOTES = (b"S07\t", b"S09\t")
 # How many bytes the digests of a report in a checkpoint take as one piece.
 PIECE = 4 << 20
 
@@ -180,7 +182,7 @@ def findings(path: str, must_be_whole: bool = True,
     reading = Reading(path, each_block)
     for _ in reading.whole() if must_be_whole else reading.blocks():
         if reading.others:
-            yield [line for line in reading.others if not line.startswith(b"S07\t")]
+            yield [line for line in reading.others if not line.startswith(NOTES)]
 
 
 def paths(path: str) -> Iterator[list[bytes]]:

@@ -15,6 +15,8 @@ HELD = 100000
 OBJECTS = (b"object\t", b"undeclared\t", b"expected\t")
 LOSSES = (b"object\t", b"undeclared\t", b"file\t")
 EXPECTED = (b"expected\t",)
+# Objects whose root inventory is another one: of the same version, an older one or a newer one.
+MOVED = (b"changed\t", b"older\t", b"newer\t")
 # The cycle of what is open still.
 OPEN = 1 << 63
 
@@ -83,6 +85,12 @@ def kinds_gone(path: str | None) -> Counter[bytes]:
     count = Counter(line.partition(b"\t")[0] for line in losses_in(path))
     count[b"expected"] = sum(line.startswith(EXPECTED) for line in files.lines(path))
     return count
+
+
+def kinds_moved(path: str | None) -> Counter[bytes]:
+    """How many lines of each kind a list has of objects whose root inventory is another one."""
+    return Counter(line.partition(b"\t")[0] for line in (files.lines(path) if path else ())
+                   if line.startswith(MOVED))
 
 
 def open_findings(state: State) -> Iterator[bytes]:

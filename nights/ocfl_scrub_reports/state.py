@@ -21,7 +21,8 @@ from .shared import Failed, find_program, refuse_links
 NUMBERED = re.compile(r"([a-z]+)-([0-9]+)(\.gz)?")
 PART = re.compile("part-[0-9]{6,}")
 NOT_KNOWN = "not known"
-CHECKPOINT = b"ocfl-scrub checkpoint 1"
+# The first line of a checkpoint; the second is that of an audit with `--inventories`.
+CHECKPOINTS = (b"ocfl-scrub checkpoint 1", b"ocfl-scrub checkpoint 2")
 # A time before this one, in 2020, is that of a clock that was not set.
 NO_TIME = 1577836800
 # What lies in a folder of the scripts that made nights before the program did, and in one of the
@@ -140,7 +141,7 @@ class State:
         if not os.path.isfile(path):
             return {}
         rows = files.lines(path)
-        if next(rows, b"") != CHECKPOINT:
+        if next(rows, b"") not in CHECKPOINTS:
             raise Failed(path + " is not a checkpoint of this version")
         made: dict[str, list[str]] = {}
         last = ""
@@ -178,6 +179,10 @@ class State:
         """What the folder is bound to: the path of the `root`, what it `declared`."""
         found = self.checkpoint().get(name, [""])[0]
         return files.text_of(unquote_to_bytes(found)) if name == "root" else found
+
+    def options(self) -> list[str]:
+        """The options of the audit that the folder's nights make."""
+        return ["--inventories"] if self.bound_to("checks") == "inventories" else []
 
     def ends(self) -> dict[str, str]:
         """The ends of the part that the folder is about: `from` and `below`."""

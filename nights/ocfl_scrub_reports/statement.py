@@ -47,7 +47,8 @@ NAMES = [
     "Changed findings", "Former findings", "Repaired findings", "Repaired finding *",
     "Reason given *", "Repaired findings not listed",
     "Findings no longer looked at", "Objects gone", "Objects no longer declared", "Files gone",
-    "Files no longer looked at", "Objects back", "List of what is gone, SHA-256",
+    "Files no longer looked at", "Objects back", "Objects changed without a new version",
+    "Objects that went back", "Objects with a new version", "List of what is gone, SHA-256",
     "Expected objects listed", "Expected objects missing", "List of expected objects, SHA-256",
     "Objects gone and not back", "Objects no longer declared, and not back",
     "Files gone and not back", "Known losses",
@@ -57,7 +58,8 @@ NAMES = [
 # Lines that only some statements have.
 OPTIONAL = {"Part from", "Part below", "Not compared", "Also compared with cycle",
             "Report also compared with, SHA-256", "Files no longer looked at", "Objects back",
-            "Known losses", "List of known losses, SHA-256"}
+            "Objects changed without a new version", "Objects that went back",
+            "Objects with a new version", "Known losses", "List of known losses, SHA-256"}
 NUMBERS = {"Cycle", "Nights", "Nights cut", "Runs", "Files read", "Bytes read", "Places left out",
            "Report lines", "Broken lines", "Objects", "Objects without findings", "Content files",
            "Files found right", "Files not found right", "Bytes found right", "Findings",
@@ -65,13 +67,15 @@ NUMBERS = {"Cycle", "Nights", "Nights cut", "Runs", "Files read", "Bytes read", 
            "New findings that are known", "Changed findings", "Former findings",
            "Repaired findings", "Repaired findings not listed", "Findings no longer looked at",
            "Objects gone", "Objects no longer declared", "Files gone", "Files no longer looked at",
-           "Objects back", "Expected objects listed", "Expected objects missing",
+           "Objects back", "Objects changed without a new version", "Objects that went back",
+           "Objects with a new version", "Expected objects listed", "Expected objects missing",
            "Objects gone and not back", "Objects no longer declared, and not back",
            "Files gone and not back", "Known losses"}
 # Lines whose values are places, which are written as in reports.
 PLACES = re.compile("Part (from|below)|(Place|Why) left out .*|Repaired finding .*")
 NOT_LOOKED_AT = ("versions, states and ids of inventories; inventories of versions; logs and "
                  "extensions; files of objects whose inventory cannot be used")
+NOT_LOOKED_AT_FURTHER = NOT_LOOKED_AT.replace(" inventories of versions;", "")
 NOT_SAID = ("whether bytes came from the medium or from a cache; whether the clock was right; what "
             "became of a file after it was read")
 MANY = re.compile("(Findings|Place left out|Why left out|Repaired finding|Reason given) "
@@ -79,6 +83,10 @@ MANY = re.compile("(Findings|Place left out|Why left out|Repaired finding|Reason
 # What a list of what is gone has, and the lines that count it.
 KINDS = {"Objects gone": b"object", "Objects no longer declared": b"undeclared",
          "Files gone": b"file"}
+# The same of objects whose root inventory is another one: only what an audit that checks the
+# inventories of versions has noted is compared.
+MOVED = {"Objects changed without a new version": b"changed", "Objects that went back": b"older",
+         "Objects with a new version": b"newer"}
 NOT_BACK = {b"object": "Objects gone and not back", b"file": "Files gone and not back",
             b"undeclared": "Objects no longer declared, and not back"}
 
@@ -301,6 +309,14 @@ def of_gone(cycle: Cycle, listed: str | None) -> dict[str, str]:
     return made
 
 
+def of_moved(cycle: Cycle, listed: str | None, count: Count) -> dict[str, str]:
+    """How many objects have another root inventory than before, as the list says; nothing if no
+    root inventory was noted."""
+    kinds, is_known = standing.kinds_moved(listed), bool(cycle.closing.compared and listed)
+    return {name: at_least(kinds[kind], is_known) for name, kind in MOVED.items()
+            if count.noted or kinds}
+
+
 def of_runs(state: State, cycle: Cycle) -> dict[str, str]:
     """A time that no verification of the cycle is older than, and the programs of its nights. If no
     row says that the cycle began, a night that was killed may have none: the cycle may have begun
@@ -375,11 +391,13 @@ def facts_of(state: State, cycle: Cycle, known: Known) -> Statement:
     made.update(count.facts())
     made.update(changes_of(state, cycle, count, report, known))
     made.update(of_gone(cycle, gone))
+    made.update(of_moved(cycle, gone, count))
     made["List of what is gone, SHA-256"] = files.digest_of(gone) if gone else "no list"
     made.update(of_program())
     made.update(of_runs(state, cycle))
     made["Statement before, SHA-256"] = files.digest_of(before) if before else "no statement"
-    made["Not looked at"], made["Not said"] = NOT_LOOKED_AT, NOT_SAID
+    made["Not looked at"] = NOT_LOOKED_AT_FURTHER if count.noted else NOT_LOOKED_AT
+    made["Not said"] = NOT_SAID
     return made
 
 

@@ -8,10 +8,10 @@ from .counts import (ALSO_COMPARED, CHANGED, CHANGES, COMPARED, NEW_AND_KNOWN, R
                      Count, of_changes, of_lines)
 from .log import kinds_in
 from .shared import Failed, refuse_links
-from .standing import kinds_gone
+from .standing import kinds_gone, kinds_moved
 from .state import NOT_KNOWN, cycle_name, find
-from .statement import (ADDED, GUESSING, KINDS, NAMES, NOT_BACK, OPTIONAL, Statement, as_json,
-                        kind_of, at_least, of_known, plain)
+from .statement import (ADDED, GUESSING, KINDS, MOVED, NAMES, NOT_BACK, OPTIONAL, Statement,
+                        as_json, kind_of, at_least, of_known, plain)
 
 GONE = {**KINDS, "Expected objects missing": b"expected"}
 # What statements of the forms before said of losses without knowing whether anything was compared.
@@ -61,7 +61,9 @@ class Check:
         report = cycle_name("cycle" if is_whole else "incomplete", self.cycle)
         self.facts.update(count.facts(), Cycle=str(self.cycle), Report=report,
                           Whole="yes" if is_whole else "no")
-        self.find_gone(self.beside("gone", self.cycle, LIST_OF_GONE, *GONE))
+        gone = self.beside("gone", self.cycle, LIST_OF_GONE, *GONE, *MOVED)
+        self.find_gone(gone)
+        self.find_moved(gone, count)
         known = self.beside("known", self.cycle, LIST_OF_KNOWN, "Known losses")
         self.facts.update(of_known(files.read(known) if known else b""))
         before = self.beside("statement", self.cycle - 1, BEFORE)
@@ -140,6 +142,14 @@ class Check:
                 continue
             if count[kind] or said[:1].isdecimal() and (path or said.strip("0")):
                 self.facts[name] = at_least(count[kind], not said.startswith("at least"))
+
+    def find_moved(self, path: str | None, count: Count) -> None:
+        """Which objects have another root inventory, if root inventories were noted."""
+        kinds = kinds_moved(path)
+        if LIST_OF_GONE not in self.lacking and (count.noted or kinds):
+            for name, kind in MOVED.items():
+                is_known = self.said.get(name, "")[:1].isdecimal()
+                self.facts[name] = at_least(kinds[kind], is_known)
 
     # What the statement says
 

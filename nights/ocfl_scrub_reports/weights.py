@@ -2,6 +2,7 @@
 from __future__ import annotations
 
 import os
+import re
 from typing import Iterable
 
 from . import files
@@ -13,6 +14,17 @@ CAN_BE_MISSING = (b"E092", b"E093")
 HIDING = frozenset(
     b"E001 E003 E015 E017 E018 E023 E024 E025 E033 E036 E041 E063 E069 E072 E073 E076 S01 S02 S03 "
     b"S04 S05 S08".split())
+# The codes of an inventory by its sidecars, and the place of one in a version directory, as
+# crates/ocfl_codes/specs/Inventories.antt says: there its lines are said of that file.
+BY_SIDECAR = frozenset((b"E058", b"E060", b"E061"))
+VERSION_INVENTORY = re.compile(rb".+/v[0-9]+/inventory\.json")
+# What these mean there and what to do first, as `meaning_at` and `first_step_at` of ocfl_codes say.
+VERSION_WORDS = {b"E058": "its sidecar is missing", b"E060": "differs from its sidecar",
+                 b"E061": "its sidecar cannot be used"}
+WRITE_AGAIN = "compare it with a copy, and write its sidecar again if it is right"
+VERSION_STEPS = {
+    b"E058": WRITE_AGAIN, b"E061": WRITE_AGAIN,
+    b"E060": "compare it and its sidecar with a copy, and restore the one that has changed"}
 TABLE = os.path.join(os.path.dirname(os.path.abspath(__file__)), "codes")
 
 
@@ -45,15 +57,33 @@ class Weights:
 
     def is_of_object(self, code: bytes, path: bytes, detail: bytes) -> bool:
         """Whether this line is of an object itself; the lines of its files follow it."""
-        return path != b"." and (detail == b"-" if code == b"ok" else code in self.of_objects)
+        return path != b"." and (detail == b"-" if code == b"ok" else code in self.of_objects
+                                 and not is_of_version(code, path))
 
-    def meaning(self, code: bytes, detail: bytes | None) -> str:
+    def is_of_file(self, code: bytes, path: bytes) -> bool:
+        """Whether this line, which is not `ok`, is of a content file, or of the inventory in a
+        version directory."""
+        return code in self.of_files or is_of_version(code, path)
+
+    def step(self, code: bytes, meaning: str) -> str:
+        """What to do first about findings of this code that mean this."""
+        steps = self.steps if meaning != VERSION_WORDS.get(code) else VERSION_STEPS
+        return steps.get(code, "")
+
+    def meaning(self, code: bytes, path: bytes, detail: bytes | None) -> str:
         """What a finding means, in words; empty if the table does not say it. Without its detail
         nobody knows whether a file is missing."""
+        if is_of_version(code, path):
+            return VERSION_WORDS[code]
         if code in CAN_BE_MISSING and detail is None:
             return self.words.get(code, "") + ", or missing"
         is_missing = code in CAN_BE_MISSING and (detail or b"").endswith(b" missing")
         return "missing" if is_missing else self.words.get(code, "")
+
+
+def is_of_version(code: bytes, path: bytes) -> bool:
+    """Whether this line says of the inventory in a version directory what its sidecars say."""
+    return code in BY_SIDECAR and VERSION_INVENTORY.fullmatch(path) is not None
 
 
 class Known:

@@ -20,7 +20,7 @@ from gate.repository import TOP
 sys.path.insert(0, os.path.join(TOP, "nights"))
 
 from nights.tests.test_reports import Folder
-from ocfl_scrub_reports import command, standing, state, statement, status
+from ocfl_scrub_reports import command, report, standing, state, statement, status
 
 ZEROS = "0" * 64
 ONE = b"ok\t.\t-\nok\to\t-\nE092\to/a\tsha512 x y\nok\to/b\t3\nok\tp\t-\nok\tp/a\t1\nE072\tq\t-\n"
@@ -39,14 +39,16 @@ def night_of(day):
 class Program:
     """The folder of the program's nights, made by hand."""
 
-    def __init__(self, path, root="/srv/ocfl", part="", has_slices=True, cycle=3):
+    def __init__(self, path, root="/srv/ocfl", part="", has_slices=True, cycle=3, checks=False):
         self.path, self.has_slices, self.costs = path, has_slices, []
         os.makedirs(path + "/reports")
         self.rows = []
         self.put("lock", b"")
-        body = ("ocfl-scrub checkpoint 1\nroot %s\ndeclared %s\nnames 3 %s\nphase open\nwhole yes\n"
+        version, part = (2, part + "checks inventories\n") if checks else (1, part)
+        body = ("ocfl-scrub checkpoint %d\nroot %s\ndeclared %s\nnames 3 %s\nphase open\nwhole yes\n"
                 "report 0 0\npieces %s\ntail %s\ntold 0\nleft 0\n%scycle %d\nruns 1\nspent 6\n"
-                "files 1\nafter o\n" % (root, "d" * 64, ZEROS, ZEROS, ZEROS, part, cycle)).encode()
+                "files 1\nafter o\n"
+                % (version, root, "d" * 64, ZEROS, ZEROS, ZEROS, part, cycle)).encode()
         self.put("checkpoint", body + b"sha256 %s\n" % hashlib.sha256(body).hexdigest().encode())
 
     def put(self, name, data):
@@ -275,6 +277,64 @@ class Questions(Asked):
                     self.assertFalse(os.path.lexists(self.at("made")))
                 os.remove(path)
                 os.rename(path + ".kept", path)
+
+
+class RootInventories(Asked):
+    """A cycle in which root inventories were noted."""
+
+    BEFORE = b"ok\t.\t-\n" + b"".join(
+        b"ok\t%s\t-\nS09\t%s\tsha512 aa v2\n" % (it, it) for it in (b"o", b"p", b"q", b"r"))
+    NOW = BEFORE.replace(b"S09\to\tsha512 aa v2", b"S09\to\tsha512 bb v2").replace(
+        b"S09\tp\tsha512 aa v2", b"S09\tp\tsha512 bb v1").replace(
+        b"S09\tq\tsha512 aa v2", b"S09\tq\tsha512 bb v10")
+
+    def setUp(self):
+        super().setUp()
+        self.made = Program(self.at("state"))
+        self.made.slice(1, 1, 1, 9, 9, 0, "ended")
+        self.made.close(1, 1, self.BEFORE)
+        self.made.log_night(1)
+        self.made.slice(2, 2, 1, 9, 18, 0, "ended", 9)
+        self.made.close(2, 2, self.NOW, b"changed\to\nolder\tp\nnewer\tq\n")
+        self.made.log_night(2, 1)
+
+    def statement(self, cycle):
+        self.assertEqual(self.ask("statement", self.made.path, cycle), (0, "", ""))
+        path = self.made.path + "/reports/statement-%06d" % cycle
+        self.assertEqual(self.ask("verify", path)[0], 0)
+        with open(path) as file:
+            return path, file.read()
+
+    def test_a_statement_counts_them(self):
+        _, text = self.statement(1)
+        self.assertIn("\nObjects that went back: not known\n", text)
+        path, text = self.statement(2)
+        for row in ["Objects changed without a new version: 1", "Objects that went back: 1",
+                    "Objects with a new version: 1", "Objects gone: 0", "Findings: 0"]:
+            self.assertIn("\n%s\n" % row, text)
+        self.assertNotIn("inventories of versions", text)
+        with open(path, "w") as file:
+            file.write(text.replace("Objects that went back: 1", "Objects that went back: 0"))
+        status, out, _ = self.ask("verify", path)
+        self.assertEqual(status, 1)
+        self.assertIn("Objects that went back", out)
+
+    def test_pages_tell_of_them(self):
+        self.statement(1)
+        self.statement(2)
+        for name, words in (("page", []), ("cycle", [2])):
+            out = self.ask(name, self.made.path, *words)[1].lower()
+            self.assertIn("without a new version", out)
+            self.assertIn("back", out)
+
+    def test_none_of_them_is_gone(self):
+        self.assertEqual(list(standing.losses(state.State(self.made.path))), [])
+        self.statement(1)
+        self.statement(2)
+        _, out, _ = self.ask("premis", "--each", "object", self.made.path, 2)
+        for words in ["changed without a new version: o", "went back to an older version: p"]:
+            self.assertIn(words, out)
+        self.assertNotIn("gone: ", out)
 
 
 class WithoutSlices(Asked):
@@ -587,9 +647,23 @@ class Checkpoint(Asked):
         given, _, err = self.ask("statement", made.path, 1)
         self.assertEqual((given, "checkpoint is refused by the program" in err), (3, True))
 
+    def test_of_an_audit_with_inventories(self):
+        """Such a checkpoint is of version 2, and has one line more."""
+        made = Program(self.at("state"), part="from a\nbelow end\n", checks=True)
+        folder = state.open_state(made.path)
+        self.assertEqual(folder.bound_to("root"), "/srv/ocfl")
+        self.assertEqual(folder.ends(), {"from": "a", "below": "end"})
+        [stands] = folder.standing()
+        self.assertEqual((stands.cycle, stands.runs, stands.spent, stands.files, stands.stands),
+                         (3, 1, 6, 1, "after o"))
+        made.keep_checkpoint(3, ONE)
+        with open(made.path + "/reports/checkpoint-000003") as kept:
+            mark = report.mark_in(kept.read().split("\n"), "checkpoint-000003")
+        self.assertEqual((mark.bytes, mark.lines), (len(ONE), 7))
+
     def test_of_another_version(self):
         made = Program(self.at("state"))
-        for text in (b"", b"ocfl-scrub checkpoint 2\nroot /\n"):
+        for text in (b"", b"ocfl-scrub checkpoint 3\nroot /\n"):
             made.put("checkpoint", text)
             made.night(1, 1, 1, 3, 9)
             given, out, _ = self.ask("status", made.path)

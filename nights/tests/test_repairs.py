@@ -276,6 +276,52 @@ class Repairs(Asked):
         self.assertIn("# its inventory cannot be read, or names no algorithm of sidecars",
                       self.repair()[1])
 
+    def test_an_inventory_of_a_version(self):
+        """What it must be the sidecar beside it says. It is no inventory of its object."""
+        name, root = "o/v1/inventory.json", self.read("o/inventory.json")
+        right = b'{"head": "v1"}'
+        self.write(name, right)
+        self.write(name + ".sha512", b"%s inventory.json\n" % sum_of(right).encode())
+        shutil.rmtree(self.copy)
+        shutil.copytree(self.root, self.copy)
+        for found in ("E060\t%s\tsha512 %s %s" % (name, sum_of(right), sum_of(b"")),
+                      "S08\t%s\t-" % name):
+            self.write(name, b"")
+            self.finds(found)
+            status, lines = self.repair("--copy", self.copy)
+            self.assertEqual((status, self.run_commands(lines), self.read(name)), (0, 1, right))
+        os.remove(os.path.join(self.root, name + ".sha512"))
+        self.finds("S08\t%s\t-" % name)
+        status, lines = self.repair("--copy", self.copy)
+        self.assertEqual((status, self.run_commands(lines)), (1, 0))
+        self.assertIn("# no sidecar beside it says what it must be", lines)
+        self.assertEqual(self.read("o/inventory.json"), root)
+
+    def test_the_newest_inventory(self):
+        """That of the newest version is the root inventory, if that has the digest of its sidecar."""
+        path = "o/v2/inventory.json"
+        right = self.read(path)
+        self.write(path, b"{}")
+        digests = "sha512 %s %s" % (sum_of(right), sum_of(b"{}"))
+        self.finds("E060\t%s\t%s" % (path, digests), "E064\t%s\t%s" % (path, digests))
+        status, lines = self.repair()
+        self.assertIn("# in this root: o/inventory.json", lines)
+        self.assertEqual((status, self.run_commands(lines), self.read(path)), (0, 1, right))
+
+    def test_a_sidecar_of_a_version(self):
+        """It must name the digest of the inventory beside it. That this is another one than that of
+        the object no copy repairs."""
+        path = "o/v2/inventory.json"
+        right = self.read(path + ".sha512")
+        self.write(path + ".sha512", b"x")
+        self.finds("E061\t%s\tsha512" % path, "E064\t%s\tsha512 x y" % path)
+        self.assertEqual(self.repair()[0], 1)
+        status, lines = self.repair("--copy", self.copy)
+        self.assertEqual((status, self.run_commands(lines), self.read(path + ".sha512")),
+                         (0, 1, right))
+        self.finds("E064\t%s\tsha512 x y" % path)
+        self.assertEqual(self.repair(), (0, ["# no copy repairs 1 finding: E064 1"]))
+
     def test_a_declaration(self):
         """All files of an object without one are one line."""
         lost = ["o/inventory.json", "o/inventory.json.sha512", *(

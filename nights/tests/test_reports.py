@@ -150,7 +150,7 @@ class Questions(Folder):
                          [True, False, True, True, True, False, True, False, False, True])
 
     def test_a_note_is_no_finding(self):
-        path = self.put(b"S07\to\tx\nS08\to/a\t-\n")
+        path = self.put(b"S07\to\tx\nS09\to\tsha512 aa v1\nS08\to/a\t-\n")
         self.assertEqual(list(report.findings(path)), [[b"S08\to/a\t-"]])
 
     def test_a_finding_beside_an_object_is_not_within_it(self):
@@ -163,6 +163,27 @@ class Questions(Folder):
                                (None, "not known")]:
             self.assertEqual(counts.Count(path, left).facts()["Objects without findings"],
                              expected)
+
+    def test_an_inventory_of_a_version_is_a_file(self):
+        weights, there = Weights(), b"o/v1/inventory.json"
+        for code in (b"E058", b"E060", b"E061"):
+            for path, is_version in ((there, True), (b"a/o/v010/inventory.json", True),
+                                     (b"v1/inventory.json", False), (b"o/v/inventory.json", False),
+                                     (b"o", False), (b"o/v1/b/inventory.json", False)):
+                self.assertEqual(weights.is_of_object(code, path, b"-"), not is_version, path)
+                self.assertEqual(weights.is_of_file(code, path), is_version, path)
+        self.assertEqual(weights.meaning(b"E060", there, b"sha512 a b"), "differs from its sidecar")
+        self.assertEqual(weights.meaning(b"E060", b"o", b"sha512 a b"),
+                         "its inventory and the sidecar differ")
+        self.assertNotIn("newest", weights.step(b"E058", weights.meaning(b"E058", there, b"-")))
+        self.assertIn("newest", weights.step(b"E058", weights.meaning(b"E058", b"o", b"-")))
+        path = self.put(b"ok\to\t-\nS09\to\tsha512 aa v1\nE058\to/v1/inventory.json\t-\n"
+                        b"ok\to/v2/inventory.json\t5\n")
+        self.assertEqual([it for some in report.objects(path) for it in some], [b"o", b"o"])
+        facts = counts.Count(path, []).facts()
+        self.assertEqual([facts[name] for name in (
+            "Objects", "Objects without findings", "Content files", "Files found right",
+            "Findings")], ["1", "0", "2", "1", "1"])
 
     def test_weights(self):
         weights = Weights()

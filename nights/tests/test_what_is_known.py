@@ -705,6 +705,17 @@ class Rechecked(Told):
             "repaired\tE072\tp/o/v1/inventory.json\t-", "no longer looked at\tE072\tp/o/x\t-",
             "new\tE001\tp/o/x\t-", "no longer looked at\tE072\tr/x\t-"]))
 
+    def test_with_inventories(self):
+        """The program is asked to check what the nights of the folder do."""
+        self.made = Program(self.at("with"), part="checks inventories\n")
+        self.cycle(1, b"ok\to\t-\nE060\to/v1/inventory.json\tsha512 x y\n")
+        self.put(b"#!/bin/sh\nshift; echo \"$@\" >> %s\nprintf 'ok\\t.\\t-\\n'\n"
+                 % self.at("asked").encode(), "program")
+        self.ask("recheck", self.made.path)
+        with open(self.at("asked")) as asked:
+            self.assertEqual(asked.read(), "--inventories -- /srv/ocfl .\n"
+                             "--inventories -- /srv/ocfl o/v1/inventory.json\n")
+
     def test_without_the_root(self):
         self.put(b"E069\t.\t-\nok\to/a\t3\nok\tq\t-\n", "now")
         given, out, err = self.ask("recheck", self.made.path)

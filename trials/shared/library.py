@@ -280,8 +280,8 @@ DAMAGES: list[Damage] = [
     Damage("removed", remove, "object"),
     Damage("removed with parents", remove_with_parents, "object"),
 ]
-# What a night cannot see, since it looks at neither inventories in version directories nor at who
-# wrote an inventory.
+# What a night without `--inventories` cannot see, since it looks at neither inventories in version
+# directories nor at what a root inventory was before.
 UNSEEN: list[Damage] = [
     Damage("inventory of a version flipped", flip_of_version, ""),
     Damage("inventory of a version deleted", lose_of_version, ""),

@@ -7,6 +7,7 @@ use ocfl_joining::{
     CycleEnd, FoundReport, KeptMark, RunCount, add_runs, facts_of, facts_with, is_emptied,
     join_status, known_part, last_of_all, mark_of, mark_with, read_facts,
 };
+use ocfl_report::Further;
 use ocfl_state::{
     Checkpoint, Left, NotShown, Phase, ReportMark, RootIdentity, TopNames, checkpoint_lines,
     checkpoint_reads_back, decode_checkpoint, encode_checkpoint, every_checkpoint_fits,
@@ -39,6 +40,19 @@ after o/v1/content/a
 
 /// The SHA-256 of all these lines, by `sha256sum`.
 const DIGEST: &str = "cbb44e94eb3662aba258c26594e167a4cb4760b9ca98538285f7ed6ebb391159";
+
+/// The first line of a checkpoint of an audit that checks the inventories of versions.
+const CHECKING_FIRST: &str = "ocfl-scrub checkpoint 2\n";
+
+/// What such a checkpoint has before the line of the cycle.
+const CHECKS: &str = "checks inventories\n";
+
+/// The SHA-256 of that first line and the lines above with this one, by `sha256sum`.
+const CHECKING_DIGEST: &str = "0fd7a1ba6c31f107122d13ad900441ff5b89e79d7a201f412ad9add41faa7f1f";
+
+/// The same of the part from `b` to `d`.
+const CHECKING_PART_DIGEST: &str =
+    "ce69f9dee26d97515978803634a51d4f166937e4dcd70cb87b275522b3941f92";
 
 /// The lines of a part's checkpoint that is closing, after two branches were left out.
 const PART_LINES: &str = "root /mnt/r%C3%A9 %25/ocfl
@@ -100,6 +114,11 @@ const MALFORMED: [(&str, &str); 26] = [
 
 /// The checkpoint after a first slice.
 fn checkpoint(alloc: Global) -> Result<Checkpoint, Fail> {
+    checkpoint_of(alloc, Further::Nothing)
+}
+
+/// The same of an audit that checks this further.
+fn checkpoint_of(alloc: Global, further: Further) -> Result<Checkpoint, Fail> {
     let place = place_of(alloc, "o/v1/content/a")?;
     Ok(Checkpoint {
         root: RootIdentity {
@@ -121,7 +140,7 @@ fn checkpoint(alloc: Global) -> Result<Checkpoint, Fail> {
         told: 60,
         left: Vec::new(alloc),
         part: None,
-        cursor: Cursor::from_parts(1, 1, 4, 1, State::After(place)).ok_or("a cursor")?,
+        cursor: Cursor::from_parts(1, 1, 4, 1, further, State::After(place)).ok_or("a cursor")?,
     })
 }
 
@@ -156,7 +175,7 @@ fn part_checkpoint(alloc: Global) -> Result<Checkpoint, Fail> {
         told: u64::MAX,
         left,
         part: Some(ends_of(alloc, "start", "z")?),
-        cursor: Cursor::from_parts(7, 2, 9, 3, State::Ended).ok_or("a cursor")?,
+        cursor: Cursor::from_parts(7, 2, 9, 3, Further::Nothing, State::Ended).ok_or("a cursor")?,
     })
 }
 
@@ -185,10 +204,10 @@ fn sealed_refusal(alloc: Global, body: &str) -> Result<Option<Refused>, Fail> {
 fn expect_text(
     rt: &impl Runtime,
     checkpoint: &Checkpoint,
-    (lines, digest): (&str, &str),
+    (first, lines, digest): (&str, &str, &str),
 ) -> Result<(), Fail> {
     let alloc = rt.alloc();
-    let wanted = format!(in alloc; "{FIRST}{lines}sha256 {digest}\n")?;
+    let wanted = format!(in alloc; "{first}{lines}sha256 {digest}\n")?;
     let text = encode_checkpoint(alloc, checkpoint)?;
     assert_eq!(rt; text.as_slice(), wanted.as_bytes(), "{digest}");
     let shown = checkpoint_lines(alloc, checkpoint)?;
@@ -206,8 +225,60 @@ fn expect_text(
 #[test]
 fn checkpoints_have_these_texts(rt: HostRuntime) -> Result<(), Fail> {
     let alloc = rt.alloc();
-    expect_text(&rt, &checkpoint(alloc)?, (LINES, DIGEST))?;
-    expect_text(&rt, &part_checkpoint(alloc)?, (PART_LINES, PART_DIGEST))?;
+    expect_text(&rt, &checkpoint(alloc)?, (FIRST, LINES, DIGEST))?;
+    let texts = (FIRST, PART_LINES, PART_DIGEST);
+    expect_text(&rt, &part_checkpoint(alloc)?, texts)?;
+    Ok(())
+}
+
+/// The lines of the first checkpoint with these before the line of the cycle.
+fn lines_with(alloc: Global, added: &str) -> Result<String, Fail> {
+    let (before, after) = LINES.split_once("cycle").ok_or("the line is there")?;
+    Ok(format!(in alloc; "{before}{added}cycle{after}")?)
+}
+
+#[test]
+fn checkpoints_tell_what_is_checked(rt: HostRuntime) -> Result<(), Fail> {
+    let alloc = rt.alloc();
+    let mut checking = checkpoint_of(alloc, Further::Inventories)?;
+    let lines = lines_with(alloc, CHECKS)?;
+    let texts = (CHECKING_FIRST, lines.as_str(), CHECKING_DIGEST);
+    expect_text(&rt, &checking, texts)?;
+    checking.part = Some(ends_of(alloc, "b", "d")?);
+    let lines = lines_with(alloc, "from b\nbelow d\nchecks inventories\n")?;
+    let texts = (CHECKING_FIRST, lines.as_str(), CHECKING_PART_DIGEST);
+    expect_text(&rt, &checking, texts)?;
+    let text = encode_checkpoint(alloc, &checking)?;
+    let read = decode_checkpoint(alloc, &text)?;
+    assert_eq!(rt; read.cursor.further(), Further::Inventories);
+    let shown = show_stored(alloc, &text).ok().ok_or("shown")?;
+    assert_eq!(rt; shown.as_slice(), lines.as_bytes());
+    Ok(())
+}
+
+#[test]
+fn lines_of_a_checkpoint_fit_its_version(rt: HostRuntime) -> Result<(), Fail> {
+    let alloc = rt.alloc();
+    for (first, added, wanted) in [
+        (FIRST, "", None),
+        (CHECKING_FIRST, CHECKS, None),
+        (FIRST, CHECKS, Some(Refused::Malformed)),
+        (CHECKING_FIRST, "", Some(Refused::Malformed)),
+        (
+            CHECKING_FIRST,
+            "checks versions\n",
+            Some(Refused::Malformed),
+        ),
+        (
+            CHECKING_FIRST,
+            "checks inventories\nfrom b\nbelow d\n",
+            Some(Refused::Malformed),
+        ),
+    ] {
+        let body = format!(in alloc; "{first}{}", lines_with(alloc, added)?)?;
+        let refused = sealed_refusal(alloc, body.as_str())?;
+        assert_eq!(rt; refused, wanted, "{first}{added}");
+    }
     Ok(())
 }
 
@@ -254,7 +325,7 @@ const OTHER_BYTES: [(&str, &str, Refused); 10] = [
     ("the name of the tool", "ocfl-scrub ", NOT_CHECKPOINT),
     ("a cursor", "ocfl-scrub cursor 2\n", NOT_CHECKPOINT),
     ("no version", "ocfl-scrub checkpoint \n", Refused::Version),
-    ("version 2", "ocfl-scrub checkpoint 2\n", Refused::Version),
+    ("version 3", "ocfl-scrub checkpoint 3\n", Refused::Version),
     ("version 01", "ocfl-scrub checkpoint 01\n", Refused::Version),
     ("version 10", "ocfl-scrub checkpoint 10\n", Refused::Version),
     (
@@ -273,9 +344,9 @@ fn other_bytes_are_no_checkpoint(rt: HostRuntime) -> Result<(), Fail> {
         let refused = refusal_of(alloc, bytes.as_bytes());
         assert_eq!(rt; refused, Some(wanted), "{row}");
     }
-    let body = format!(in alloc; "ocfl-scrub checkpoint 2\n{LINES}")?;
+    let body = format!(in alloc; "ocfl-scrub checkpoint 3\n{LINES}")?;
     let refused = sealed_refusal(alloc, body.as_str())?;
-    assert_eq!(rt; refused, Some(Refused::Version), "version 2, sealed");
+    assert_eq!(rt; refused, Some(Refused::Version), "version 3, sealed");
     Ok(())
 }
 

@@ -398,6 +398,115 @@ fn what_is_gone_depends_on_what_is_around(rt: HostRuntime) -> Result<(), Fail> {
     Ok(())
 }
 
+/// What two reports note of a root inventory, and what became of it.
+const INVENTORIES: [(&str, &str, &str); 18] = [
+    ("sha512 aa v1", "sha512 aa v1", ""),
+    ("sha512 aa v1", "sha512 bb v1", "changed\to\n"),
+    ("sha512 aa v2", "sha512 bb v1", "older\to\n"),
+    ("sha512 aa v1", "sha512 bb v2", "newer\to\n"),
+    // Versions are numbers, whatever zeros they begin with.
+    ("sha512 aa v9", "sha512 bb v10", "newer\to\n"),
+    ("sha512 aa v10", "sha512 bb v9", "older\to\n"),
+    ("sha512 aa v0009", "sha512 bb v0010", "newer\to\n"),
+    ("sha512 aa v1", "sha512 bb v01", "changed\to\n"),
+    (
+        "sha512 aa v18446744073709551614",
+        "sha512 bb v18446744073709551615",
+        "newer\to\n",
+    ),
+    // One that is too great, or no version at all, is neither older nor newer.
+    (
+        "sha512 aa v2",
+        "sha512 bb v18446744073709551616",
+        "changed\to\n",
+    ),
+    ("sha512 aa v2", "sha512 bb head", "changed\to\n"),
+    ("sha512 aa v2", "sha512 bb", "changed\to\n"),
+    ("sha512 aa", "sha512 bb v2", "changed\to\n"),
+    ("sha512 aa", "sha512 aa", ""),
+    ("sha512 aa v 2", "sha512 bb v 1", "changed\to\n"),
+    // An inventory names its algorithm, so another one is of another inventory.
+    ("sha256 aa v1", "sha512 bb v1", "changed\to\n"),
+    ("sha256 aa v1", "sha512 bb v2", "newer\to\n"),
+    ("sha512 aa v3", "sha256 bb v2", "older\to\n"),
+];
+
+#[test]
+fn another_root_inventory_is_of_a_version(rt: HostRuntime) -> Result<(), Fail> {
+    let alloc = rt.alloc();
+    for (before, now, wanted) in INVENTORIES {
+        let before = format!(in alloc; "ok\to\t-\nS09\to\t{before}\n")?;
+        let now = format!(in alloc; "E101\to\ta\nS09\to\t{now}\n")?;
+        let text = changes(alloc, before.as_str(), now.as_str(), &[])?;
+        let found = format!(in alloc; "E101\to\n{wanted}")?;
+        assert_eq!(rt; text.as_str(), found.as_str(), "{before}{now}");
+        assert_eq!(rt;
+            changes(
+                alloc,
+                before.as_str(),
+                now.as_str(),
+                &[place_of(alloc, "o")?]
+            )?
+            .as_str(),
+            ""
+        );
+    }
+    Ok(())
+}
+
+/// Two reports of which at most one notes what a root inventory is, and what changed between them.
+const NOTED_ONCE: [(&str, &str, &str); 5] = [
+    ("ok\to\t-\n", "ok\to\t-\nS09\to\tsha512 aa v1\n", ""),
+    ("ok\to\t-\nS09\to\tsha512 aa v1\n", "ok\to\t-\n", ""),
+    ("S09\to\tsha512 aa v1\n", "E033\to\t-\n", "E033\to\n"),
+    ("S09\to\tsha512 aa v1\n", "", "object\to\n"),
+    ("", "S09\to\tsha512 aa v1\n", ""),
+];
+
+#[test]
+fn a_note_alone_says_nothing(rt: HostRuntime) -> Result<(), Fail> {
+    let alloc = rt.alloc();
+    for (before, now, wanted) in NOTED_ONCE {
+        let text = changes(alloc, before, now, &[])?;
+        assert_eq!(rt; text.as_str(), wanted, "{before}{now}");
+    }
+    Ok(())
+}
+
+/// Two reports with lines of inventories in version directories, and what changed between them.
+const OF_VERSIONS: [(&str, &str, &str); 4] = [
+    (
+        "ok\to\t-\nE060\to/v1/inventory.json\tsha512 aa bb\n",
+        "ok\to\t-\nok\to/v1/inventory.json\t5\n",
+        "repaired E060\to/v1/inventory.json\n",
+    ),
+    (
+        "ok\to\t-\nok\to/v1/inventory.json\t5\n",
+        "ok\to\t-\nE058\to/v1/inventory.json\t-\n",
+        "E058\to/v1/inventory.json\n",
+    ),
+    (
+        "ok\to\t-\nE058\to/v1/inventory.json\t-\n",
+        "ok\to\t-\n",
+        "file\to/v1/inventory.json\n",
+    ),
+    (
+        "ok\to\t-\nE061\to/v1/inventory.json\tsha512\n",
+        "",
+        "object\to\nunlooked\to/v1/inventory.json\n",
+    ),
+];
+
+#[test]
+fn an_inventory_of_a_version_is_no_object(rt: HostRuntime) -> Result<(), Fail> {
+    let alloc = rt.alloc();
+    for (before, now, wanted) in OF_VERSIONS {
+        let text = changes(alloc, before, now, &[])?;
+        assert_eq!(rt; text.as_str(), wanted, "{before}{now}");
+    }
+    Ok(())
+}
+
 #[test]
 fn a_list_of_what_is_gone_has_a_row_for_each(rt: HostRuntime) -> Result<(), Fail> {
     let alloc = rt.alloc();
@@ -411,10 +520,14 @@ fn a_list_of_what_is_gone_has_a_row_for_each(rt: HostRuntime) -> Result<(), Fail
         Change::Found(Code::E092),
         Change::Repaired(Code::E092),
         Change::Missing,
+        Change::Rewritten,
+        Change::WentBack,
+        Change::NewVersion,
     ] {
         assert_eq!(rt; list.take(&place, change), Ok(()), "{change:?}");
     }
-    let wanted = b"object\ta%25b\nundeclared\ta%25b\nfile\ta%25b\nexpected\ta%25b\n";
+    let wanted = b"object\ta%25b\nundeclared\ta%25b\nfile\ta%25b\nexpected\ta%25b\nchanged\ta%25b\n\
+        older\ta%25b\nnewer\ta%25b\n";
     assert_eq!(rt; list.out.as_slice(), wanted.as_slice());
     let mut full = GoneList::new(alloc, Narrow::new(alloc, 3));
     assert_eq!(rt; full.take(&place, Change::Gone), Err(TakeStop::Failed));

@@ -1,6 +1,7 @@
 //! Cursors and their text, refusals, limits and meters.
 use crate::tests::common::cursors::{
-    BODY, DIGEST, LINES, OLD_BODY, OLD_DIGEST, OLD_LINES, old_text, sealed, whole_text,
+    BODY, CHECKING_BODY, CHECKING_LINES, DIGEST, LINES, OLD_BODY, OLD_DIGEST, OLD_LINES,
+    checking_text, old_text, sealed, whole_text,
 };
 use crate::tests::common::input::{Slow, Then, expect_failures};
 use crate::tests::common::store::place_of;
@@ -9,7 +10,7 @@ use ocfl_cursor::{
     Budget, Cursor, CursorStop, FileLimit, Limits, Meter, Refused, State, TextKind, cursor_lines,
     cursor_reads_back, decode, encode, read_cursor,
 };
-use ocfl_report::DisplayPlace;
+use ocfl_report::{DisplayPlace, Further};
 use ocfl_tree::{Name, Place};
 use std::alloc::Global;
 use std::fmt::Display;
@@ -33,8 +34,10 @@ fn long_place(alloc: Global, count: usize) -> Result<Place, Fail> {
     Ok(place)
 }
 
-fn cursor_behind(place: Place) -> Result<Cursor, Fail> {
-    Ok(Cursor::from_parts(1, 1, 0, 0, State::After(place)).ok_or("a place of at most 255 names")?)
+fn cursor_behind(further: Further, place: Place) -> Result<Cursor, Fail> {
+    let state = State::After(place);
+    let cursor = Cursor::from_parts(1, 1, 0, 0, further, state);
+    Ok(cursor.ok_or("a place of at most 255 names")?)
 }
 
 /// The sealed text of a cursor that begins so and is after this place.
@@ -50,16 +53,20 @@ fn refusal_of(alloc: Global, text: &[u8]) -> Option<Refused> {
 #[test]
 fn texts_have_their_lengths(rt: HostRuntime) -> Result<(), Fail> {
     let alloc = rt.alloc();
-    assert_eq!(rt; encode(alloc, &Cursor::new())?.len(), 129);
-    let root = Cursor::from_parts(1, 0, 0, 0, State::After(Place::root(alloc))).ok_or("the root")?;
-    assert_eq!(rt; encode(alloc, &root)?.len(), 131);
-    let long = cursor_behind(long_place(alloc, 255)?)?;
-    let text = encode(alloc, &long)?;
-    assert_eq!(rt; text.len(), 195_459);
-    assert_eq!(rt;
-        decode(alloc, &text)?.state(),
-        &State::After(long_place(alloc, 255)?)
-    );
+    for (further, new, behind_the_root, longest) in [
+        (Further::Nothing, 129, 131, 195_459),
+        (Further::Inventories, 148, 150, 195_478),
+    ] {
+        assert_eq!(rt; encode(alloc, &Cursor::new(further))?.len(), new);
+        let root = cursor_behind(further, Place::root(alloc))?;
+        assert_eq!(rt; encode(alloc, &root)?.len(), behind_the_root);
+        let long = cursor_behind(further, long_place(alloc, 255)?)?;
+        let text = encode(alloc, &long)?;
+        assert_eq!(rt; text.len(), longest);
+        let read = decode(alloc, &text)?;
+        assert_eq!(rt; read.further(), further);
+        assert_eq!(rt; read.state(), &State::After(long_place(alloc, 255)?));
+    }
     Ok(())
 }
 
@@ -68,11 +75,27 @@ fn texts_have_their_lengths(rt: HostRuntime) -> Result<(), Fail> {
 fn writes_seven_lines(rt: HostRuntime) -> Result<(), Fail> {
     let alloc = rt.alloc();
     let state = State::After(place_of(alloc, "o/v1/content/c")?);
-    let cursor = Cursor::from_parts(3, 2, 9, 3, state).ok_or("a cursor")?;
+    let cursor = Cursor::from_parts(3, 2, 9, 3, Further::Nothing, state).ok_or("a cursor")?;
     let text = encode(alloc, &cursor)?;
     assert_eq!(rt; text.len(), 144);
     assert_eq!(rt; text, whole_text(alloc)?);
     assert_eq!(rt; cursor_lines(alloc, &cursor)?.as_slice(), LINES.as_bytes());
+    Ok(())
+}
+
+#[test]
+fn writes_eight_lines_of_inventories(rt: HostRuntime) -> Result<(), Fail> {
+    let alloc = rt.alloc();
+    let text = checking_text(alloc)?;
+    let cursor = decode(alloc, &text)?;
+    assert_eq!(rt; cursor.further(), Further::Inventories);
+    assert_eq!(rt; (cursor.cycle(), cursor.runs()), (3, 2));
+    assert_eq!(rt; (cursor.spent(), cursor.files()), (9, 3));
+    let place = place_of(alloc, "o/v1/content/c")?;
+    assert_eq!(rt; cursor.state(), &State::After(place));
+    assert_eq!(rt; encode(alloc, &cursor)?, text);
+    let lines = cursor_lines(alloc, &cursor)?;
+    assert_eq!(rt; lines.as_slice(), CHECKING_LINES.as_bytes());
     Ok(())
 }
 
@@ -82,15 +105,22 @@ fn reads_what_is_written(rt: HostRuntime) -> Result<(), Fail> {
     let cursor = decode(alloc, &whole_text(alloc)?)?;
     assert_eq!(rt; (cursor.cycle(), cursor.runs()), (3, 2));
     assert_eq!(rt; (cursor.spent(), cursor.files()), (9, 3));
+    assert_eq!(rt; cursor.further(), Further::Nothing);
     let place = place_of(alloc, "o/v1/content/c")?;
     assert_eq!(rt; cursor.into_state(), State::After(place));
-    for (row, state) in [
-        ("at the start", State::Start),
-        ("after the root", State::After(Place::root(alloc))),
-        ("at the end", State::Ended),
+    for (row, further, state) in [
+        ("at the start", Further::Nothing, State::Start),
+        (
+            "after the root",
+            Further::Inventories,
+            State::After(Place::root(alloc)),
+        ),
+        ("at the end", Further::Nothing, State::Ended),
     ] {
-        let cursor = Cursor::from_parts(u64::MAX, u64::MAX, 7, 7, state).ok_or("a cursor")?;
+        let cursor = Cursor::from_parts(u64::MAX, u64::MAX, 7, 7, further, state);
+        let cursor = cursor.ok_or("a cursor")?;
         let read = cursor_reads_back(alloc, &cursor)?;
+        assert_eq!(rt; read.further(), further, "{row}");
         assert_eq!(rt; (read.cycle(), read.runs()), (u64::MAX, u64::MAX), "{row}");
         assert_eq!(rt; (read.spent(), read.files()), (7, 7), "{row}");
         assert_eq!(rt; read.state(), cursor.state(), "{row}");
@@ -106,6 +136,7 @@ fn reads_version_one(rt: HostRuntime) -> Result<(), Fail> {
     let cursor = decode(alloc, &text)?;
     assert_eq!(rt; (cursor.cycle(), cursor.runs()), (3, 2));
     assert_eq!(rt; (cursor.spent(), cursor.files()), (9, 0));
+    assert_eq!(rt; cursor.further(), Further::Nothing);
     let shown = cursor_lines(alloc, &cursor)?;
     assert_eq!(rt; shown.as_slice(), OLD_LINES.as_bytes());
     let place = place_of(alloc, "o/v1/content/c")?;
@@ -159,6 +190,7 @@ fn expect_damaged_at(
 #[test]
 fn refuses_texts_that_are_cut_or_changed(rt: HostRuntime) -> Result<(), Fail> {
     for (version, whole) in [
+        ("version 3", checking_text(rt.alloc())?),
         ("version 2", whole_text(rt.alloc())?),
         ("version 1", old_text(rt.alloc())?),
     ] {
@@ -178,8 +210,8 @@ fn refusal_with(alloc: Global, body: &str, from: &str, to: &str) -> Result<Optio
 #[test]
 fn refuses_other_texts(rt: HostRuntime) -> Result<(), Fail> {
     let alloc = rt.alloc();
-    let third = refusal_with(alloc, BODY, "cursor 2", "cursor 3")?;
-    assert_eq!(rt; third, Some(Refused::Version));
+    let fourth = refusal_with(alloc, BODY, "cursor 2", "cursor 4")?;
+    assert_eq!(rt; fourth, Some(Refused::Version));
     // A carriage return in the first line is part of the version.
     let returns = refusal_with(alloc, BODY, "\n", "\r\n")?;
     assert_eq!(rt; returns, Some(Refused::Version));
@@ -199,7 +231,7 @@ fn refuses_other_texts(rt: HostRuntime) -> Result<(), Fail> {
 /// What is put in place of a text, each with a name.
 type Changes = (&'static str, &'static [(&'static str, &'static str)]);
 
-/// What is put for what in the body of either version, so that no cursor has it.
+/// What is put for what in the body of each version, so that no cursor has it.
 const CHANGES: [Changes; 7] = [
     (
         "cycle 3\n",
@@ -289,6 +321,34 @@ const FILES_CHANGES: [Changes; 3] = [
     ("cursor 2\n", &[("files in version 1", "cursor 1\n")]),
 ];
 
+/// What is put for the line of the inventories, or for the first line, so that no cursor has it.
+const CHECKING_CHANGES: [Changes; 3] = [
+    (
+        "checks inventories\n",
+        &[
+            ("no line of the inventories", ""),
+            ("two of them", "checks inventories\nchecks inventories\n"),
+            ("checks of something else", "checks versions\n"),
+            ("checks of nothing", "checks \n"),
+            ("a blank after the inventories", "checks inventories \n"),
+        ],
+    ),
+    (
+        "checks inventories\ncycle 3\n",
+        &[(
+            "the inventories after the cycle",
+            "cycle 3\nchecks inventories\n",
+        )],
+    ),
+    (
+        "cursor 3\n",
+        &[
+            ("inventories in version 2", "cursor 2\n"),
+            ("inventories in version 1", "cursor 1\n"),
+        ],
+    ),
+];
+
 /// Each of these changes makes a body that no cursor has.
 fn expect_malformed(
     rt: &impl Runtime,
@@ -309,7 +369,12 @@ fn expect_malformed(
 fn refuses_forms_of_no_cursor(rt: HostRuntime) -> Result<(), Fail> {
     expect_malformed(&rt, "version 2", BODY, &CHANGES)?;
     expect_malformed(&rt, "version 1", OLD_BODY, &CHANGES)?;
+    expect_malformed(&rt, "version 3", CHECKING_BODY, &CHANGES)?;
     expect_malformed(&rt, "version 2", BODY, &FILES_CHANGES)?;
+    expect_malformed(&rt, "version 3", CHECKING_BODY, &CHECKING_CHANGES)?;
+    // A text of version 3 has the line of the inventories.
+    let third = refusal_with(rt.alloc(), BODY, "cursor 2", "cursor 3")?;
+    assert_eq!(rt; third, Some(Refused::Malformed));
     // A text of version 1 has no such line, even of no files.
     let none = refusal_with(rt.alloc(), OLD_BODY, "spent 9\n", "spent 9\nfiles 0\n")?;
     assert_eq!(rt; none, Some(Refused::Malformed));
@@ -327,7 +392,11 @@ fn keeps_the_limits_of_a_cursor(rt: HostRuntime) -> Result<(), Fail> {
         ("9223372036854775809", false),
     ] {
         let counts = format!(in alloc; "runs 1\nspent {spent}\n")?;
-        for (version, whole) in [("version 2", BODY), ("version 1", OLD_BODY)] {
+        for (version, whole) in [
+            ("version 3", CHECKING_BODY),
+            ("version 2", BODY),
+            ("version 1", OLD_BODY),
+        ] {
             let body = whole.replace(alloc, "runs 2\nspent 9\n", counts.as_str())?;
             let read = decode(alloc, &sealed(alloc, body.as_str())?);
             assert_eq!(rt; read.is_ok(), fits, "spent {spent}, {version}");
@@ -341,41 +410,47 @@ fn keeps_the_limits_of_a_cursor(rt: HostRuntime) -> Result<(), Fail> {
     let front = "ocfl-scrub cursor 2\ncycle 1\nruns 1\nspent 0\nfiles 0\n";
     let text = text_behind(alloc, front, &long_place(alloc, 256)?)?;
     assert_eq!(rt; refusal_of(alloc, &text), Some(Refused::Malformed));
-    assert!(rt; Cursor::from_parts(0, 0, 0, 0, State::Start).is_none());
-    assert!(rt; Cursor::from_parts(1, 0, 1, 0, State::Start).is_none());
-    assert!(rt; Cursor::from_parts(1, 2, 1 << 64, 0, State::Ended).is_some());
-    assert!(rt; Cursor::from_parts(1, 2, (1 << 64) + 1, 0, State::Ended).is_none());
-    assert!(rt; Cursor::from_parts(1, 2, 9, 9, State::Ended).is_some());
-    assert!(rt; Cursor::from_parts(1, 2, 9, 10, State::Ended).is_none());
-    let too_deep = State::After(long_place(alloc, 256)?);
-    assert!(rt; Cursor::from_parts(1, 0, 0, 0, too_deep).is_none());
+    for further in [Further::Nothing, Further::Inventories] {
+        assert!(rt; Cursor::from_parts(0, 0, 0, 0, further, State::Start).is_none());
+        assert!(rt; Cursor::from_parts(1, 0, 1, 0, further, State::Start).is_none());
+        assert!(rt; Cursor::from_parts(1, 2, 1 << 64, 0, further, State::Ended).is_some());
+        assert!(rt; Cursor::from_parts(1, 2, (1 << 64) + 1, 0, further, State::Ended).is_none());
+        assert!(rt; Cursor::from_parts(1, 2, 9, 9, further, State::Ended).is_some());
+        assert!(rt; Cursor::from_parts(1, 2, 9, 10, further, State::Ended).is_none());
+        let too_deep = State::After(long_place(alloc, 256)?);
+        assert!(rt; Cursor::from_parts(1, 0, 0, 0, further, too_deep).is_none());
+    }
     Ok(())
 }
 
 #[test]
 fn moves_on(rt: HostRuntime) -> Result<(), Fail> {
     let behind = State::After(place_of(rt.alloc(), "a")?);
-    let one = Cursor::new().after_run(5, 2, behind).ok_or("a run")?;
+    let new = Cursor::new(Further::Inventories);
+    let one = new.after_run(5, 2, behind).ok_or("a run")?;
     let two = one.after_run(4, 1, State::Ended).ok_or("a second run")?;
     assert_eq!(rt; (two.cycle(), two.runs()), (1, 2));
     assert_eq!(rt; (two.spent(), two.files()), (9, 3));
     assert_eq!(rt; two.state(), &State::Ended);
+    assert_eq!(rt; two.further(), Further::Inventories);
     let mut taken = one;
     let behind = State::After(place_of(rt.alloc(), "a")?);
     assert_eq!(rt; taken.take_state(), behind);
     assert_eq!(rt; taken.state(), &State::Start);
     assert_eq!(rt; (taken.runs(), taken.spent(), taken.files()), (1, 5, 2));
+    assert_eq!(rt; taken.further(), Further::Inventories);
     let next = two.next_cycle().ok_or("a second cycle")?;
     assert_eq!(rt; (next.cycle(), next.runs()), (2, 0));
     assert_eq!(rt; (next.spent(), next.files()), (0, 0));
     assert_eq!(rt; next.state(), &State::Start);
-    let last = Cursor::from_parts(u64::MAX, u64::MAX, 0, 0, State::Ended);
+    assert_eq!(rt; next.further(), Further::Inventories);
+    let last = Cursor::from_parts(u64::MAX, u64::MAX, 0, 0, Further::Nothing, State::Ended);
     let last = last.ok_or("the last cursor")?;
     assert!(rt; last.next_cycle().is_none());
     assert!(rt; last.after_run(0, 0, State::Start).is_none());
     let too_much = (1 << 63) + 1;
-    assert!(rt; Cursor::new().after_run(too_much, 1, State::Start).is_none());
-    assert!(rt; Cursor::new().after_run(4, 5, State::Start).is_none());
+    assert!(rt; new.after_run(too_much, 1, State::Start).is_none());
+    assert!(rt; new.after_run(4, 5, State::Start).is_none());
     Ok(())
 }
 

@@ -4,6 +4,7 @@ use ocfl_cursor::{Refused, TextKind};
 use ocfl_endings::ending_text;
 use ocfl_item::Fault;
 use ocfl_kept::names::Names;
+use ocfl_report::Further;
 use ocfl_state::FolderTrouble;
 use ocfl_terms::{Halt, Refusal, Stop};
 use std::test::Fail;
@@ -41,6 +42,10 @@ fn nights_that_were_refused_say_why(rt: HostRuntime) -> Result<(), Fail> {
             Halt::Refused(Refusal::NamesGone { gone: 7, before: 9 }),
             "7 of the 9 names in /srv/root are gone: is its file system mounted? --force-root runs \
              it anyway. Nothing was run.\n",
+        ),
+        (
+            Halt::Refused(Refusal::OtherAudit(Further::Inventories)),
+            "/state: the folder's nights are of an audit with --inventories. Nothing was run.\n",
         ),
         (
             Halt::RootChanged,

@@ -5,6 +5,7 @@ use ocfl_given::planning::{find_plan, last_cost};
 use ocfl_given::waiting::find_wait;
 use ocfl_kept::stand::Standing;
 use ocfl_messages::Known;
+use ocfl_report::Further;
 use ocfl_scope::{Scope, ScopeStop};
 use ocfl_separators::{Separators, put_parts};
 use ocfl_terminal::paths::why_no_place;
@@ -80,7 +81,18 @@ fn paths_of_no_place_have_reasons(rt: HostRuntime) -> Result<(), Fail> {
     for (path, wanted) in [
         ("", "the path is empty: the storage root itself is '.'"),
         ("a//b", "the path has an empty name between two slashes"),
+        ("a//../b", "the path has an empty name between two slashes"),
         ("a/../b", "no name in the path may be '.' or '..'"),
+        ("a/.//b", "no name in the path may be '.' or '..'"),
+        (
+            "/a/../b",
+            "give the path below the storage root, without a slash at its beginning or end",
+        ),
+        (
+            "a//",
+            "give the path below the storage root, without a slash at its beginning or end",
+        ),
+        ("a\0/b", "the path has a name that no file can have"),
     ] {
         assert_eq!(rt; why_no_place(path), wanted);
     }
@@ -100,6 +112,7 @@ fn asked(alloc: Global, every: Option<u64>) -> Result<NightAsked, Fail> {
             every,
         },
         chosen: Chosen::All,
+        further: Further::Nothing,
         known: None,
         expected: None,
         create: false,

@@ -9,6 +9,7 @@ use ocfl_journal::noting::{Beside, OnDisk, Told, open_noting};
 use ocfl_kept::names::{About, Names};
 use ocfl_messages::Known;
 use ocfl_plan::Listener;
+use ocfl_report::Further;
 use ocfl_state::{
     Checkpoint, Left, Phase, ReportMark, RootIdentity, StateFolder, TopNames, encode_checkpoint,
 };
@@ -60,7 +61,9 @@ fn checkpoint(alloc: Global, runs: u64, branches: &[&str]) -> Result<Checkpoint,
         told: 0,
         left,
         part: None,
-        cursor: Cursor::from_parts(1, runs, spent, files, state).ok_or("a cursor")?,
+        cursor: Cursor::from_parts(1, runs, spent, files, Further::Nothing, state).ok_or(
+            "a cursor",
+        )?,
     })
 }
 

@@ -8,6 +8,7 @@ use clap::error::ErrorKind;
 use ocfl_arguments::{Asked, CommandStop, Split, Task, asked};
 use ocfl_cursor::{Budget, FileLimit, Limits};
 use ocfl_deed::Deed;
+use ocfl_report::Further;
 use std::alloc::{AllocError, Global};
 use std::test::Fail;
 
@@ -75,7 +76,12 @@ fn expect_task(
 
 /// A line asks for this run over the root `R` with the cursor `F`.
 fn expect_run(rt: &impl Runtime, row: &str, line: &str, limits: Limits) -> Result<(), Fail> {
-    expect_task(rt, row, line, (Deed::Run(limits), Some("R"), Some("F")))?;
+    expect_task(
+        rt,
+        row,
+        line,
+        (Deed::Run(Further::Nothing, limits), Some("R"), Some("F")),
+    )?;
     Ok(())
 }
 
@@ -116,7 +122,7 @@ fn reads_a_cycle(rt: HostRuntime) -> Result<(), Fail> {
             100000,
         ),
     ] {
-        let deed = Deed::Cycle(limits(budget, files)?, runs);
+        let deed = Deed::Cycle(Further::Nothing, limits(budget, files)?, runs);
         expect_task(&rt, row, line, (deed, Some("R"), None))?;
     }
     Ok(())
@@ -146,11 +152,15 @@ fn reads_a_run(rt: HostRuntime) -> Result<(), Fail> {
 fn reads_the_others(rt: HostRuntime) -> Result<(), Fail> {
     let place = String::from_str(rt.alloc(), "o/v1")?;
     for (row, line, wanted) in [
-        ("an audit", "audit R", (Deed::Audit, Some("R"), None)),
+        (
+            "an audit",
+            "audit R",
+            (Deed::Audit(Further::Nothing), Some("R"), None),
+        ),
         (
             "a check",
             "check R o/v1",
-            (Deed::Check(place), Some("R"), None),
+            (Deed::Check(Further::Nothing, place), Some("R"), None),
         ),
         ("a cursor", "show F", (Deed::Show, None, Some("F"))),
     ] {
@@ -187,6 +197,76 @@ fn reads_a_flag(rt: HostRuntime) -> Result<(), Fail> {
         );
     }
     Ok(())
+}
+
+/// What a deed checks beside what every audit checks. `None` if it is no audit.
+fn further_of(deed: &Deed) -> Option<Further> {
+    match deed {
+        Deed::Audit(further) | Deed::Run(further, _) => Some(*further),
+        Deed::Cycle(further, _, _) | Deed::Check(further, _) => Some(*further),
+        Deed::Show => None,
+    }
+}
+
+// Fails if `--inventories` of one of them does nothing, or is taken for another word.
+#[test]
+fn reads_inventories(rt: HostRuntime) -> Result<(), Fail> {
+    for (line, wanted) in [
+        ("audit --inventories R", Further::Inventories),
+        (
+            "audit --under o R --quiet --inventories",
+            Further::Inventories,
+        ),
+        (
+            "run --cursor C --budget 1 --inventories R",
+            Further::Inventories,
+        ),
+        (
+            "run --inventories --parts F --part 1 --cursor C --budget 1 R",
+            Further::Inventories,
+        ),
+        (
+            "cycle --budget 1 --runs 1 R --inventories",
+            Further::Inventories,
+        ),
+        ("check --inventories R p", Further::Inventories),
+        ("audit --quiet R", Further::Nothing),
+        ("audit inventories", Further::Nothing),
+        ("run --cursor inventories --budget 1 true", Further::Nothing),
+        ("check R inventories", Further::Nothing),
+    ] {
+        let task = read_task(rt.alloc(), line)?;
+        assert_eq!(rt; further_of(&task.deed), Some(wanted), "{line}");
+    }
+    Ok(())
+}
+
+#[test]
+fn refuses_other_inventories(rt: HostRuntime) {
+    let alloc = rt.alloc();
+    for line in [
+        "show --inventories F",
+        "codes --inventories",
+        "join --inventories --parts F --state S",
+        "--inventories audit R",
+        "audit --inventory R",
+    ] {
+        assert_eq!(rt;
+            fault(alloc, line),
+            Some(ErrorKind::UnknownArgument),
+            "{line}"
+        );
+    }
+    for line in [
+        "audit --inventories --inventories R",
+        "night --state S --inventories R --inventories",
+    ] {
+        assert_eq!(rt;
+            fault(alloc, line),
+            Some(ErrorKind::ArgumentConflict),
+            "{line}"
+        );
+    }
 }
 
 #[test]
@@ -269,6 +349,10 @@ fn answers_with_help(rt: HostRuntime) -> Result<(), Fail> {
                 "N as for the budget [default: 4611686018427387904]\n",
             ),
             ("cycle --help", "The most runs: 1 to 100000\n"),
+            (
+                "cycle --help",
+                "Also checks the inventories of version directories\n",
+            ),
         ],
     )
 }

@@ -13,6 +13,7 @@ use ocfl_cursor::{Budget, PartEnds, Refused};
 use ocfl_digest::Block;
 use ocfl_memory::{MemTree, Point};
 use ocfl_night::{Site, night};
+use ocfl_report::Further;
 use ocfl_state::{MemState, StateFolder, decode_checkpoint};
 use ocfl_terms::{Clock, Flushing, Halt, Made, NightEnd, Plan, Refusal, Stop};
 use ocfl_tree::Tree;
@@ -23,6 +24,7 @@ use std::test::Fail;
 
 mod lost;
 mod older;
+mod option;
 mod slices;
 mod troubled;
 
@@ -90,9 +92,15 @@ fn plan(files: Option<u64>, end: Option<u64>, create: bool) -> Result<Plan, Fail
 
 /// All of the root at a path.
 fn site(alloc: Global) -> Result<Site, Fail> {
+    site_to_check(alloc, Further::Nothing)
+}
+
+/// The same, with what is checked further.
+fn site_to_check(alloc: Global, further: Further) -> Result<Site, Fail> {
     Ok(Site {
         path: place_of(alloc, "srv/ocfl")?,
         ends: None,
+        further,
     })
 }
 
@@ -195,6 +203,7 @@ fn ending(end: &Halt) -> &'static str {
         Halt::Refused(Refusal::NoRoot) => "no root",
         Halt::Refused(Refusal::OtherRoot(_)) => "other root",
         Halt::Refused(Refusal::OtherPart) => "other part",
+        Halt::Refused(Refusal::OtherAudit(_)) => "other audit",
         Halt::Refused(Refusal::OtherDeclaration) => "other declaration",
         Halt::Refused(Refusal::NamesGone { .. }) => "names gone",
         Halt::Refused(Refusal::Older(_)) => "older",
@@ -454,15 +463,18 @@ fn expect_refused(
 }
 
 #[test]
-fn another_root_or_part_is_refused(rt: HostRuntime) -> Result<(), Fail> {
+fn another_root_part_or_audit_is_refused(rt: HostRuntime) -> Result<(), Fail> {
     let alloc = rt.alloc();
     let more = plan(Some(1), None, true)?;
-    for (path, from, want) in [
-        ("srv/ocfl2", None, "other root"),
-        ("srv", None, "other root"),
-        (".", None, "other root"),
-        ("srv/ocfl", Some("o"), "other part"),
-        ("srv/ocfl2", Some("o"), "other root"),
+    for (path, from, further, want) in [
+        ("srv/ocfl2", None, Further::Nothing, "other root"),
+        ("srv", None, Further::Nothing, "other root"),
+        (".", None, Further::Nothing, "other root"),
+        ("srv/ocfl", Some("o"), Further::Nothing, "other part"),
+        ("srv/ocfl2", Some("o"), Further::Nothing, "other root"),
+        ("srv/ocfl", None, Further::Inventories, "other audit"),
+        ("srv/ocfl", Some("o"), Further::Inventories, "other part"),
+        ("srv/ocfl2", None, Further::Inventories, "other root"),
     ] {
         let ends = match from {
             Some(path) => Some(PartEnds {
@@ -474,6 +486,7 @@ fn another_root_or_part_is_refused(rt: HostRuntime) -> Result<(), Fail> {
         let other = Site {
             path: place_of(alloc, path)?,
             ends,
+            further,
         };
         expect_refused(&rt, path, (&other, &[], &more), want)?;
         expect_refused(&rt, path, (&other, &[], &forced()?), want)?;
@@ -548,7 +561,7 @@ fn bytes_that_are_no_checkpoint_are_refused(rt: HostRuntime) -> Result<(), Fail>
     let text = right.checkpoint_bytes().ok_or("no checkpoint")?;
     for (row, place, byte, want) in [
         ("front", 0, b'x', "not a checkpoint"),
-        ("version", 22, b'2', "version"),
+        ("version", 22, b'3', "version"),
         ("a byte", 30, b'x', "damaged"),
     ] {
         let mut bytes = text.to_vec(alloc)?;

@@ -14,6 +14,7 @@ use ocfl_plan::{
     Budgeted, Hearing, Listener, Message, StopCalls, StopFile, Telling, closed_by, is_kept,
     is_logged, night_status, plan_of, run_status,
 };
+use ocfl_report::Further;
 use ocfl_state::MemState;
 use ocfl_terms::{Clock, Flushing, Halt, Made, NightEnd, Output, OutputFailed, Refusal};
 use ocfl_tree::Place;
@@ -34,6 +35,7 @@ fn asked(alloc: Global) -> Result<NightAsked, Fail> {
             every: None,
         },
         chosen: Chosen::All,
+        further: Further::Nothing,
         known: None,
         expected: None,
         create: false,
@@ -213,6 +215,7 @@ fn night_by<O: Output>(
     let site = Site {
         path: place_of(alloc, "srv/ocfl")?,
         ends: None,
+        further: asked.further,
     };
     Ok(night(
         alloc,
@@ -425,6 +428,12 @@ fn a_refused_night_leaves_anothers_log(rt: HostRuntime) -> Result<(), Fail> {
         (
             "of another part",
             Halt::Refused(Refusal::OtherPart),
+            false,
+            None,
+        ),
+        (
+            "of another audit",
+            Halt::Refused(Refusal::OtherAudit(Further::Inventories)),
             false,
             None,
         ),

@@ -64,10 +64,11 @@ const INTERRUPTED: Answer = Answer::Fails(ErrorKind::Interrupted);
 const FULL: Answer = Answer::Fails(ErrorKind::StorageFull);
 
 /// The codes, each as a report's line begins with it.
-const CODES: [&str; 37] = [
+const CODES: [&str; 39] = [
     "ok", "E001", "E003", "E007", "E015", "E017", "E018", "E023", "E024", "E025", "E033", "E036",
-    "E041", "E058", "E060", "E061", "E063", "E069", "E072", "E073", "E076", "E080", "E092", "E093",
-    "E096", "E097", "E099", "E100", "E101", "S01", "S02", "S03", "S04", "S05", "S06", "S07", "S08",
+    "E041", "E058", "E060", "E061", "E063", "E064", "E069", "E072", "E073", "E076", "E080", "E092",
+    "E093", "E096", "E097", "E099", "E100", "E101", "S01", "S02", "S03", "S04", "S05", "S06",
+    "S07", "S08", "S09",
 ];
 
 /// The code that a report's line has which begins so.
@@ -203,7 +204,7 @@ fn codes_are_named_and_found(rt: HostRuntime) -> Result<(), Fail> {
             place: Place::root(alloc),
             detail: String::new(alloc),
         };
-        let is_note = text == "ok" || text == "S07";
+        let is_note = text == "ok" || text == "S07" || text == "S09";
         assert_eq!(rt; line.is_finding(), !is_note, "{text}");
     }
     Ok(())
@@ -301,7 +302,7 @@ const NO_LINES: [(&str, &str); 37] = [
     ("a code of three letters", "E02\to\t-\n"),
     ("a code of five letters", "E0233\to\t-\n"),
     ("another code of OCFL", "E002\to\t-\n"),
-    ("another code of this project", "S09\to\t-\n"),
+    ("another code of this project", "S10\to\t-\n"),
     // No place.
     ("no place", "ok\t\t-\n"),
     ("a slash", "ok\t/\t-\n"),

@@ -25,3 +25,4 @@ mod seeded;
 mod seeded_parts;
 mod seeded_run;
 mod stop;
+mod with_inventories;

@@ -18,6 +18,16 @@ type Root = (
 /// Three objects, the second with a version.
 const OBJECTS: Root = (&["o1", "o2", "o3"], &[("o2/v1/content/f", "abc")]);
 
+/// The same, and inventories in the version directories of the second.
+const INVENTORIES: Root = (
+    &["o1", "o2", "o3"],
+    &[
+        ("o2/v1/inventory.json", "{}"),
+        ("o2/v1/inventory.json.sha512", "x"),
+        ("o2/v2/inventory.json", "{}"),
+    ],
+);
+
 /// Objects one level further down.
 const LEVELS: Root = (&["a/o1", "a/o2", "b/o3"], &[]);
 
@@ -67,7 +77,7 @@ fn split_text(alloc: Global, store: &mut MemTree, count: usize) -> Result<String
 type Cut = (&'static str, usize, &'static str, &'static str);
 
 /// Splits of storage roots.
-const CUTS: [(Root, &[Cut]); 6] = [
+const CUTS: [(Root, &[Cut]); 7] = [
     (
         OBJECTS,
         &[
@@ -77,6 +87,14 @@ const CUTS: [(Root, &[Cut]); 6] = [
             ("three of three", 3, "o2\no3\n", ";"),
             ("four of three", 4, "o2\no3\n", ";o1;o2;o3;"),
             ("ten of three", 10, "o2\no3\n", ";o1;o2;o3;"),
+        ],
+    ),
+    // What is in objects has no part in it, whatever an audit checks there.
+    (
+        INVENTORIES,
+        &[
+            ("two beside inventories", 2, "o2\n", ";"),
+            ("four beside inventories", 4, "o2\no3\n", ";o1;o2;o3;"),
         ],
     ),
     (

@@ -5,6 +5,7 @@ use ocfl_arguments::{Chosen, Task};
 use ocfl_cursor::{Budget, FileLimit, Limits, read_cursor};
 use ocfl_deed::Deed;
 use ocfl_digest::Block;
+use ocfl_report::Further;
 use ocfl_scope::Scope;
 use ocfl_scrub::Note;
 use ocfl_tasks::{Line, TaskCalls, TaskEnd, perform_and_store, reason_of, say_end, show_table};
@@ -84,7 +85,7 @@ fn run_task(alloc: Global, file: Option<&str>) -> Result<Task, Fail> {
     let budget = Budget::new(9).ok_or("no budget")?;
     let files = FileLimit::new(1).ok_or("no limit")?;
     Ok(Task {
-        deed: Deed::Run(Limits { budget, files }),
+        deed: Deed::Run(Further::Nothing, Limits { budget, files }),
         chosen: Chosen::All,
         root: None,
         file: match file {
@@ -160,19 +161,20 @@ fn said_of(alloc: Global, deed: &Deed, note: &Note, why: Option<&str>) -> String
 #[test]
 fn what_a_deed_ends_with_is_said(rt: HostRuntime) -> Result<(), Fail> {
     let alloc = rt.alloc();
-    let nothing = said_of(alloc, &Deed::Audit, &Note::Nothing, None);
+    let audit = Deed::Audit(Further::Nothing);
+    let nothing = said_of(alloc, &audit, &Note::Nothing, None);
     assert_eq!(rt; nothing.as_str(), "");
-    let empty = said_of(alloc, &Deed::Audit, &Note::EmptyBranch, None);
+    let empty = said_of(alloc, &audit, &Note::EmptyBranch, None);
     assert_eq!(rt; empty.as_str(), "say no item\n");
-    let check = Deed::Check(String::from_str(alloc, "a//b")?);
+    let check = Deed::Check(Further::Nothing, String::from_str(alloc, "a//b")?);
     let no_item = said_of(alloc, &check, &Note::NoItem, None);
     assert_eq!(rt; no_item.as_str(), "say no item at a//b\n");
     let bad = said_of(alloc, &check, &Note::BadPath, None);
     assert_eq!(rt; bad.as_str(), "say bad path\nsay words\n");
     let at = Note::StoppedAt(place_of(alloc, "a b")?);
-    let stopped = said_of(alloc, &Deed::Audit, &at, None);
+    let stopped = said_of(alloc, &audit, &at, None);
     assert_eq!(rt; stopped.as_str(), "say stopped at a b\n");
-    let with_why = said_of(alloc, &Deed::Audit, &at, Some("why"));
+    let with_why = said_of(alloc, &audit, &at, Some("why"));
     assert_eq!(rt; with_why.as_str(), "say stopped at a b\nsay a b: why\n");
     Ok(())
 }

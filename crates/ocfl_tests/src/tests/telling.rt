@@ -9,7 +9,7 @@ use ocfl_messages::{
     Found, Gravest, Heads, Known, KnownEntry, KnownStop, Night, Quoted, Reach, RefusalMessage,
     StopMessage, find_shown, night_text, read_known, refusal_text, stop_text,
 };
-use ocfl_report::{Line, TextStop, read_line};
+use ocfl_report::{Further, Line, TextStop, read_line};
 use std::alloc::Global;
 use std::test::Fail;
 
@@ -584,6 +584,14 @@ fn refusals_say_why(rt: HostRuntime) -> Result<(), Fail> {
             "S/checkpoint is older than S/reports, where cycle 7 is closed already. Put back the \
              newest checkpoint. If there is none, move its report to another folder, and copy the \
              last reports/checkpoint-N to checkpoint. Nothing was run.\n",
+        ),
+        (
+            RefusalMessage::OtherAudit(Further::Nothing),
+            "S: the folder's nights are of an audit without --inventories. Nothing was run.\n",
+        ),
+        (
+            RefusalMessage::OtherAudit(Further::Inventories),
+            "S: the folder's nights are of an audit with --inventories. Nothing was run.\n",
         ),
         (
             RefusalMessage::RootChanged,

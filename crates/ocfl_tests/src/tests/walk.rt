@@ -6,6 +6,7 @@ use crate::tests::common::roots::{ROOTS, built, missing_and_there, nested, right
 use crate::tests::common::store::{change, expect_listed, place_of};
 use ocfl_digest::Block;
 use ocfl_memory::{MemTree, Point};
+use ocfl_report::Further;
 use ocfl_tree::{Place, Tree};
 use ocfl_walk::{Fault, Pending, Walk, item_at, judge};
 use std::alloc::Global;
@@ -27,7 +28,7 @@ pub(crate) fn said(fault: Fault) -> Fail {
 pub(crate) fn entered(alloc: Global, store: &mut MemTree, after: &str) -> Result<Walk, Fail> {
     let place = place_of(alloc, after)?;
     let after = if after.is_empty() { None } else { Some(&place) };
-    Walk::start(alloc, store, None, after).map_err(said)
+    Walk::start(alloc, store, Further::Nothing, after).map_err(said)
 }
 
 /// The item at a place.
@@ -36,7 +37,7 @@ pub(crate) fn item<T: Tree>(
     store: &mut T,
     path: &str,
 ) -> Result<Option<Pending>, Fail> {
-    item_at(alloc, store, None, &place_of(alloc, path)?).map_err(said)
+    item_at(alloc, store, Further::Nothing, &place_of(alloc, path)?).map_err(said)
 }
 
 /// The lines that judging an item gives, as they are written, and its cost.
@@ -82,7 +83,7 @@ pub(crate) fn failed_place<T: Tree>(
     store: &mut T,
     path: &str,
 ) -> Result<Place, Fail> {
-    match item_at(alloc, store, None, &place_of(alloc, path)?) {
+    match item_at(alloc, store, Further::Nothing, &place_of(alloc, path)?) {
         Err(Fault::Store(place)) => Ok(place),
         _ => Err("no fault".into()),
     }

@@ -40,7 +40,7 @@ fn shown(alloc: Global, changes: &Changes) -> Result<String, Fail> {
 }
 
 /// Changes at places, and whether each is a finding that is known.
-const CHANGES: [(&str, Change, bool); 8] = [
+const CHANGES: [(&str, Change, bool); 12] = [
     ("a", Change::Gone, false),
     ("b", Change::Undeclared, false),
     ("c/f", Change::FileGone, false),
@@ -49,6 +49,10 @@ const CHANGES: [(&str, Change, bool); 8] = [
     ("p", Change::Found(Code::E101), false),
     ("q", Change::Found(Code::E101), true),
     ("r", Change::Repaired(Code::E101), false),
+    ("s", Change::Rewritten, false),
+    ("t", Change::WentBack, false),
+    ("u", Change::NewVersion, false),
+    ("v", Change::NewVersion, false),
 ];
 
 #[test]
@@ -68,6 +72,8 @@ fn each_change_is_counted_once(rt: HostRuntime) -> Result<(), Fail> {
     );
     assert_eq!(rt; changes.gone_count(), 4);
     assert_eq!(rt; (changes.unlooked, changes.repaired_count), (1, 1));
+    let moved = changes.moved;
+    assert_eq!(rt; (moved.rewritten, moved.went_back, moved.newer), (1, 1, 2));
     assert_eq!(rt; (changes.appeared_count, changes.known_count), (1, 1));
     assert_eq!(rt; noting.take_part().changes.gone_count(), 0);
     Ok(())

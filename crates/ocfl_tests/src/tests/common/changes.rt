@@ -14,6 +14,9 @@ pub fn changes_text(alloc: Global, changes: &[ChangeAt]) -> Result<String, Fail>
             Change::FileGone => text.extend_from_slice(b"file")?,
             Change::Unlooked => text.extend_from_slice(b"unlooked")?,
             Change::Missing => text.extend_from_slice(b"expected")?,
+            Change::Rewritten => text.extend_from_slice(b"changed")?,
+            Change::WentBack => text.extend_from_slice(b"older")?,
+            Change::NewVersion => text.extend_from_slice(b"newer")?,
             Change::Found(code) => text.extend_from_slice(code.text().as_bytes())?,
             Change::Repaired(code) => {
                 text.extend_from_slice(b"repaired ")?;

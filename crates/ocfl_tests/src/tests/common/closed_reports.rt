@@ -3,7 +3,7 @@ ghost use Rattle.std.proofs.lemmas.Bool.{false≢true};
 
 use ocfl_closed::OpenReport;
 use ocfl_cursor::{Cursor, State};
-use ocfl_report::read_place;
+use ocfl_report::{Further, read_place};
 use ocfl_state::{Checkpoint, Left, Phase, ReportMark, RootIdentity, TopNames, encode_checkpoint};
 use sha2::{Digest, Sha256};
 use std::alloc::Global;
@@ -61,7 +61,7 @@ pub fn closed_with(
         told: 0,
         left,
         part: None,
-        cursor: Cursor::from_parts(1, 1, 4, 1, State::Ended)?,
+        cursor: Cursor::from_parts(1, 1, 4, 1, Further::Nothing, State::Ended)?,
     };
     encode_checkpoint(alloc, &checkpoint).ok()
 }

@@ -19,10 +19,21 @@ pub const OLD_BODY: &str = "ocfl-scrub cursor 1\ncycle 3\nruns 2\nspent 9\nafter
 /// The SHA-256 of that, by `sha256sum`.
 pub const OLD_DIGEST: &str = "822836e04ff6618e0a7571237f0049f590a6f9890506f09338f0505902d351d7";
 
-/// What is shown of the first of these cursors, and of that of version 1.
+/// The same of version 3, of an audit that checks the inventories of versions.
+pub const CHECKING_BODY: &str = "ocfl-scrub cursor 3\nchecks inventories\n\
+    cycle 3\nruns 2\nspent 9\nfiles 3\nafter o/v1/content/c\n";
+
+/// The SHA-256 of that, by `sha256sum`.
+pub const CHECKING_DIGEST: &str =
+    "916840502fbca1329d44a9d683a6ffff5d6b796cea5c97378ecabe129c010ba6";
+
+/// What is shown of the first of these cursors, of that of version 1, and of that of version 3.
 pub const LINES: &str = "cycle 3\nruns 2\nspent 9\nfiles 3\nafter o/v1/content/c\n";
 
 pub const OLD_LINES: &str = "cycle 3\nruns 2\nspent 9\nfiles 0\nafter o/v1/content/c\n";
+
+pub const CHECKING_LINES: &str =
+    "checks inventories\ncycle 3\nruns 2\nspent 9\nfiles 3\nafter o/v1/content/c\n";
 
 /// The whole text.
 pub fn whole_text(alloc: Global) -> Result<Vec<u8>, Fail> {
@@ -32,6 +43,11 @@ pub fn whole_text(alloc: Global) -> Result<Vec<u8>, Fail> {
 /// The whole text of version 1.
 pub fn old_text(alloc: Global) -> Result<Vec<u8>, Fail> {
     Ok(format!(in alloc; "{OLD_BODY}digest {OLD_DIGEST}\n")?.into_bytes())
+}
+
+/// The whole text of version 3.
+pub fn checking_text(alloc: Global) -> Result<Vec<u8>, Fail> {
+    Ok(format!(in alloc; "{CHECKING_BODY}digest {CHECKING_DIGEST}\n")?.into_bytes())
 }
 
 /// The text with its right digest line.

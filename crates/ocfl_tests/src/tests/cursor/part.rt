@@ -1,12 +1,15 @@
 //! Cursors of one part of a storage root, and why their texts are refused.
 use super::{NOT_CURSOR, expect_reasons, long_place, refusal_of};
-use crate::tests::common::cursors::{LINES, ends_of, old_text, sealed, whole_text};
+use crate::tests::common::cursors::{
+    CHECKING_LINES, LINES, checking_text, ends_of, old_text, sealed, whole_text,
+};
 use crate::tests::common::store::place_of;
 use crate::tests::common::{Runtime, expect_shown};
 use ocfl_cursor::{
     Cursor, PartEnds, PartRefused, Refused, State, decode_part, encode_part, every_part_has_ends,
     is_same_part, part_reads_back, read_part_cursor,
 };
+use ocfl_report::Further;
 use std::alloc::Global;
 use std::test::Fail;
 
@@ -94,7 +97,7 @@ fn parts_are_named(rt: HostRuntime) -> Result<(), Fail> {
     for (row, from, below, named, digest) in PARTS {
         let ends = ends_of(alloc, from, below)?;
         every_part_has_ends(&ends);
-        let text = encode_part(alloc, &ends, &Cursor::new())?;
+        let text = encode_part(alloc, &ends, &Cursor::new(Further::Nothing))?;
         let wanted = format!(in alloc;
             "ocfl-scrub part cursor 1\n{named}cycle 1\nruns 0\nspent 0\nfiles 0\nstart\ndigest {digest}\n"
         )?;
@@ -137,9 +140,14 @@ fn cursors_of_parts_are_read_back(rt: HostRuntime) -> Result<(), Fail> {
         let below = below.strip_prefix("./").unwrap_or(below);
         let ends = ends_of(alloc, from, below)?;
         let place = place_of(alloc, "o/v1/content/c")?;
-        for state in [State::Start, State::After(place), State::Ended] {
-            let cursor = Cursor::from_parts(3, 2, 9, 3, state).ok_or("a cursor")?;
+        for (further, state) in [
+            (Further::Nothing, State::Start),
+            (Further::Inventories, State::After(place)),
+            (Further::Inventories, State::Ended),
+        ] {
+            let cursor = Cursor::from_parts(3, 2, 9, 3, further, state).ok_or("a cursor")?;
             let read = part_reads_back(alloc, &ends, &cursor)?;
+            assert_eq!(rt; read.further(), further, "{row}");
             assert_eq!(rt; (read.cycle(), read.runs()), (3, 2), "{row}");
             assert_eq!(rt; (read.spent(), read.files()), (9, 3), "{row}");
             assert_eq!(rt; read.state(), cursor.state(), "{row}");
@@ -150,8 +158,69 @@ fn cursors_of_parts_are_read_back(rt: HostRuntime) -> Result<(), Fail> {
         from: Some(long_place(alloc, 300)?),
         below: None,
     };
-    let read = part_reads_back(alloc, &ends, &Cursor::new())?;
+    let read = part_reads_back(alloc, &ends, &Cursor::new(Further::Nothing))?;
     assert_eq!(rt; read.cycle(), 1);
+    Ok(())
+}
+
+/// The texts of cursors of parts whose audits check the inventories of versions, and their SHA-256
+/// by `sha256sum`.
+const CHECKING: [(&str, &str, &str, &str); 2] = [
+    (
+        "b",
+        "d",
+        "ocfl-scrub part cursor 2\nfrom b\nbelow d\nchecks inventories\n\
+         cycle 3\nruns 2\nspent 9\nfiles 3\nafter o/v1/content/c\n",
+        "a46393aac913af79c2b348d6c9c2ec1e17e31b16e65cf1c4276e26846e90d829",
+    ),
+    (
+        "-",
+        "-",
+        "ocfl-scrub part cursor 2\nfrom start\nbelow end\nchecks inventories\n\
+         cycle 1\nruns 0\nspent 0\nfiles 0\nstart\n",
+        "5aa4abbd03150a0de0f2ba0a9a8058a2bbdc5382715a5f8143d1ddf6d1445483",
+    ),
+];
+
+#[test]
+fn parts_tell_what_is_checked(rt: HostRuntime) -> Result<(), Fail> {
+    let alloc = rt.alloc();
+    for (from, below, body, digest) in CHECKING {
+        let ends = ends_of(alloc, from, below)?;
+        let text = format!(in alloc; "{body}digest {digest}\n")?;
+        let cursor = decode_part(alloc, text.as_bytes(), &ends)?;
+        assert_eq!(rt; cursor.further(), Further::Inventories, "{from}");
+        let written = encode_part(alloc, &ends, &cursor)?;
+        assert_eq!(rt; written.as_slice(), text.as_bytes(), "{from}");
+        let refused = refusal_of(alloc, text.as_bytes());
+        assert_eq!(rt; refused, Some(NOT_CURSOR), "{from}");
+        // Damage is told in this version too.
+        let cut = &text.as_bytes()[..text.len() - 1];
+        let damaged = Some(PartRefused::Text(Refused::Damaged));
+        assert_eq!(rt; decode_part(alloc, cut, &ends).err(), damaged, "{from}");
+    }
+    Ok(())
+}
+
+#[test]
+fn lines_of_a_part_fit_its_version(rt: HostRuntime) -> Result<(), Fail> {
+    let alloc = rt.alloc();
+    for (version, lines, wanted) in [
+        (1, LINES, None),
+        (2, CHECKING_LINES, None),
+        (1, CHECKING_LINES, Some(Refused::Malformed)),
+        (2, LINES, Some(Refused::Malformed)),
+        (3, CHECKING_LINES, Some(NOT_CURSOR)),
+    ] {
+        let body = format!(in alloc; "ocfl-scrub part cursor {version}\nfrom b\nbelow d\n{lines}")?;
+        let refused = part_refusal(alloc, body.as_str())?;
+        assert_eq!(rt; refused, wanted.map(PartRefused::Text), "{body}");
+    }
+    // The line stands after those of the ends.
+    let before = "ocfl-scrub part cursor 2\nchecks inventories\nfrom b\nbelow d\n";
+    let body = format!(in alloc; "{before}{LINES}")?;
+    let malformed = Some(PartRefused::Text(Refused::Malformed));
+    assert_eq!(rt; part_refusal(alloc, body.as_str())?, malformed);
     Ok(())
 }
 
@@ -171,7 +240,8 @@ fn cursors_of_parts_may_be_long(rt: HostRuntime) -> Result<(), Fail> {
             below: Some(long_place(alloc, names + 1)?),
         };
         let place = long_place(alloc, names.min(255))?;
-        let cursor = Cursor::from_parts(3, 2, 9, 3, State::After(place)).ok_or("a cursor")?;
+        let state = State::After(place);
+        let cursor = Cursor::from_parts(3, 2, 9, 3, Further::Nothing, state).ok_or("a cursor")?;
         let text = encode_part(alloc, &ends, &cursor)?;
         assert!(rt; text.len() > least, "{row}");
         let mut reader = text.as_slice();
@@ -205,7 +275,7 @@ const NO_FIRST_LINES: [(&str, &str); 7] = [
     ("no first line", ""),
     ("no line feed", "ocfl-scrub part cursor 1"),
     ("a blank after the version", "ocfl-scrub part cursor 1 \n"),
-    ("version 2", "ocfl-scrub part cursor 2\n"),
+    ("version 3", "ocfl-scrub part cursor 3\n"),
     ("no version", "ocfl-scrub part cursor\n"),
     ("the first line of a whole root", "ocfl-scrub cursor 2\n"),
     ("ends come first", "from b\n"),
@@ -329,6 +399,7 @@ fn whole_roots_are_no_parts(rt: HostRuntime) -> Result<(), Fail> {
     let alloc = rt.alloc();
     let ends = ends_of(alloc, "-", "-")?;
     for (version, text) in [
+        ("version 3", checking_text(alloc)?),
         ("version 2", whole_text(alloc)?),
         ("version 1", old_text(alloc)?),
     ] {

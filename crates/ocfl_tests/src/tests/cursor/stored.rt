@@ -2,14 +2,15 @@
 use super::NOT_CURSOR;
 use crate::tests::common::Runtime;
 use crate::tests::common::cursors::{
-    BODY, LINES, OLD_LINES, cut, ends_of, old_text, sealed, whole_text,
+    BODY, CHECKING_BODY, CHECKING_LINES, LINES, OLD_LINES, checking_text, cut, ends_of, old_text,
+    sealed, whole_text,
 };
 use crate::tests::common::input::{Slow, Then, expect_failures};
 use ocfl_cursor::{
     Cursor, CursorStop, PartCursorStop, PartRefused, Refused, ShowStop, encode_part, part_lines,
     read_part_cursor, read_shown, read_stored_lines, stored_lines,
 };
-use ocfl_report::TextStop;
+use ocfl_report::{Further, TextStop};
 use std::test::Fail;
 
 /// The text of a cursor of the part from `o/v1/content/b` on, before its digest line.
@@ -18,6 +19,10 @@ const PART: &str = "ocfl-scrub part cursor 1\nfrom o/v1/content/b\nbelow end\n\
 
 /// Its lines.
 const PART_LINES: &str = "from o/v1/content/b\nbelow end\n\
+    cycle 3\nruns 2\nspent 9\nfiles 3\nafter o/v1/content/c\n";
+
+/// The lines of an audit's cursor of the same part, if it checks the inventories of versions.
+const CHECKING_PART_LINES: &str = "from o/v1/content/b\nbelow end\nchecks inventories\n\
     cycle 3\nruns 2\nspent 9\nfiles 3\nafter o/v1/content/c\n";
 
 /// Reading these bytes as the cursor of the part of these ends stops so.
@@ -122,7 +127,14 @@ fn bytes_without_end_are_no_cursor(rt: HostRuntime) -> Result<(), Fail> {
 #[test]
 fn stored_cursors_are_shown(rt: HostRuntime) -> Result<(), Fail> {
     let alloc = rt.alloc();
+    let checking_part = format!(in alloc; "ocfl-scrub part cursor 2\n{CHECKING_PART_LINES}")?;
     for (row, text, lines) in [
+        ("version 3", checking_text(alloc)?, CHECKING_LINES),
+        (
+            "version 2 of a part",
+            sealed(alloc, checking_part.as_str())?,
+            CHECKING_PART_LINES,
+        ),
         ("version 2", whole_text(alloc)?, LINES),
         ("version 1", old_text(alloc)?, OLD_LINES),
         ("a part", sealed(alloc, PART)?, PART_LINES),
@@ -132,7 +144,7 @@ fn stored_cursors_are_shown(rt: HostRuntime) -> Result<(), Fail> {
         assert_eq!(rt; shown.as_slice(), lines.as_bytes(), "{row}");
     }
     let ends = ends_of(alloc, "start", "end")?;
-    let lines = part_lines(alloc, &ends, &Cursor::new())?;
+    let lines = part_lines(alloc, &ends, &Cursor::new(Further::Nothing))?;
     let wanted = "from ./start\nbelow ./end\ncycle 1\nruns 0\nspent 0\nfiles 0\nstart\n";
     assert_eq!(rt; lines.as_slice(), wanted.as_bytes());
     let body = format!(in alloc; "ocfl-scrub part cursor 1\n{wanted}")?;
@@ -149,13 +161,13 @@ fn nothing_is_shown_of_other_bytes(rt: HostRuntime) -> Result<(), Fail> {
     for (row, text, wanted) in [
         ("no byte", Vec::new(alloc), of_whole(NOT_CURSOR)),
         (
-            "version 2 of a part's cursor",
-            sealed(alloc, "ocfl-scrub part cursor 2\n")?,
+            "version 3 of a part's cursor",
+            sealed(alloc, "ocfl-scrub part cursor 3\n")?,
             of_whole(NOT_CURSOR),
         ),
         (
-            "version 3",
-            sealed(alloc, "ocfl-scrub cursor 3\n")?,
+            "version 4",
+            sealed(alloc, "ocfl-scrub cursor 4\n")?,
             of_whole(Refused::Version),
         ),
         (
@@ -173,6 +185,11 @@ fn nothing_is_shown_of_other_bytes(rt: HostRuntime) -> Result<(), Fail> {
             sealed(alloc, "ocfl-scrub part cursor 1\n")?,
             ShowStop::Part(Refused::Malformed),
         ),
+        (
+            "version 2 of a part without lines",
+            sealed(alloc, "ocfl-scrub part cursor 2\n")?,
+            ShowStop::Part(Refused::Malformed),
+        ),
     ] {
         expect_unshown(&rt, row, &text, Then::Ends, wanted);
     }
@@ -187,13 +204,21 @@ fn nothing_is_shown_of_other_bytes(rt: HostRuntime) -> Result<(), Fail> {
 #[test]
 fn lines_of_cursors_are_read_by_themselves(rt: HostRuntime) -> Result<(), Fail> {
     let alloc = rt.alloc();
-    for (row, lines, of_a_part) in [
-        ("of the whole root", LINES, false),
-        ("of a part", PART_LINES, true),
+    for (row, lines, of_a_part, further) in [
+        ("of the whole root", LINES, false, Further::Nothing),
+        ("of a part", PART_LINES, true, Further::Nothing),
+        ("of version 3", CHECKING_LINES, false, Further::Inventories),
+        (
+            "of version 2 of a part",
+            CHECKING_PART_LINES,
+            true,
+            Further::Inventories,
+        ),
     ] {
         let (part, cursor) = read_stored_lines(alloc, lines.as_bytes())?;
         assert_eq!(rt; part.is_some(), of_a_part, "{row}");
         assert_eq!(rt; (cursor.cycle(), cursor.files()), (3, 3), "{row}");
+        assert_eq!(rt; cursor.further(), further, "{row}");
         let written = stored_lines(alloc, &part, &cursor)?;
         assert_eq!(rt; written.as_slice(), lines.as_bytes(), "{row}");
     }
@@ -204,6 +229,17 @@ fn lines_of_cursors_are_read_by_themselves(rt: HostRuntime) -> Result<(), Fail> 
             "cycle 3\nruns 2\nspent 9\nstart\n",
         ),
         ("a first line too", BODY),
+        ("a first line of version 3 too", CHECKING_BODY),
+        (
+            "the inventories twice",
+            "checks inventories\nchecks inventories\n\
+             cycle 1\nruns 0\nspent 0\nfiles 0\nstart\n",
+        ),
+        (
+            "the inventories before the ends",
+            "checks inventories\nfrom start\nbelow end\n\
+             cycle 1\nruns 0\nspent 0\nfiles 0\nstart\n",
+        ),
         (
             "one end",
             "from start\ncycle 1\nruns 0\nspent 0\nfiles 0\nstart\n",

@@ -3,6 +3,7 @@ use crate::tests::common::roots::{ROOTS, built, right_object};
 use ocfl_digest::Block;
 use ocfl_folder::{Answer, FsTree, ReadAnswer};
 use ocfl_memory::{MemSystem, MemTree, Point, Watch};
+use ocfl_report::Further;
 use ocfl_scrub::audited;
 use ocfl_tree::{Opening, Place, Tree};
 use std::alloc::{AllocError, Global};
@@ -119,7 +120,13 @@ fn folder(
 /// The status and the note of an audit of a store, and its report.
 fn audit<T: Tree>(alloc: Global, store: &mut T) -> Result<(u8, String, Vec<u8>), Fail> {
     let mut report = Vec::new(alloc);
-    let (status, note) = audited(alloc, store, &mut Block::new(alloc)?, &mut report);
+    let (status, note) = audited(
+        alloc,
+        store,
+        Further::Nothing,
+        &mut Block::new(alloc)?,
+        &mut report,
+    );
     Ok((status, format!(in alloc; "{note}")?, report))
 }
 

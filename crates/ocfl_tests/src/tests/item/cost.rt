@@ -8,6 +8,7 @@ use crate::tests::common::roots::{first_fails, long_file_fails, right_object};
 use crate::tests::common::store::{place_of, times_opened};
 use crate::tests::walk::{expect_item, expect_row, failed_place};
 use ocfl_memory::Point;
+use ocfl_report::Further;
 use ocfl_walk::{Fault, Walk};
 use std::alloc::Global;
 use std::test::Fail;
@@ -61,7 +62,8 @@ fn inventory_that_is_listed_and_not_found(rt: HostRuntime) -> Result<(), Fail> {
     let inventory = place_of(alloc, INVENTORY)?;
     let mut store = right_object_without(alloc, INVENTORY)?;
     assert!(rt; failed_place(alloc, &mut store, FILE)? == inventory);
-    let started = Walk::start(alloc, &mut store, None, Some(&place_of(alloc, FILE)?));
+    let place = place_of(alloc, FILE)?;
+    let started = Walk::start(alloc, &mut store, Further::Nothing, Some(&place));
     assert!(rt; matches!(started, Err(Fault::Store(failed)) if failed == inventory));
     Ok(())
 }

@@ -12,6 +12,7 @@ use ocfl_item::{
     visit_base, visit_entry, visit_path,
 };
 use ocfl_memory::MemTree;
+use ocfl_report::Further;
 use ocfl_tree::Name;
 use std::alloc::Global;
 use std::test::Fail;
@@ -42,7 +43,7 @@ fn listed(alloc: Global, store: &mut MemTree, path: &str) -> Result<Folder, Fail
 /// The object `o` with its table.
 fn object(alloc: Global, store: &mut MemTree) -> Result<Option<Around>, Fail> {
     let folder = listed(alloc, store, "o")?;
-    let (table, root) = table_of_object(alloc, store, None, &folder).map_err(said)?;
+    let (table, root) = table_of_object(alloc, store, Further::Nothing, &folder).map_err(said)?;
     let Some(table) = table else {
         return Ok(None);
     };
@@ -65,7 +66,8 @@ fn met(
     for entry in &folder.entries {
         if entry.name.as_str() == name {
             let place = folder.place.child(&entry.name)?;
-            return visit_entry(alloc, store, None, around, place, entry, &[]).map_err(said);
+            let further = Further::Nothing;
+            return visit_entry(alloc, store, further, around, place, entry, &[]).map_err(said);
         }
     }
     Err("no entry of this name".into())

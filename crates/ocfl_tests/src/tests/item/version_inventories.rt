@@ -6,8 +6,7 @@ use crate::tests::common::store::{change, opened_from, place_of};
 use crate::tests::walk::{judged, said};
 use ocfl_item::{Around, Fault, Visit, list, table_of_object, visit_entry};
 use ocfl_memory::{MemTree, Point};
-use ocfl_report::Code;
-use ocfl_rules::further::NewCodes;
+use ocfl_report::Further;
 use std::alloc::Global;
 use std::test::Fail;
 
@@ -45,14 +44,6 @@ const SHORT_CUT: &str =
 const LONG_FLIPPED: &str =
     "sha512 17243934ba1b3f31de3b3a74c834ec36b9b97d7c4e64594360cb26e1691e9afa901028a4a6f8eba16cdc82048ce0268842cad7ca7a99560655c8675a9b3b2a25 2401a0e93677e3a5186d31bccf6aa3493d6959a841ddca8fe245d44530e8a47c639fe101326f7e656dc1206afa1f70328c87cd200f6261fe5f294663c269e2f2";
 
-/// The option, with two codes that no other line here has.
-fn option() -> Option<NewCodes> {
-    Some(NewCodes {
-        differs: Code::E093,
-        is_now: Code::S05,
-    })
-}
-
 /// A storage root whose object `o` has this root inventory.
 fn root(alloc: Global, inventory: &str) -> Result<MemTree, Fail> {
     let mut store = bare_root(alloc)?;
@@ -64,7 +55,7 @@ fn root(alloc: Global, inventory: &str) -> Result<MemTree, Fail> {
 fn met(
     alloc: Global,
     store: &mut MemTree,
-    further: Option<NewCodes>,
+    further: Further,
     name: &str,
 ) -> Result<Result<Visit, Fault>, Fail> {
     let folder = list(store, place_of(alloc, "o")?).map_err(said)?;
@@ -92,7 +83,7 @@ fn met(
 fn lines_met(
     alloc: Global,
     store: &mut MemTree,
-    further: Option<NewCodes>,
+    further: Further,
     name: &str,
 ) -> Result<String, Fail> {
     let visit = met(alloc, store, further, name)?.map_err(said)?;
@@ -125,18 +116,18 @@ fn inventories_of_versions_are_compared_with_their_sidecars_and_the_root_invento
         (
             "flipped",
             &[(INVENTORY, FLIPPED), (SHORT, BESIDE_SHORT)],
-            "E060|INVENTORY|SHORT_FLIPPED\nE093|INVENTORY|SHORT_FLIPPED\n",
+            "E060|INVENTORY|SHORT_FLIPPED\nE064|INVENTORY|SHORT_FLIPPED\n",
         ),
         (
             "cut",
             &[(INVENTORY, CUT), (SHORT, BESIDE_SHORT)],
-            "E060|INVENTORY|SHORT_CUT\nE093|INVENTORY|SHORT_CUT\n",
+            "E060|INVENTORY|SHORT_CUT\nE064|INVENTORY|SHORT_CUT\n",
         ),
         ("no sidecar", &[(INVENTORY, RIGHT)], "E058|INVENTORY|-\n"),
         (
             "flipped without a sidecar",
             &[(INVENTORY, FLIPPED)],
-            "E058|INVENTORY|-\nE093|INVENTORY|SHORT_FLIPPED\n",
+            "E058|INVENTORY|-\nE064|INVENTORY|SHORT_FLIPPED\n",
         ),
         (
             "the sidecar of the other algorithm",
@@ -146,7 +137,7 @@ fn inventories_of_versions_are_compared_with_their_sidecars_and_the_root_invento
         (
             "flipped beside the sidecar of the other algorithm",
             &[(INVENTORY, FLIPPED), (LONG, BESIDE_LONG)],
-            "E060|INVENTORY|LONG_FLIPPED\nE093|INVENTORY|SHORT_FLIPPED\n",
+            "E060|INVENTORY|LONG_FLIPPED\nE064|INVENTORY|SHORT_FLIPPED\n",
         ),
         (
             "a sidecar that is not of the form",
@@ -162,7 +153,7 @@ fn inventories_of_versions_are_compared_with_their_sidecars_and_the_root_invento
     for (row, changes, want) in rows {
         let mut store = root(alloc, RIGHT)?;
         change(alloc, &mut store, changes)?;
-        let lines = lines_met(alloc, &mut store, option(), "inventory.json")?;
+        let lines = lines_met(alloc, &mut store, Further::Inventories, "inventory.json")?;
         assert_eq!(rt; lines.as_str(), said_of(alloc, want)?.as_str(), "{row}");
     }
     Ok(())
@@ -203,7 +194,7 @@ fn an_older_inventory_is_not_compared_with_the_root_inventory(rt: HostRuntime) -
     for (row, changes, want, opened) in rows {
         let mut store = root(alloc, NO_VERSION)?;
         change(alloc, &mut store, changes)?;
-        let lines = lines_met(alloc, &mut store, option(), "inventory.json")?;
+        let lines = lines_met(alloc, &mut store, Further::Inventories, "inventory.json")?;
         assert_eq!(rt; lines.as_str(), said_of(alloc, want)?.as_str(), "{row}");
         assert_eq!(rt;
             opened_from(alloc, &store, 1, "")?.as_str(),
@@ -220,9 +211,9 @@ fn without_the_option_an_inventory_of_a_version_is_left_alone(rt: HostRuntime) -
     let mut store = root(alloc, RIGHT)?;
     change(alloc, &mut store, &[(INVENTORY, FLIPPED), (SHORT, "x")])?;
     for (further, name) in [
-        (None, "inventory.json"),
-        (None, "inventory.json.sha256"),
-        (option(), "inventory.json.sha256"),
+        (Further::Nothing, "inventory.json"),
+        (Further::Nothing, "inventory.json.sha256"),
+        (Further::Inventories, "inventory.json.sha256"),
     ] {
         let before = store.openings().len();
         let lines = lines_met(alloc, &mut store, further, name)?;
@@ -246,7 +237,7 @@ fn a_sidecar_that_cannot_be_read_stops_there(rt: HostRuntime) -> Result<(), Fail
         change(alloc, &mut store, &files)?;
         let place = place_of(alloc, path)?;
         store.fail_at(&place, Point::Read(1))?;
-        match met(alloc, &mut store, option(), "inventory.json")? {
+        match met(alloc, &mut store, Further::Inventories, "inventory.json")? {
             Err(Fault::Store(failed)) => assert!(rt; failed == place, "{path}"),
             Err(Fault::Memory) | Ok(_) => return Err("no fault of the store".into()),
         }

@@ -7,6 +7,7 @@ use crate::tests::common::Runtime;
 use clap::error::ErrorKind;
 use ocfl_arguments::{Asked, Chosen, Split};
 use ocfl_deed::Deed;
+use ocfl_report::Further;
 use std::alloc::{AllocError, Global};
 use std::test::Fail;
 
@@ -72,9 +73,11 @@ fn chooses_items(rt: HostRuntime) -> Result<(), Fail> {
 #[test]
 fn takes_a_part_with_its_deed(rt: HostRuntime) -> Result<(), Fail> {
     let line = "audit --parts F --part 1 R";
-    expect_task(&rt, "an audit", line, (Deed::Audit, Some("R"), None))?;
+    let wanted = (Deed::Audit(Further::Nothing), Some("R"), None);
+    expect_task(&rt, "an audit", line, wanted)?;
     let line = "run --cursor C --budget 1 --parts F --part 2 --quiet R";
-    let wanted = (Deed::Run(limits(1, MOST)?), Some("R"), Some("C"));
+    let limits = limits(1, MOST)?;
+    let wanted = (Deed::Run(Further::Nothing, limits), Some("R"), Some("C"));
     let run = expect_task(&rt, "a run", line, wanted)?;
     assert!(rt; run.quiet);
     Ok(())
@@ -179,6 +182,11 @@ fn splits_by_either(rt: HostRuntime) -> Result<(), Fail> {
     for (name, line, count) in [
         ("into one", "split --parts 1 R", 1),
         ("into the most", "split R --parts 100000", 100000),
+        (
+            "for an audit with inventories",
+            "split --inventories --parts 2 R",
+            2,
+        ),
     ] {
         let root = String::from_str(rt.alloc(), "R")?;
         let wanted = Asked::Split(Split::Listing { count, root });
@@ -187,6 +195,11 @@ fn splits_by_either(rt: HostRuntime) -> Result<(), Fail> {
     for (name, line, budget) in [
         ("by the least budget", "split --budget 1 --report P", 1),
         ("by a unit", "split --report P --budget 10G", 10737418240),
+        (
+            "for an audit with inventories",
+            "split --budget 7 --report P --inventories",
+            7,
+        ),
         ("by the most", "split --report P --budget 4194304T", 1 << 62),
     ] {
         expect_split(&rt, name, line, budget)?;

@@ -4,6 +4,7 @@ use super::{expect_in_usage, fault, read, usage_text, words_fault};
 use clap::error::ErrorKind;
 use ocfl_arguments::{Asked, Chosen, JoinAsked, NightAsked, NightBounds, Until, asked};
 use ocfl_cursor::Budget;
+use ocfl_report::Further;
 use std::alloc::{AllocError, Global};
 use std::test::Fail;
 
@@ -29,6 +30,7 @@ fn plain(alloc: Global) -> Result<NightAsked, AllocError> {
             every: None,
         },
         chosen: Chosen::All,
+        further: Further::Nothing,
         known: None,
         expected: None,
         create: false,
@@ -51,7 +53,7 @@ fn reads_a_night(rt: HostRuntime) -> Result<(), Fail> {
     let night = read_night(alloc, "night --state S R")?;
     assert_eq!(rt; night, plain(alloc)?);
     let line = "night R --files 20k --slice=1G --expected E --budget 500G --state S --known K \
-                --until 06:00 --every 30 --create --force-root --stop-at-faults";
+                --until 06:00 --every 30 --create --force-root --stop-at-faults --inventories";
     let mut wanted = plain(alloc)?;
     wanted.bounds = NightBounds {
         budget: Budget::new(500 << 30),
@@ -62,6 +64,7 @@ fn reads_a_night(rt: HostRuntime) -> Result<(), Fail> {
     };
     wanted.known = Some(String::from_str(alloc, "K")?);
     wanted.expected = Some(String::from_str(alloc, "E")?);
+    wanted.further = Further::Inventories;
     wanted.create = true;
     wanted.force_root = true;
     wanted.stop_at_faults = true;
@@ -85,13 +88,45 @@ fn reads_a_night_of_a_part(rt: HostRuntime) -> Result<(), Fail> {
 
 #[test]
 fn reads_each_flag_of_a_night(rt: HostRuntime) -> Result<(), Fail> {
-    for (line, create, force_root, stop_at_faults) in [
-        ("night --state S --create R", true, false, false),
-        ("night --state S R --force-root", false, true, false),
-        ("night --state S --stop-at-faults R", false, false, true),
-        ("night --state create force-root", false, false, false),
+    for (line, create, force_root, stop_at_faults, further) in [
+        (
+            "night --state S --create R",
+            true,
+            false,
+            false,
+            Further::Nothing,
+        ),
+        (
+            "night --state S R --force-root",
+            false,
+            true,
+            false,
+            Further::Nothing,
+        ),
+        (
+            "night --state S --stop-at-faults R",
+            false,
+            false,
+            true,
+            Further::Nothing,
+        ),
+        (
+            "night --inventories --state S R",
+            false,
+            false,
+            false,
+            Further::Inventories,
+        ),
+        (
+            "night --state create inventories",
+            false,
+            false,
+            false,
+            Further::Nothing,
+        ),
     ] {
         let night = read_night(rt.alloc(), line)?;
+        assert_eq!(rt; night.further, further, "{line}");
         assert_eq!(rt; night.create, create, "{line}");
         assert_eq!(rt; night.force_root, force_root, "{line}");
         assert_eq!(rt; night.stop_at_faults, stop_at_faults, "{line}");

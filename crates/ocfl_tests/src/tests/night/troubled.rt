@@ -4,6 +4,7 @@ use crate::tests::common::output::Narrow;
 use crate::tests::common::roots::three_files;
 use ocfl_digest::Block;
 use ocfl_night::{Site, night};
+use ocfl_report::Further;
 use ocfl_state::{MOST_CHECKPOINT, MemState};
 use ocfl_terms::{Flushing, Halt, Stop, status_of};
 use ocfl_tree::{Name, Place};
@@ -66,7 +67,11 @@ fn deep_site(alloc: Global) -> Result<Site, Fail> {
     for _ in 0..4_200 {
         path.push(Name::new(alloc, name.as_str())?)?;
     }
-    Ok(Site { path, ends: None })
+    Ok(Site {
+        path,
+        ends: None,
+        further: Further::Nothing,
+    })
 }
 
 #[test]

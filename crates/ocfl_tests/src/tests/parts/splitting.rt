@@ -11,9 +11,15 @@ use std::test::Fail;
 const THREE_FILES: &str = "ok\t.\t-\nok\to\t-\nok\to/v1/content/a\t3\nok\to/v1/content/b\t0\n\
 ok\to/v1/content/c\t3\n";
 
+/// The report of an audit that checks the inventories of versions. The files cost 4, 55 and 55; the
+/// digest is that of `sha256sum`.
+const TWO_VERSIONS: &str = "ok\t.\t-\nok\to\t-\n\
+S09\to\tsha256 5aae4bf052d22be5d2840c5cf7ef5ae539183f222606b54201e8b297ec6924dd v2\n\
+ok\to/v1/content/a\t3\nok\to/v1/inventory.json\t54\nok\to/v2/inventory.json\t54\n";
+
 /// Lines of the place `b` between a file of cost 4 and `c` of cost 1, and where parts of cost 4 are
 /// then cut first.
-const COSTS: [(&str, &str); 15] = [
+const COSTS: [(&str, &str); 19] = [
     ("ok\tb\t0\n", "b\n"),
     ("ok\tb\t3\n", "b\n"),
     ("ok\tb\t4611686018427387903\n", "b\n"),
@@ -27,6 +33,10 @@ const COSTS: [(&str, &str); 15] = [
     ("S02\tb\t3\n", "c\n"),
     ("E023\tb\t-\n", "c\n"),
     ("S08\tb\t-\n", "c\n"),
+    ("S09\tb\tsha256 1e627d990f56 v1\n", "c\n"),
+    ("S09\tb\tsha256 1e627d990f56\n", "c\n"),
+    ("E060\tb\tsha256 1e627d990f56 0a89d02e2ae3\n", "c\n"),
+    ("E064\tb\tsha256 1e627d990f56 0a89d02e2ae3\n", "c\n"),
     ("E092\tb\tsha256 missing\n", "c\n"),
     ("E092\tb\tsha256 missing\nE093\tb\tmd5 missing\n", "c\n"),
 ];
@@ -63,7 +73,22 @@ fn parts_are_the_runs(rt: HostRuntime) -> Result<(), Fail> {
 }
 
 #[test]
-fn only_content_files_that_are_right_cost(rt: HostRuntime) -> Result<(), Fail> {
+fn inventories_of_versions_cost_as_content_does(rt: HostRuntime) -> Result<(), Fail> {
+    for (budget, wanted) in [
+        (1u64, "o/v1/inventory.json\no/v2/inventory.json\n"),
+        (4, "o/v1/inventory.json\no/v2/inventory.json\n"),
+        (5, "o/v2/inventory.json\n"),
+        (59, "o/v2/inventory.json\n"),
+        (60, ""),
+    ] {
+        let text = split_text(rt.alloc(), budget, TWO_VERSIONS)?;
+        assert_eq!(rt; text.as_str(), wanted, "{budget}");
+    }
+    Ok(())
+}
+
+#[test]
+fn only_files_that_are_right_cost(rt: HostRuntime) -> Result<(), Fail> {
     let alloc = rt.alloc();
     for (line, wanted) in COSTS {
         let report = format!(in alloc; "ok\ta\t3\n{line}ok\tc\t0\n")?;

@@ -9,6 +9,7 @@ use crate::tests::common::store::{change, place_of, times_opened, was_not_called
 use ocfl_digest::Block;
 use ocfl_folder::FsTree;
 use ocfl_memory::{MemTree, Point};
+use ocfl_report::Further;
 use ocfl_scrub::checked;
 use std::alloc::Global;
 use std::fs;
@@ -284,7 +285,14 @@ fn failing_store(rt: HostRuntime) -> Result<(), Fail> {
 fn failing_output(rt: HostRuntime) -> Result<(), Fail> {
     let alloc = rt.alloc();
     let (mut block, mut out) = (Block::new(alloc)?, Narrow::new(alloc, 5));
-    let (status, note) = checked(alloc, &mut right_object(alloc)?, FILE, &mut block, &mut out);
+    let (status, note) = checked(
+        alloc,
+        &mut right_object(alloc)?,
+        Further::Nothing,
+        FILE,
+        &mut block,
+        &mut out,
+    );
     assert_eq!(rt; status, 3);
     assert_eq!(rt; format!(in alloc; "{note}")?.as_str(), "output failed");
     Ok(())

@@ -10,6 +10,7 @@ use crate::tests::common::store::{expect_opened, place_of, put, times_opened, wa
 use ocfl_cursor::Limits;
 use ocfl_digest::Block;
 use ocfl_memory::{MemTree, Point};
+use ocfl_report::Further;
 use ocfl_scrub::{CycleEnd, cycle};
 use std::alloc::Global;
 use std::test::Fail;
@@ -154,7 +155,7 @@ pub(crate) fn cycle_into(
     out: &mut Narrow,
 ) -> Result<CycleEnd, Fail> {
     let mut block = Block::new(alloc)?;
-    Ok(cycle(alloc, store, limits, &mut block, out))
+    Ok(cycle(alloc, store, Further::Nothing, limits, &mut block, out))
 }
 
 #[test]

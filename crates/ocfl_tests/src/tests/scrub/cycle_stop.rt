@@ -8,6 +8,7 @@ use crate::tests::common::store::listed_from;
 use ocfl_cursor::Cursor;
 use ocfl_digest::Block;
 use ocfl_memory::MemTree;
+use ocfl_report::Further;
 use ocfl_scrub::{CycleEnd, CycleStatus, ReportStop, cycle, run};
 use ocfl_walk::Fault;
 use std::alloc::Global;
@@ -122,7 +123,14 @@ fn expect_failing_cycle(
     let row = format!(in alloc; "call {call} of root {number}, budget {budget}")?;
     let (mut block, mut out) = (Block::new(alloc)?, Vec::new(alloc));
     let each = equal_limits(alloc, 9, budget, MOST)?;
-    let ended = cycle(alloc, &mut store, each.as_slice(), &mut block, &mut out);
+    let ended = cycle(
+        alloc,
+        &mut store,
+        Further::Nothing,
+        each.as_slice(),
+        &mut block,
+        &mut out,
+    );
     let text = String::from_utf8(out)?;
     let begun = runs_begun(alloc, &store)?;
     if matches!(

@@ -4,6 +4,7 @@ use crate::tests::common::Runtime;
 use crate::tests::common::store::place_of;
 use ocfl_digest::Block;
 use ocfl_memory::MemTree;
+use ocfl_report::Further;
 use ocfl_tree::Place;
 use ocfl_walk::{Fault, Walk, judge};
 use std::alloc::Global;
@@ -31,7 +32,7 @@ fn items_above(
     block: &mut Block,
 ) -> Result<Vec<Passage>, Fail> {
     let mut items: Vec<Passage> = Vec::new(alloc);
-    let mut walk = Walk::start(alloc, store, None, after).map_err(said)?;
+    let mut walk = Walk::start(alloc, store, Further::Nothing, after).map_err(said)?;
     for _ in 0..1_000 {
         let (further, Some(pending)) = walk.next(store).map_err(said)? else {
             return Ok(items);

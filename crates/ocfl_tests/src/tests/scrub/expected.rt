@@ -5,6 +5,7 @@ use crate::tests::common::digests::lines_of;
 use crate::tests::common::object::FILE;
 use ocfl_digest::Block;
 use ocfl_memory::MemTree;
+use ocfl_report::Further;
 use ocfl_scrub::{Note, audited, checked};
 use ocfl_tree::Tree;
 use std::test::Fail;
@@ -50,6 +51,7 @@ pub(crate) fn expect<T: Tree>(
     let got = checked(
         rt.alloc(),
         store,
+        Further::Nothing,
         path,
         &mut Block::new(rt.alloc())?,
         &mut out,
@@ -68,7 +70,7 @@ pub(crate) fn expect_audit<T: Tree>(
     note: &str,
 ) -> Result<(), Fail> {
     let (mut block, mut out) = (Block::new(rt.alloc())?, Vec::new(rt.alloc()));
-    let got = audited(rt.alloc(), store, &mut block, &mut out);
+    let got = audited(rt.alloc(), store, Further::Nothing, &mut block, &mut out);
     expect_said(rt, out, got, (text, status, note), row)
 }
 

@@ -5,6 +5,7 @@ use crate::tests::common::Runtime;
 use ocfl_cursor::Cursor;
 use ocfl_digest::Block;
 use ocfl_memory::Point;
+use ocfl_report::Further;
 use ocfl_scrub::{ReportStop, RunEnd, RunStatus, run};
 use ocfl_tree::{Opening, Place, Tree};
 use ocfl_walk::Fault;
@@ -93,7 +94,7 @@ fn expect_fault(
     };
     let mut store = root_by(alloc, number)?;
     store.fail_at(place, point)?;
-    let got = ran(alloc, &mut store, Cursor::new())?;
+    let got = ran(alloc, &mut store, Cursor::new(Further::Nothing))?;
     assert_eq!(rt; store.failures(), 1, "{what}");
     match &got.end.end {
         RunStatus::Stopped(ReportStop::Fault(Fault::Store(failed))) => {
@@ -172,7 +173,7 @@ pub(crate) fn expect_dropped(rt: &impl Runtime, root: &mut Tried, room: usize) -
     let end = run(
         alloc,
         &mut root.store,
-        Cursor::new(),
+        Cursor::new(Further::Nothing),
         most,
         &mut block,
         &mut out,

@@ -6,6 +6,7 @@ use crate::tests::common::store::{listed_from, opened_from};
 use ocfl_cursor::Cursor;
 use ocfl_digest::Block;
 use ocfl_memory::MemTree;
+use ocfl_report::Further;
 use ocfl_scrub::{KeptWalk, Part, RunEnd, RunStatus, run_on};
 use std::alloc::Global;
 use std::test::Fail;
@@ -22,7 +23,7 @@ impl Runs {
     fn none(alloc: Global) -> Runs {
         Runs {
             kept: KeptWalk::none(),
-            cursor: Cursor::new(),
+            cursor: Cursor::new(Further::Nothing),
             text: Vec::new(alloc),
         }
     }
@@ -32,7 +33,7 @@ impl Runs {
     fn next(&mut self, alloc: Global, store: &mut MemTree) -> Result<&'static str, Fail> {
         let (whole, one) = (Part::whole(alloc), limits(MOST, 1)?);
         let mut block = Block::new(alloc)?;
-        let cursor = std::mem::replace(&mut self.cursor, Cursor::new());
+        let cursor = std::mem::replace(&mut self.cursor, Cursor::new(Further::Nothing));
         let (kept, out) = (&mut self.kept, &mut self.text);
         let made = run_on(alloc, store, &whole, kept, cursor, one, &mut block, out);
         let RunEnd { cursor, end, .. } = made;

@@ -12,6 +12,7 @@ use ocfl_cursor::Cursor;
 use ocfl_deed::Deed;
 use ocfl_digest::Block;
 use ocfl_memory::{MemTree, Point};
+use ocfl_report::Further;
 use ocfl_scrub::{audited, checked, perform, run};
 use std::alloc::Global;
 use std::test::Fail;
@@ -115,7 +116,7 @@ fn command_of_two_hundred_runs(rt: HostRuntime) -> Result<(), Fail> {
         let path = format!(in alloc; "o/v1/content/{number}")?;
         put(alloc, &mut store, path.as_str(), b"abc")?;
     }
-    let deed = Deed::Cycle(limits(1, MOST)?, 300);
+    let deed = Deed::Cycle(Further::Nothing, limits(1, MOST)?, 300);
     let (text, said) = performed(alloc, &mut store, &deed)?;
     let lines = numbered(alloc, 200, "ok|o/v1/content/", "|3\n", "")?;
     let right = format!(in alloc; "{HEADS}{lines}")?;
@@ -138,9 +139,12 @@ fn unread_content_is_no_lack_of_memory(rt: HostRuntime) -> Result<(), Fail> {
         let run = format!(in alloc; "1 cycle 1, run 1, cost {cost}, ended")?;
         let cycle = format!(in alloc; "1 runs 1, cost {cost}, ended")?;
         for (deed, note) in [
-            (Deed::Audit, "1 "),
-            (Deed::Run(limits(9, MOST)?), run.as_str()),
-            (Deed::Cycle(limits(9, MOST)?, 2), cycle.as_str()),
+            (Deed::Audit(Further::Nothing), "1 "),
+            (Deed::Run(Further::Nothing, limits(9, MOST)?), run.as_str()),
+            (
+                Deed::Cycle(Further::Nothing, limits(9, MOST)?, 2),
+                cycle.as_str(),
+            ),
         ] {
             let mut store = right_object(alloc)?;
             store.fail_at(&place_of(alloc, FILE)?, point)?;
@@ -171,11 +175,18 @@ fn lines_of_an_item_go_out_as_one_piece(rt: HostRuntime) -> Result<(), Fail> {
         let lines = lines_of(alloc, report)?;
         let mut store = built(alloc, root)?;
         let mut out = Counting::new(alloc);
-        let _ = audited(alloc, &mut store, &mut block, &mut out);
+        let _ = audited(alloc, &mut store, Further::Nothing, &mut block, &mut out);
         expect_calls(&rt, row, &out, lines.as_str());
         let mut out = Counting::new(alloc);
         let most = limits(MOST, MOST)?;
-        let _ = run(alloc, &mut store, Cursor::new(), most, &mut block, &mut out);
+        let _ = run(
+            alloc,
+            &mut store,
+            Cursor::new(Further::Nothing),
+            most,
+            &mut block,
+            &mut out,
+        );
         expect_calls(&rt, row, &out, lines.as_str());
         let count = lines.as_str().lines().count();
         pieces = pieces.saturating_add(count.saturating_sub(out.calls));
@@ -188,7 +199,14 @@ fn lines_of_an_item_go_out_as_one_piece(rt: HostRuntime) -> Result<(), Fail> {
     let manifest = format!(in alloc; "\"ABC_SHA256\":[\"{listed}\"]")?;
     let inventory = listing(alloc, manifest.as_str(), fixity.as_str())?;
     let mut store = object_with(alloc, inventory.as_str())?;
-    let _ = checked(alloc, &mut store, missing, &mut block, &mut out);
+    let _ = checked(
+        alloc,
+        &mut store,
+        Further::Nothing,
+        missing,
+        &mut block,
+        &mut out,
+    );
     let lines = "E092|o/v1/content/g|sha256 missing\nE093|o/v1/content/g|md5 missing\n";
     let lines = lines_of(alloc, lines)?;
     expect_calls(&rt, "a missing file", &out, lines.as_str());
@@ -211,15 +229,29 @@ fn long_items_go_out_as_one_piece(rt: HostRuntime) -> Result<(), Fail> {
     assert!(rt; text.len() > 20_000);
     let mut block = Block::new(alloc)?;
     let mut out = Counting::new(alloc);
-    let _ = audited(alloc, &mut store, &mut block, &mut out);
+    let _ = audited(alloc, &mut store, Further::Nothing, &mut block, &mut out);
     expect_pieces(&rt, "an audit", &out, text.as_str(), 3);
     let mut out = Counting::new(alloc);
-    let _ = checked(alloc, &mut store, "o", &mut block, &mut out);
+    let _ = checked(
+        alloc,
+        &mut store,
+        Further::Nothing,
+        "o",
+        &mut block,
+        &mut out,
+    );
     let head = lines_of(alloc, lines.as_str())?;
     expect_pieces(&rt, "a check", &out, head.as_str(), 1);
     let mut out = Counting::new(alloc);
     let most = limits(MOST, MOST)?;
-    let _ = run(alloc, &mut store, Cursor::new(), most, &mut block, &mut out);
+    let _ = run(
+        alloc,
+        &mut store,
+        Cursor::new(Further::Nothing),
+        most,
+        &mut block,
+        &mut out,
+    );
     expect_pieces(&rt, "a run", &out, text.as_str(), 3);
     Ok(())
 }

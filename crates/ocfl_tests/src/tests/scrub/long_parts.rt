@@ -10,6 +10,7 @@ use crate::tests::common::store::{place_of, put, put_dir};
 use ocfl_cursor::PartEnds;
 use ocfl_deed::Deed;
 use ocfl_memory::MemTree;
+use ocfl_report::Further;
 use ocfl_scrub::Scope;
 use std::alloc::Global;
 use std::test::Fail;
@@ -42,7 +43,7 @@ fn branches_and_parts_of_a_hundred_names(rt: HostRuntime) -> Result<(), Fail> {
                 &rt,
                 row.as_str(),
                 &mut store,
-                &Deed::Audit,
+                &Deed::Audit(Further::Nothing),
                 Some(scope),
                 None,
                 wanted,
@@ -137,7 +138,7 @@ fn command_of_eleven_hundred_runs(rt: HostRuntime) -> Result<(), Fail> {
     let alloc = rt.alloc();
     let mut store = bare_root(alloc)?;
     let right = put_objects(alloc, &mut store, 55)?;
-    let deed = Deed::Cycle(limits(1, MOST)?, 2_000);
+    let deed = Deed::Cycle(Further::Nothing, limits(1, MOST)?, 2_000);
     let (text, said) = performed(alloc, &mut store, &deed)?;
     assert_eq!(rt; said.as_str(), "0 runs 1100, cost 4400, ended");
     assert_eq!(rt; text.as_str(), lines_of(alloc, right.as_str())?.as_str());

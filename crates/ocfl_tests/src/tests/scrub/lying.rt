@@ -9,7 +9,7 @@ use crate::tests::common::Runtime;
 use ocfl_cursor::Cursor;
 use ocfl_digest::Block;
 use ocfl_memory::MemTree;
-use ocfl_report::read_place;
+use ocfl_report::{Further, read_place};
 use ocfl_scrub::{ReportStop, RunEnd, RunStatus, run};
 use ocfl_tree::{Entry, Place, Tree, Trouble};
 use ocfl_walk::Fault;
@@ -84,7 +84,7 @@ fn expect_ascending(rt: &impl Runtime, report: &str, what: &str) -> Result<(), F
 fn expect_order(rt: &impl Runtime, store: &mut Restless, what: &str) -> Result<(), Fail> {
     let alloc = rt.alloc();
     let mut block = Block::new(alloc)?;
-    let mut cursor = Cursor::new();
+    let mut cursor = Cursor::new(Further::Nothing);
     let mut report = Vec::new(alloc);
     for _ in 0..10u64 {
         let one = limits(5, MOST)?;
@@ -179,7 +179,7 @@ fn memory_that_a_call_of_the_store_lacks(rt: HostRuntime) -> Result<(), Fail> {
         for calls in 1..1_000u64 {
             let inner = root_by(alloc, number)?;
             let mut store = Scant { inner, calls };
-            let got = ran(alloc, &mut store, Cursor::new())?;
+            let got = ran(alloc, &mut store, Cursor::new(Further::Nothing))?;
             let what = format!(in alloc; "root {number}, call {calls}")?;
             if store.calls > 0 {
                 assert_eq!(rt; got.text.as_str(), all.as_str(), "{what}");

@@ -7,6 +7,7 @@ use crate::tests::common::roots::right_objects;
 use ocfl_cursor::{Cursor, State};
 use ocfl_digest::Block;
 use ocfl_memory::MemTree;
+use ocfl_report::Further;
 use ocfl_scrub::{
     AuditEnd, AuditStatus, CycleEnd, CycleStatus, Part, ReportStop, RunEnd, RunStatus, audit_part,
     cycle_part, run_part,
@@ -98,11 +99,11 @@ fn ending_of(
 
 fn try_audit(alloc: Global, store: &mut MemTree, part: &Part) -> Result<Ending, Fail> {
     let (mut block, mut out) = (Block::new(alloc)?, Vec::new(alloc));
-    let made = audit_part(alloc, store, part, &mut block, &mut out);
+    let made = audit_part(alloc, store, Further::Nothing, part, &mut block, &mut out);
     let AuditEnd { found, last, end } = made;
     let cursor = match last {
         Some(place) => cursor_of(1, 0, State::After(place))?,
-        None => Cursor::new(),
+        None => Cursor::new(Further::Nothing),
     };
     let stopped = matches!(
         end,
@@ -114,7 +115,7 @@ fn try_audit(alloc: Global, store: &mut MemTree, part: &Part) -> Result<Ending, 
 
 fn try_run(alloc: Global, store: &mut MemTree, part: &Part) -> Result<Ending, Fail> {
     let (mut block, mut out) = (Block::new(alloc)?, Vec::new(alloc));
-    let (start, most) = (Cursor::new(), limits(MOST, MOST)?);
+    let (start, most) = (Cursor::new(Further::Nothing), limits(MOST, MOST)?);
     let made = run_part(alloc, store, part, start, most, &mut block, &mut out);
     let stopped = matches!(
         made.end,
@@ -128,7 +129,15 @@ fn try_run(alloc: Global, store: &mut MemTree, part: &Part) -> Result<Ending, Fa
 fn try_cycle(alloc: Global, store: &mut MemTree, part: &Part) -> Result<Ending, Fail> {
     let (mut block, mut out) = (Block::new(alloc)?, Vec::new(alloc));
     let each = equal_limits(alloc, 9, MOST, 1)?;
-    let made = cycle_part(alloc, store, part, each.as_slice(), &mut block, &mut out);
+    let made = cycle_part(
+        alloc,
+        store,
+        Further::Nothing,
+        part,
+        each.as_slice(),
+        &mut block,
+        &mut out,
+    );
     let stopped = matches!(
         made.end,
         CycleStatus::Stopped(ReportStop::Fault(Fault::Store(_)))

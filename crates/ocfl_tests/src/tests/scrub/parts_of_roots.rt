@@ -13,7 +13,7 @@ use crate::tests::common::store::{expect_listed, expect_opened, place_of, was_no
 use ocfl_cursor::Cursor;
 use ocfl_digest::Block;
 use ocfl_memory::{MemTree, Point};
-use ocfl_report::DisplayPlace;
+use ocfl_report::{DisplayPlace, Further};
 use ocfl_scrub::{AuditEnd, AuditStatus, Part, audit_part, cycle_part, run_part};
 use ocfl_tree::Place;
 use std::alloc::Global;
@@ -105,14 +105,25 @@ fn take_part(
     let (mut block, mut out) = (Block::new(alloc)?, Vec::new(alloc));
     let most = limits(MOST, MOST)?;
     let says = match call {
-        "audit" => audit_says(alloc, &audit_part(alloc, store, part, &mut block, &mut out))?,
+        "audit" => audit_says(
+            alloc,
+            &audit_part(alloc, store, Further::Nothing, part, &mut block, &mut out),
+        )?,
         "run" => {
-            let start = Cursor::new();
+            let start = Cursor::new(Further::Nothing);
             let end = run_part(alloc, store, part, start, most, &mut block, &mut out);
             run_says(alloc, &end)?
         }
         _ => {
-            let end = cycle_part(alloc, store, part, &[most], &mut block, &mut out);
+            let end = cycle_part(
+                alloc,
+                store,
+                Further::Nothing,
+                part,
+                &[most],
+                &mut block,
+                &mut out,
+            );
             cycle_says(alloc, &end)?
         }
     };
@@ -499,7 +510,7 @@ const ONE_AFTER_THE_OTHER: [(&str, &[&str], &str); 3] = [
 #[test]
 fn next_cycle_begins_with_the_part(rt: HostRuntime) -> Result<(), Fail> {
     let parts = parts_by(rt.alloc(), &[FILE_B])?;
-    let mut cursor = Cursor::new();
+    let mut cursor = Cursor::new(Further::Nothing);
     for (row, pieces, said) in ONE_AFTER_THE_OTHER {
         cursor = expect_part_run(&rt, row, &parts[1], cursor, 1, (pieces, said))?;
     }
@@ -572,7 +583,15 @@ fn expect_cycled(rt: &impl Runtime, row: &str, part: &Part, cycled: Cycled) -> R
     let (mut block, mut out) = (Block::new(alloc)?, Vec::new(alloc));
     let each = equal_limits(alloc, count, budget, files)?;
     let each = each.as_slice();
-    let end = cycle_part(alloc, &mut store, part, each, &mut block, &mut out);
+    let end = cycle_part(
+        alloc,
+        &mut store,
+        Further::Nothing,
+        part,
+        each,
+        &mut block,
+        &mut out,
+    );
     expect_text(rt, row, out, pieces, said)?;
     assert_eq!(rt; cycle_says(alloc, &end)?.as_str(), said, "{row}");
     assert!(rt; was_not_called(&store) || count > 0, "{row}");

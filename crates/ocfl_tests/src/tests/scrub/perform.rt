@@ -12,6 +12,7 @@ use crate::tests::common::{Runtime, expect_shown};
 use ocfl_cursor::{State, encode};
 use ocfl_deed::Deed;
 use ocfl_digest::Block;
+use ocfl_report::Further;
 use ocfl_scrub::{Performed, Scope, perform, perform_part};
 use ocfl_tree::Tree;
 use std::test::Fail;
@@ -83,7 +84,7 @@ pub(crate) fn expect_stored(
 }
 
 pub(crate) fn run_of(budget: u64) -> Result<Deed, Fail> {
-    Ok(Deed::Run(limits(budget, MOST)?))
+    Ok(Deed::Run(Further::Nothing, limits(budget, MOST)?))
 }
 
 /// The budget, the limit of files and the number of runs, what their cycle writes, and the note.
@@ -127,7 +128,7 @@ const CYCLES: [(&str, u64, u64, usize, &[&str], &str); 5] = [
 fn cycles(rt: HostRuntime) -> Result<(), Fail> {
     for (row, budget, files, count, pieces, note) in CYCLES {
         let text = pieces.concat(rt.alloc())?;
-        let deed = Deed::Cycle(limits(budget, files)?, count);
+        let deed = Deed::Cycle(Further::Nothing, limits(budget, files)?, count);
         let mut store = three_files(rt.alloc())?;
         let wanted = (text.as_str(), 0, note);
         let stored = expect(&rt, row, &mut store, &deed, None, wanted)?;
@@ -213,13 +214,13 @@ fn cursors_that_are_shown(rt: HostRuntime) -> Result<(), Fail> {
 #[test]
 fn cursors_that_are_refused(rt: HostRuntime) -> Result<(), Fail> {
     let alloc = rt.alloc();
-    let other = format!(in alloc; "ocfl-scrub cursor 3\n{LINES}")?;
+    let other = format!(in alloc; "ocfl-scrub cursor 4\n{LINES}")?;
     let malformed = format!(in alloc; "ocfl-scrub cursor 2\n{LINES}0")?;
     let zero = "ocfl-scrub cursor 2\ncycle 03\nruns 2\nspent 9\nfiles 3\nended\n";
     for (row, file, note) in [
         ("no byte", Vec::new(alloc), "cursor refused: not a cursor"),
         (
-            "version 3",
+            "version 4",
             sealed(alloc, other.as_str())?,
             "cursor refused: version",
         ),
@@ -289,11 +290,11 @@ fn commands_on_worn_cursors(rt: HostRuntime) -> Result<(), Fail> {
 fn findings(rt: HostRuntime) -> Result<(), Fail> {
     let text = "ok|.|-\nok|o|-\nE093|o/v1/content/f|md5 NOTHING_MD5 ABC_MD5\n";
     for (row, deed, note, stores) in [
-        ("an audit", Deed::Audit, "", false),
+        ("an audit", Deed::Audit(Further::Nothing), "", false),
         ("a run", run_of(9)?, "cycle 1, run 1, cost 4, ended", true),
         (
             "a cycle",
-            Deed::Cycle(limits(9, MOST)?, 1),
+            Deed::Cycle(Further::Nothing, limits(9, MOST)?, 1),
             "runs 1, cost 4, ended",
             false,
         ),
@@ -320,7 +321,14 @@ fn what_cannot_be_computed_is_no_finding(rt: HostRuntime) -> Result<(), Fail> {
         let mut store = object_with(rt.alloc(), inventory.as_str())?;
         let text = format!(in rt.alloc(); "ok|.|-\nS07|o|blake2b-512\n{line}")?;
         let wanted = (text.as_str(), status, "");
-        let stored = expect(&rt, row, &mut store, &Deed::Audit, None, wanted)?;
+        let stored = expect(
+            &rt,
+            row,
+            &mut store,
+            &Deed::Audit(Further::Nothing),
+            None,
+            wanted,
+        )?;
         assert!(rt; stored.is_none(), "{row}");
     }
     Ok(())
@@ -335,12 +343,12 @@ fn places_that_are_checked(rt: HostRuntime) -> Result<(), Fail> {
         ("o/v1/content/h", ("", 0, "no item")),
         ("o//f", ("", 2, "bad path")),
     ] {
-        let deed = Deed::Check(format!(in alloc; "{path}")?);
+        let deed = Deed::Check(Further::Nothing, format!(in alloc; "{path}")?);
         let mut store = right_object(alloc)?;
         let stored = expect(&rt, path, &mut store, &deed, None, wanted)?;
         assert!(rt; stored.is_none(), "{path}");
     }
-    let deed = Deed::Check(format!(in alloc; "o//f")?);
+    let deed = Deed::Check(Further::Nothing, format!(in alloc; "o//f")?);
     expect_silent(&rt, "no call", &deed, None, ("", 2, "bad path"))
 }
 
@@ -356,8 +364,8 @@ fn commands_that_a_call_stops(rt: HostRuntime) -> Result<(), Fail> {
         )?;
         expect_stored(&rt, row, stored, body.as_str())?;
         for (command, deed) in [
-            ("audit", Deed::Audit),
-            ("cycle", Deed::Cycle(limits(9, MOST)?, 2)),
+            ("audit", Deed::Audit(Further::Nothing)),
+            ("cycle", Deed::Cycle(Further::Nothing, limits(9, MOST)?, 2)),
         ] {
             let row = format!(in alloc; "{command}, {row}")?;
             let mut store = stopping(alloc, place, point)?;
@@ -404,8 +412,11 @@ fn commands_into_ten_bytes(rt: HostRuntime) -> Result<(), Fail> {
     )?;
     assert!(rt; cursor == Some(behind_the_root));
     for (row, deed) in [
-        ("an audit", Deed::Audit),
-        ("a cycle", Deed::Cycle(limits(9, MOST)?, 2)),
+        ("an audit", Deed::Audit(Further::Nothing)),
+        (
+            "a cycle",
+            Deed::Cycle(Further::Nothing, limits(9, MOST)?, 2),
+        ),
     ] {
         let (wrote, cursor) = with_ten_bytes(&rt, row, &deed)?;
         assert!(rt; wrote.as_slice() == begun && cursor.is_none(), "{row}");
@@ -417,7 +428,7 @@ fn commands_into_ten_bytes(rt: HostRuntime) -> Result<(), Fail> {
 
 #[test]
 fn limits_of_more_runs_than_memory_holds(rt: HostRuntime) -> Result<(), Fail> {
-    let deed = Deed::Cycle(limits(9, MOST)?, usize::MAX);
+    let deed = Deed::Cycle(Further::Nothing, limits(9, MOST)?, usize::MAX);
     let wanted = ("", 3, "out of memory");
     expect_silent(&rt, "more runs than memory", &deed, None, wanted)
 }

@@ -9,6 +9,7 @@ use crate::tests::common::roots::{right_objects, three_files};
 use crate::tests::common::store::{place_of, was_not_called};
 use ocfl_deed::Deed;
 use ocfl_memory::Point;
+use ocfl_report::Further;
 use ocfl_scrub::Scope;
 use ocfl_tree::Tree;
 use std::alloc::Global;
@@ -72,7 +73,15 @@ fn audits_of_parts(rt: HostRuntime) -> Result<(), Fail> {
         let text = pieces.concat(alloc)?;
         let wanted = (text.as_str(), 0, "");
         let mut store = three_files(alloc)?;
-        let stored = expect(&rt, row, &mut store, &Deed::Audit, &scope, None, wanted)?;
+        let stored = expect(
+            &rt,
+            row,
+            &mut store,
+            &Deed::Audit(Further::Nothing),
+            &scope,
+            None,
+            wanted,
+        )?;
         assert!(rt; stored.is_none(), "{row}");
         // A run of the part takes as much, and stores a cursor that names the part.
         let mut store = three_files(alloc)?;
@@ -109,7 +118,15 @@ fn audits_of_branches(rt: HostRuntime) -> Result<(), Fail> {
         let mut store = right_objects(alloc, &["o1", "o2", "o3"])?;
         let scope = Scope::Branch(place_of(alloc, path)?);
         let wanted = (text, status, note);
-        let stored = expect(&rt, path, &mut store, &Deed::Audit, &scope, None, wanted)?;
+        let stored = expect(
+            &rt,
+            path,
+            &mut store,
+            &Deed::Audit(Further::Nothing),
+            &scope,
+            None,
+            wanted,
+        )?;
         assert!(rt; stored.is_none(), "{path}");
     }
     Ok(())
@@ -338,7 +355,15 @@ fn parts_beside_one_that_stops(rt: HostRuntime) -> Result<(), Fail> {
     for ((from, below), ends, audited, note, state) in BESIDE {
         let scope = part(alloc, from, below)?;
         let mut store = stopping(alloc, "o", Point::List)?;
-        let stored = expect(&rt, ends, &mut store, &Deed::Audit, &scope, None, audited)?;
+        let stored = expect(
+            &rt,
+            ends,
+            &mut store,
+            &Deed::Audit(Further::Nothing),
+            &scope,
+            None,
+            audited,
+        )?;
         assert!(rt; stored.is_none(), "{ends}");
         let mut store = stopping(alloc, "o", Point::List)?;
         let (text, status, _) = audited;

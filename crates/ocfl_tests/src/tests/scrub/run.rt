@@ -14,6 +14,7 @@ use crate::tests::common::store::{
 use ocfl_cursor::{Cursor, State};
 use ocfl_digest::Block;
 use ocfl_memory::MemTree;
+use ocfl_report::Further;
 use ocfl_scrub::run;
 use std::test::Fail;
 
@@ -214,7 +215,9 @@ fn largest_limits_and_figures(rt: HostRuntime) -> Result<(), Fail> {
     expect_runs(&rt, row, &mut store, MOST, &[(MOST, ALL, THREE_ENDED)])?;
     let state = State::After(place_of(rt.alloc(), "o/v1/content/b")?);
     let spent = 9_223_372_036_854_775_808u128;
-    let cursor = Cursor::from_parts(1, 1, spent, spent, state).ok_or("no cursor")?;
+    let cursor = Cursor::from_parts(1, 1, spent, spent, Further::Nothing, state).ok_or(
+        "no cursor",
+    )?;
     let said =
         "spent 4 files 1 clean, ended; cycle 1 runs 2 spent 9223372036854775812 files 9223372036854775809 ended";
     expect_run(
@@ -245,7 +248,7 @@ fn expect_whole_run(rt: &impl Runtime, row: &str, cursor: Cursor, says: &str) ->
 #[test]
 fn run_behind_the_end_of_a_cycle(rt: HostRuntime) -> Result<(), Fail> {
     let before = 18_446_744_073_709_551_614u64;
-    let ended = Cursor::from_parts(1, 2, 9, 3, State::Ended).ok_or("no cursor")?;
+    let ended = Cursor::from_parts(1, 2, 9, 3, Further::Nothing, State::Ended).ok_or("no cursor")?;
     for (row, cursor, says) in [
         ("the end of a first cycle", ended, "cycle 2 runs 1"),
         // The last run and the last cycle are not worn.
@@ -269,7 +272,7 @@ fn run_behind_the_end_of_a_cycle(rt: HostRuntime) -> Result<(), Fail> {
     }
     let mut store = three_files(rt.alloc())?;
     let row = "a budget of 1 after the end of a second cycle";
-    let ended = Cursor::from_parts(2, 1, 9, 3, State::Ended).ok_or("no cursor")?;
+    let ended = Cursor::from_parts(2, 1, 9, 3, Further::Nothing, State::Ended).ok_or("no cursor")?;
     let said = "spent 4 files 1 clean, open; cycle 3 runs 1 spent 4 files 1 after o/v1/content/a";
     expect_run(
         &rt,
@@ -308,7 +311,9 @@ fn is_worn(rt: &impl Runtime, cursor: Cursor, says: &str) -> Result<(), Fail> {
 
 #[test]
 fn runs_from_worn_cursors(rt: HostRuntime) -> Result<(), Fail> {
-    let ended = Cursor::from_parts(LAST, 3, 9, 3, State::Ended).ok_or("no cursor")?;
+    let ended = Cursor::from_parts(LAST, 3, 9, 3, Further::Nothing, State::Ended).ok_or(
+        "no cursor",
+    )?;
     is_worn(
         &rt,
         ended,
@@ -321,7 +326,7 @@ fn runs_from_worn_cursors(rt: HostRuntime) -> Result<(), Fail> {
         "cycle 1 runs 18446744073709551615 spent 0 files 0 start",
     )?;
     let behind = State::After(place_of(rt.alloc(), "o/v1")?);
-    let behind = Cursor::from_parts(2, LAST, 9, 3, behind).ok_or("no cursor")?;
+    let behind = Cursor::from_parts(2, LAST, 9, 3, Further::Nothing, behind).ok_or("no cursor")?;
     is_worn(
         &rt,
         behind,
@@ -359,7 +364,7 @@ const ONE_OBJECT_A_RUN: [(&str, &[&str], &str, &str, &str); 3] = [
 #[test]
 fn one_object_a_run(rt: HostRuntime) -> Result<(), Fail> {
     let mut store = right_objects(rt.alloc(), &["o1", "o2", "o3"])?;
-    let mut cursor = Cursor::new();
+    let mut cursor = Cursor::new(Further::Nothing);
     for (row, pieces, said, inventories, listed) in ONE_OBJECT_A_RUN {
         let (opened, seen) = (store.openings().len(), store.listings().len());
         cursor = expect_run(&rt, row, &mut store, cursor, limits(1, MOST)?, pieces, said)?;

@@ -5,7 +5,7 @@ use crate::tests::common::digests::{ABC_SHA256, NOTHING_SHA256, lines_of};
 use crate::tests::common::store::place_of;
 use ocfl_cursor::{Budget, Cursor, FileLimit, Limits, State};
 use ocfl_digest::Block;
-use ocfl_report::DisplayPlace;
+use ocfl_report::{DisplayPlace, Further};
 use ocfl_scrub::{CycleEnd, CycleStatus, ReportStop, RunEnd, RunStatus, cycle, run};
 use ocfl_tree::Tree;
 use ocfl_walk::Fault;
@@ -61,7 +61,7 @@ pub(crate) fn cursor_after(alloc: Global, path: &str) -> Result<Cursor, Fail> {
 
 /// A cursor that has spent nothing.
 pub(crate) fn cursor_of(cycle: u64, runs: u64, state: State) -> Result<Cursor, Fail> {
-    Ok(Cursor::from_parts(cycle, runs, 0, 0, state).ok_or("no cursor")?)
+    Ok(Cursor::from_parts(cycle, runs, 0, 0, Further::Nothing, state).ok_or("no cursor")?)
 }
 
 pub(crate) fn why_says(alloc: Global, why: &ReportStop) -> Result<String, Fail> {
@@ -180,7 +180,7 @@ pub(crate) fn expect_runs<T: Tree>(
     files: u64,
     runs: &[(u64, &[&str], &str)],
 ) -> Result<(), Fail> {
-    let mut cursor = Cursor::new();
+    let mut cursor = Cursor::new(Further::Nothing);
     for (budget, pieces, said) in runs {
         cursor = expect_run(
             rt,
@@ -206,7 +206,7 @@ pub(crate) fn expect_cycle<T: Tree>(
 ) -> Result<(), Fail> {
     let alloc = rt.alloc();
     let (mut block, mut out) = (Block::new(alloc)?, Vec::new(alloc));
-    let end = cycle(alloc, store, limits, &mut block, &mut out);
+    let end = cycle(alloc, store, Further::Nothing, limits, &mut block, &mut out);
     expect_text(rt, row, out, pieces, said)?;
     let says = cycle_says(alloc, &end)?;
     assert_eq!(rt; says.as_str(), said, "{row}");

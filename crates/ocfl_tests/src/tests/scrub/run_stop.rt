@@ -9,6 +9,7 @@ use crate::tests::common::store::place_of;
 use ocfl_cursor::{Cursor, State};
 use ocfl_digest::Block;
 use ocfl_memory::{MemTree, Point};
+use ocfl_report::Further;
 use ocfl_scrub::{ReportStop, RunEnd, RunStatus, run};
 use ocfl_walk::Fault;
 use std::alloc::Global;
@@ -22,7 +23,7 @@ fn a_run_into_ten_bytes(rt: HostRuntime) -> Result<(), Fail> {
     let stopped = run(
         rt.alloc(),
         &mut store,
-        Cursor::new(),
+        Cursor::new(Further::Nothing),
         most,
         &mut block,
         &mut out,
@@ -47,8 +48,8 @@ fn a_run_into_ten_bytes(rt: HostRuntime) -> Result<(), Fail> {
 #[test]
 fn stop_at_once(rt: HostRuntime) -> Result<(), Fail> {
     let behind = cursor_after(rt.alloc(), "o/v1/content/a")?;
-    let ended = Cursor::from_parts(1, 2, 9, 3, State::Ended).ok_or("no cursor")?;
-    let same = Cursor::from_parts(1, 2, 9, 3, State::Ended).ok_or("no cursor")?;
+    let ended = Cursor::from_parts(1, 2, 9, 3, Further::Nothing, State::Ended).ok_or("no cursor")?;
+    let same = Cursor::from_parts(1, 2, 9, 3, Further::Nothing, State::Ended).ok_or("no cursor")?;
     let rows: [(&str, &str, Cursor, &[&str], &str); 3] = [
         (
             "on the way to the place",
@@ -97,7 +98,7 @@ fn is_cut(end: &RunStatus) -> bool {
 fn runs_joined(alloc: Global, store: &mut MemTree, budget: u64) -> Result<(String, bool), Fail> {
     let mut block = Block::new(alloc)?;
     let mut out = Vec::new(alloc);
-    let mut cursor = Cursor::new();
+    let mut cursor = Cursor::new(Further::Nothing);
     let mut stopped = false;
     for _ in 0..100u64 {
         let before = cursor.runs();
@@ -164,7 +165,7 @@ fn until_stopped(
     out: &mut Narrow,
 ) -> Result<Cursor, Fail> {
     let mut block = Block::new(alloc)?;
-    let mut cursor = Cursor::new();
+    let mut cursor = Cursor::new(Further::Nothing);
     for _ in 0..100u64 {
         let made = run(alloc, store, cursor, limits(budget, MOST)?, &mut block, out);
         let RunEnd {

@@ -4,7 +4,7 @@ use crate::tests::common::object::short_digits;
 use crate::tests::common::store::place_of;
 use ocfl_digest::Block;
 use ocfl_memory::MemTree;
-use ocfl_report::put_place;
+use ocfl_report::{Further, put_place};
 use ocfl_scrub::{audited, checked};
 use ocfl_tree::Place;
 use std::alloc::Global;
@@ -228,7 +228,14 @@ fn checks(alloc: Global, grown: &mut Grown, block: &mut Block) -> Result<String,
         put_place(place, &mut path)?;
         let path = String::from_utf8(path)?;
         let listed = grown.store.listings().len();
-        let _ = checked(alloc, &mut grown.store, path.as_str(), block, &mut joined);
+        let _ = checked(
+            alloc,
+            &mut grown.store,
+            Further::Nothing,
+            path.as_str(),
+            block,
+            &mut joined,
+        );
         for listing in grown.store.listings().iter().skip(listed) {
             if !place.starts_with(listing) {
                 return Err("a check lists another place".into());
@@ -244,7 +251,13 @@ fn an_audit_is_the_checks_of_all_places(rt: HostRuntime) -> Result<(), Fail> {
     for seed in 1..101 {
         let mut grown = grow(rt.alloc(), seed)?;
         let mut all = Vec::new(rt.alloc());
-        let _ = audited(rt.alloc(), &mut grown.store, &mut block, &mut all);
+        let _ = audited(
+            rt.alloc(),
+            &mut grown.store,
+            Further::Nothing,
+            &mut block,
+            &mut all,
+        );
         let listed = grown.store.listings().iter();
         assert!(rt; !has_twice(rt.alloc(), listed)?, "seed {seed}");
         let opened = grown.store.openings().iter().map(|opening| &opening.place);

@@ -9,6 +9,7 @@ use crate::tests::common::store::place_of;
 use ocfl_cursor::{PartEnds, decode_part, encode_part};
 use ocfl_digest::Block;
 use ocfl_memory::MemTree;
+use ocfl_report::Further;
 use ocfl_scrub::{AuditStatus, CycleStatus, Part, audit, audit_part, cycle_part, run_part};
 use ocfl_tree::Place;
 use std::alloc::Global;
@@ -71,7 +72,7 @@ fn audit_of(
     let alloc = rt.alloc();
     let listed = store.listings().len();
     let (mut block, mut out) = (Block::new(alloc)?, Vec::new(alloc));
-    let end = audit_part(alloc, store, part, &mut block, &mut out);
+    let end = audit_part(alloc, store, Further::Nothing, part, &mut block, &mut out);
     let text = String::from_utf8(out)?;
     assert!(rt; matches!(end.end, AuditStatus::Ended), "{row}");
     assert_eq!(rt; end.found, reckoned(text.as_str())?.found, "{row}");
@@ -147,7 +148,15 @@ impl Audited<'_> {
         let each = equal_limits(alloc, most, budget, files)?;
         let (mut block, mut out) = (Block::new(alloc)?, Vec::new(alloc));
         let each = each.as_slice();
-        let end = cycle_part(alloc, store, self.part, each, &mut block, &mut out);
+        let end = cycle_part(
+            alloc,
+            store,
+            Further::Nothing,
+            self.part,
+            each,
+            &mut block,
+            &mut out,
+        );
         assert_eq!(rt; String::from_utf8(out)?.as_str(), self.text, "{row}");
         assert!(rt; matches!(end.end, CycleStatus::Ended), "{row}");
         assert_eq!(rt; end.spent, u128::from(due.spent), "{row}");
@@ -211,7 +220,13 @@ fn parts_of_seed(rt: &impl Runtime, seed: u64, met: &mut Met) -> Result<(), Fail
     let row = row.as_str();
     let mut whole = grow(alloc, seed)?;
     let (mut block, mut out) = (Block::new(alloc)?, Vec::new(alloc));
-    let _ = audit(alloc, &mut whole.store, &mut block, &mut out);
+    let _ = audit(
+        alloc,
+        &mut whole.store,
+        Further::Nothing,
+        &mut block,
+        &mut out,
+    );
     let text = String::from_utf8(out)?;
     let mut dice = Dice {
         state: seed.wrapping_add(2_000_000),

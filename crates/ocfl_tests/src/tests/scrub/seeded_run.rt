@@ -7,6 +7,7 @@ use crate::tests::common::store::opened_from;
 use ocfl_cursor::{Cursor, Limits};
 use ocfl_digest::Block;
 use ocfl_memory::MemTree;
+use ocfl_report::Further;
 use ocfl_scrub::{CycleStatus, RunEnd, RunStatus, cycle, run};
 use std::alloc::Global;
 use std::test::Fail;
@@ -28,7 +29,7 @@ impl Runs {
             limits: Vec::new(alloc),
             least_budget: u64::MAX,
             least_files: u64::MAX,
-            cursor: Cursor::new(),
+            cursor: Cursor::new(Further::Nothing),
         }
     }
 
@@ -48,7 +49,7 @@ impl Runs {
         self.least_files = self.least_files.min(files);
         let limits = limits(budget, files)?;
         self.limits.push(limits)?;
-        let from = std::mem::replace(&mut self.cursor, Cursor::new());
+        let from = std::mem::replace(&mut self.cursor, Cursor::new(Further::Nothing));
         let mut out = Vec::new(rt.alloc());
         let made = run(from, limits, &mut out)?;
         let text = String::from_utf8(out)?;
@@ -151,7 +152,7 @@ fn cycle_is_the_audit(
 ) -> Result<(), Fail> {
     let alloc = rt.alloc();
     let (mut block, mut out) = (Block::new(alloc)?, Vec::new(alloc));
-    let end = cycle(alloc, store, limits, &mut block, &mut out);
+    let end = cycle(alloc, store, Further::Nothing, limits, &mut block, &mut out);
     let all = reckoned(text)?;
     assert!(rt; matches!(end.end, CycleStatus::Ended), "{row}");
     assert_eq!(rt; end.runs, limits.len(), "{row}");

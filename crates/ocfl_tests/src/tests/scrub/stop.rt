@@ -13,6 +13,7 @@ use crate::tests::common::store::place_of;
 use ocfl_cursor::Cursor;
 use ocfl_digest::Block;
 use ocfl_memory::{MemTree, Point};
+use ocfl_report::Further;
 use ocfl_scrub::{AuditStatus, ReportStop, audit, audited};
 use ocfl_tree::Place;
 use std::alloc::Global;
@@ -65,7 +66,7 @@ fn calls_that_stop(rt: HostRuntime) -> Result<(), Fail> {
             "spent 0 files 0 clean, {note}; cycle 1 runs 1 spent 0 files 0 {state}"
         )?;
         let mut store = stopping(alloc, place, point)?;
-        let start = Cursor::new();
+        let start = Cursor::new(Further::Nothing);
         expect_run(&rt, row, &mut store, start, one, &[text], said.as_str())?;
         let said = format!(in alloc; "runs 1 {said}")?;
         let mut store = stopping(alloc, place, point)?;
@@ -92,14 +93,26 @@ fn place_of_the_last_item(rt: HostRuntime) -> Result<(), Fail> {
     let alloc = rt.alloc();
     let mut block = Block::new(alloc)?;
     let mut store = stopping(alloc, "o", Point::List)?;
-    let stopped = audit(alloc, &mut store, &mut block, &mut Vec::new(alloc));
+    let stopped = audit(
+        alloc,
+        &mut store,
+        Further::Nothing,
+        &mut block,
+        &mut Vec::new(alloc),
+    );
     assert!(rt; stopped.last == Some(Place::root(alloc)));
     let mut store = long_object(alloc, "ABC_SHA512")?;
-    let ended = audit(alloc, &mut store, &mut block, &mut Vec::new(alloc));
+    let ended = audit(
+        alloc,
+        &mut store,
+        Further::Nothing,
+        &mut block,
+        &mut Vec::new(alloc),
+    );
     assert!(rt; matches!(ended.end, AuditStatus::Ended));
     assert!(rt; ended.last == Some(place_of(alloc, "o/v1/content/f")?));
     let mut out = Narrow::new(alloc, 10);
-    let stopped = audit(alloc, &mut store, &mut block, &mut out);
+    let stopped = audit(alloc, &mut store, Further::Nothing, &mut block, &mut out);
     assert!(rt; matches!(stopped.end, AuditStatus::Stopped(ReportStop::Output)));
     assert!(rt; stopped.last == Some(Place::root(alloc)));
     assert!(rt; out.kept.as_slice() == b"ok\t.\t-\nok\t".as_slice());
@@ -109,7 +122,13 @@ fn place_of_the_last_item(rt: HostRuntime) -> Result<(), Fail> {
 /// What an audit of the root writes.
 pub(crate) fn whole(alloc: Global, store: &mut MemTree) -> Result<String, Fail> {
     let mut out = Vec::new(alloc);
-    let _ = audited(alloc, store, &mut Block::new(alloc)?, &mut out);
+    let _ = audited(
+        alloc,
+        store,
+        Further::Nothing,
+        &mut Block::new(alloc)?,
+        &mut out,
+    );
     Ok(String::from_utf8(out)?)
 }
 
@@ -156,13 +175,25 @@ fn expect_cut_audit(rt: &impl Runtime, root: &mut Tried, room: usize) -> Result<
     let mut block = Block::new(alloc)?;
     let row = format!(in alloc; "root {}, room {room}", root.number)?;
     let mut out = Narrow::new(alloc, room);
-    let (status, note) = audited(alloc, &mut root.store, &mut block, &mut out);
+    let (status, note) = audited(
+        alloc,
+        &mut root.store,
+        Further::Nothing,
+        &mut block,
+        &mut out,
+    );
     assert_eq!(rt; status, 3, "{row}");
     let said = format!(in alloc; "{note}")?;
     assert_eq!(rt; said.as_str(), "output failed", "{row}");
     assert!(rt; root.begins_with(out.kept.as_slice(), room), "{row}");
     let mut out = Narrow::new(alloc, room);
-    let end = audit(alloc, &mut root.store, &mut block, &mut out);
+    let end = audit(
+        alloc,
+        &mut root.store,
+        Further::Nothing,
+        &mut block,
+        &mut out,
+    );
     let rest = rest_behind(alloc, &mut root.store, end.last.as_ref(), &mut block)?;
     let gone = root.all.strip_suffix(rest.as_str()).ok_or("no such end")?;
     assert!(rt; out.kept.starts_with(gone.as_bytes()), "{row}");
@@ -195,7 +226,7 @@ fn expect_failing_audit(rt: &impl Runtime, root: &Tried, call: u64) -> Result<bo
     let mut store = root_by(alloc, root.number)?;
     store.fail_call(call);
     let row = format!(in alloc; "call {call} of root {}", root.number)?;
-    let (status, _) = audited(alloc, &mut store, &mut block, &mut out);
+    let (status, _) = audited(alloc, &mut store, Further::Nothing, &mut block, &mut out);
     let text = String::from_utf8(out)?;
     if store.failures() == 0 {
         assert_eq!(rt; text.as_str(), root.all.as_str(), "{row}");
@@ -209,7 +240,13 @@ fn expect_failing_audit(rt: &impl Runtime, root: &Tried, call: u64) -> Result<bo
     }
     let mut store = root_by(alloc, root.number)?;
     store.fail_call(call);
-    let end = audit(alloc, &mut store, &mut block, &mut Vec::new(alloc));
+    let end = audit(
+        alloc,
+        &mut store,
+        Further::Nothing,
+        &mut block,
+        &mut Vec::new(alloc),
+    );
     let rest = rest_behind(alloc, &mut store, end.last.as_ref(), &mut block)?;
     if text.contains("\nS08\t") {
         assert_eq!(rt; rest.as_str(), "", "{row}");

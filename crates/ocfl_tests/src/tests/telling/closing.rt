@@ -2,7 +2,7 @@
 use crate::tests::common::store::place_of;
 use crate::tests::telling::line_of;
 use ocfl_messages::{
-    Closing, Counts, Finding, Gone, GoneKind, Gravest, Joined, SHOWN, Tally, closing_text,
+    Closing, Counts, Finding, Gone, GoneKind, Gravest, Joined, Moved, SHOWN, Tally, closing_text,
     joined_text,
 };
 use ocfl_report::Line;
@@ -43,6 +43,16 @@ fn quiet<'a>(appeared: &'a Gravest) -> Closing<'a> {
         gone: &[],
         gone_count: 0,
         unlooked: 0,
+        moved: moved(0, 0, 0),
+    }
+}
+
+/// So many root inventories are others: of the same version, of older ones, of newer ones.
+fn moved(rewritten: u64, went_back: u64, newer: u64) -> Moved {
+    Moved {
+        rewritten,
+        went_back,
+        newer,
     }
 }
 
@@ -164,6 +174,72 @@ fn closings_of_incomplete_reports_say_where_the_rest_is(rt: HostRuntime) -> Resu
     };
     let text = String::from_utf8(closing_text(alloc, &closing)?)?;
     assert_eq!(rt; text.as_str(), CLOSED);
+    Ok(())
+}
+
+/// How many root inventories are others, and what is said of them.
+const MOVED: [(u64, u64, u64, &str); 4] = [
+    (0, 0, 0, ""),
+    (
+        0,
+        0,
+        7,
+        "Root inventories: 0 changed without a new version, 0 went back, 7 of a new version: \
+         cat 'reports/gone-000003'\n",
+    ),
+    (
+        1,
+        0,
+        0,
+        "Root inventories: 1 changed without a new version, 0 went back, 0 of a new version: \
+         cat 'reports/gone-000003'\n",
+    ),
+    (
+        12,
+        3,
+        40,
+        "Root inventories: 12 changed without a new version, 3 went back, 40 of a new version: \
+         cat 'reports/gone-000003'\n",
+    ),
+];
+
+#[test]
+fn closings_count_other_root_inventories(rt: HostRuntime) -> Result<(), Fail> {
+    let alloc = rt.alloc();
+    let none = Gravest::new(alloc);
+    for (rewritten, went_back, newer, wanted) in MOVED {
+        let closing = Closing {
+            moved: moved(rewritten, went_back, newer),
+            ..quiet(&none)
+        };
+        let text = String::from_utf8(closing_text(alloc, &closing)?)?;
+        assert_eq!(rt; text.as_str(), wanted);
+    }
+    Ok(())
+}
+
+#[test]
+fn their_line_takes_no_room_from_others(rt: HostRuntime) -> Result<(), Fail> {
+    let alloc = rt.alloc();
+    let changed = make_changes(alloc)?;
+    let closing = Closing {
+        whole: false,
+        runs: 12,
+        appeared_count: 25,
+        said: 3,
+        repaired_count: 22,
+        back_count: 2,
+        unlooked: 5,
+        moved: moved(1, 2, 3),
+        ..closing_of(&changed)
+    };
+    let text = String::from_utf8(closing_text(alloc, &closing)?)?;
+    let line =
+        "Root inventories: 1 changed without a new version, 2 went back, 3 of a new version: \
+                cat 'reports/gone-000003'\n";
+    let rest = text.as_str().replace(alloc, line, "")?;
+    assert_eq!(rt; rest.as_str(), CLOSED);
+    assert_eq!(rt; text.as_str().split_inclusive('\n').count(), 14);
     Ok(())
 }
 

@@ -4,13 +4,14 @@ use crate::tests::common::store::{expect_listed, place_of};
 use crate::tests::walk::said;
 use crate::tests::walk::stack::{STEPS, expect_inventories, expect_steps, step};
 use ocfl_memory::MemTree;
+use ocfl_report::Further;
 use ocfl_tree::Place;
 use ocfl_walk::{End, Walk};
 use std::alloc::Global;
 use std::test::Fail;
 
 fn begun(alloc: Global, store: &mut MemTree, from: &str) -> Result<Walk, Fail> {
-    Walk::start_at(alloc, store, None, &place_of(alloc, from)?).map_err(said)
+    Walk::start_at(alloc, store, Further::Nothing, &place_of(alloc, from)?).map_err(said)
 }
 
 #[test]

@@ -5,17 +5,10 @@ use crate::tests::common::object::bare_root;
 use crate::tests::common::store::{change, place_of};
 use crate::tests::walk::{judged, said};
 use ocfl_memory::MemTree;
-use ocfl_report::Code;
-use ocfl_rules::further::NewCodes;
+use ocfl_report::Further;
 use ocfl_walk::{Walk, item_at};
 use std::alloc::Global;
 use std::test::Fail;
-
-/// The lines that only such an audit has are written with these codes here.
-const CODES: NewCodes = NewCodes {
-    differs: Code::E093,
-    is_now: Code::S01,
-};
 
 const FIRST: &str = r#"{"digestAlgorithm":"sha256","head":"v1","manifest":{}}"#;
 
@@ -95,7 +88,7 @@ fn expect_above(
     let alloc = rt.alloc();
     let place = place_of(alloc, after)?;
     let above = if after.is_empty() { None } else { Some(&place) };
-    let walk = Walk::start(alloc, store, Some(CODES), above).map_err(said)?;
+    let walk = Walk::start(alloc, store, Further::Inventories, above).map_err(said)?;
     let got = rest(alloc, store, walk)?;
     assert_eq!(rt;
         got.0.as_str(),
@@ -112,7 +105,7 @@ fn each_version_has_its_inventory(rt: HostRuntime) -> Result<(), Fail> {
     let mut store = two_versions(alloc)?;
     let second = "ok|o/v2/inventory.json|54\n";
     let both = format!(in alloc; "ok|o/v1/inventory.json|54\n{second}")?;
-    let head = format!(in alloc; "ok|o|-\nS01|o|sha256 {SECOND_DIGEST} v2\n")?;
+    let head = format!(in alloc; "ok|o|-\nS09|o|sha256 {SECOND_DIGEST} v2\n")?;
     let all = format!(in alloc; "ok|.|-\n{head}{both}")?;
     let rows = [
         ("", all.as_str(), 110),
@@ -135,7 +128,7 @@ fn an_inventory_is_where_a_walk_begins(rt: HostRuntime) -> Result<(), Fail> {
     let alloc = rt.alloc();
     let mut store = two_versions(alloc)?;
     let from = place_of(alloc, "o/v2/inventory.json")?;
-    let walk = Walk::start_at(alloc, &mut store, Some(CODES), &from).map_err(said)?;
+    let walk = Walk::start_at(alloc, &mut store, Further::Inventories, &from).map_err(said)?;
     let (text, cost) = rest(alloc, &mut store, walk)?;
     let want = lines_of(alloc, "ok|o/v2/inventory.json|54\n")?;
     assert_eq!(&rt; text.as_str(), want.as_str());
@@ -150,9 +143,15 @@ fn a_changed_inventory_is_told_twice(rt: HostRuntime) -> Result<(), Fail> {
     put_inventory(alloc, &mut store, "o/v1", FLIPPED, FIRST_DIGEST)?;
     let place = "o/v1/inventory.json";
     let digests = format!(in alloc; "sha256 {FIRST_DIGEST} {FLIPPED_DIGEST}")?;
-    let want = format!(in alloc; "E060|{place}|{digests}\nE093|{place}|{digests}\n")?;
+    let want = format!(in alloc; "E060|{place}|{digests}\nE064|{place}|{digests}\n")?;
     expect_above(&rt, &mut store, "o", want.as_str(), 55)?;
-    let found = item_at(alloc, &mut store, Some(CODES), &place_of(alloc, place)?).map_err(said)?;
+    let found = item_at(
+        alloc,
+        &mut store,
+        Further::Inventories,
+        &place_of(alloc, place)?,
+    )
+    .map_err(said)?;
     let Some(pending) = found else {
         return Err("no item".into());
     };
@@ -166,7 +165,7 @@ fn a_changed_inventory_is_told_twice(rt: HostRuntime) -> Result<(), Fail> {
 fn without_the_option_none_is_read(rt: HostRuntime) -> Result<(), Fail> {
     let alloc = rt.alloc();
     let mut store = two_versions(alloc)?;
-    let walk = Walk::start(alloc, &mut store, None, None).map_err(said)?;
+    let walk = Walk::start(alloc, &mut store, Further::Nothing, None).map_err(said)?;
     let (text, cost) = rest(alloc, &mut store, walk)?;
     let want = lines_of(alloc, "ok|.|-\nok|o|-\n")?;
     assert_eq!(&rt; text.as_str(), want.as_str());

@@ -24,7 +24,8 @@ VOCABULARY = "http://id.loc.gov/vocabulary/preservation/"
 LOSSES = ("Objects gone", "Objects no longer declared", "Files gone", "Expected objects missing")
 # What is said of a row of a list of what is gone.
 NOTES = {b"expected": b"missing: ", b"undeclared": b"no longer declared, and not looked at: ",
-         b"changed": b"changed without a new version: ", b"older": b"went back to an older version: "}
+         b"changed": b"changed without a new version: ",
+         b"older": b"went back to an older version: "}
 # What no document of XML 1.0 may hold.
 FORBIDDEN = re.compile("[\x00-\x08\x0b\x0c\x0e-\x1f\ud800-\udfff\ufffe\uffff]")
 # What is markup, and what other readers would make other characters of.

@@ -128,7 +128,8 @@ def show_json(reports: list[str]) -> None:
 
 
 def as_json(code: str, path: str, detail: str) -> str:
-    line = {"code": code, "path": path, "detail": detail, "finding": code.encode() not in report.NO_FINDINGS}
+    line = {"code": code, "path": path, "detail": detail,
+            "finding": code.encode() not in report.NO_FINDINGS}
     if code == "ok" and detail != "-":
         line["bytes"] = int(detail)
     return json.dumps(line, separators=(",", ":"))

@@ -214,8 +214,8 @@ def expect_of_inventory(wanted: Wanted, root: str, detail: bytes) -> None:
 
 
 def expect_of_version(wanted: Wanted, root: str, of_code: dict[bytes, bytes]) -> None:
-    """What the inventory of a version must be the sidecar beside it says, and the root inventory may
-    be that; or if the sidecar is damaged or missing, what it must name."""
+    """The sidecar beside an inventory of a version says what that must be, and the root inventory
+    may be it; or if the sidecar is damaged or missing, what it must name."""
     root_inventory = wanted.object + b"/" + INVENTORY
     wanted.object = wanted.place.rpartition(b"/")[0]
     if of_code.keys().isdisjoint((b"E060", b"S08")):

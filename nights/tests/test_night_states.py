@@ -45,9 +45,9 @@ class Program:
         self.rows = []
         self.put("lock", b"")
         version, part = (2, part + "checks inventories\n") if checks else (1, part)
-        body = ("ocfl-scrub checkpoint %d\nroot %s\ndeclared %s\nnames 3 %s\nphase open\nwhole yes\n"
-                "report 0 0\npieces %s\ntail %s\ntold 0\nleft 0\n%scycle %d\nruns 1\nspent 6\n"
-                "files 1\nafter o\n"
+        body = ("ocfl-scrub checkpoint %d\nroot %s\ndeclared %s\nnames 3 %s\nphase open\n"
+                "whole yes\nreport 0 0\npieces %s\ntail %s\ntold 0\nleft 0\n%scycle %d\n"
+                "runs 1\nspent 6\nfiles 1\nafter o\n"
                 % (version, root, "d" * 64, ZEROS, ZEROS, ZEROS, part, cycle)).encode()
         self.put("checkpoint", body + b"sha256 %s\n" % hashlib.sha256(body).hexdigest().encode())
 

@@ -298,7 +298,7 @@ class Repairs(Asked):
         self.assertEqual(self.read("o/inventory.json"), root)
 
     def test_the_newest_inventory(self):
-        """That of the newest version is the root inventory, if that has the digest of its sidecar."""
+        """That of the newest version is the root inventory, if that has its sidecar's digest."""
         path = "o/v2/inventory.json"
         right = self.read(path)
         self.write(path, b"{}")

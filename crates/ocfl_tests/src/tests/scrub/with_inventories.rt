@@ -27,19 +27,23 @@ const CUT: &str = r#"{"digestAlgorithm":"sha512","head":"v2","manifest":{}"#;
 const SUMS: [(&str, &str); 5] = [
     (
         "FIRST_SUM",
-        "7103de30520e10b9601bd805dd5f39009199c3bd277902fe5ac6f09d48409c2fa73cfd2e5c7e7b32eb842f162f87a22fb2135bb520bb554bb6e6c4c098063290",
+        "7103de30520e10b9601bd805dd5f39009199c3bd277902fe5ac6f09d48409c2f\
+         a73cfd2e5c7e7b32eb842f162f87a22fb2135bb520bb554bb6e6c4c098063290",
     ),
     (
         "SECOND_SUM",
-        "33e3c1e564c82389f117a966e0459625e05c8de4411c63c5a8ee2400af00724257869250d3b796a7eb38a852c3ca5eae1e09572ae788cfad6b14636d270a8be0",
+        "33e3c1e564c82389f117a966e0459625e05c8de4411c63c5a8ee2400af007242\
+         57869250d3b796a7eb38a852c3ca5eae1e09572ae788cfad6b14636d270a8be0",
     ),
     (
         "FLIPPED_SUM",
-        "11fc4699b20d6e9a9ed687b12af34c56d4bcd089b28885b7d7feaec8da9f137e091266f45db4a2d8b1fb30b2db2096595ae57d4063c7d082bb21bbacd20ba392",
+        "11fc4699b20d6e9a9ed687b12af34c56d4bcd089b28885b7d7feaec8da9f137e\
+         091266f45db4a2d8b1fb30b2db2096595ae57d4063c7d082bb21bbacd20ba392",
     ),
     (
         "CUT_SUM",
-        "ea95a1ac7a5c1d2288d019f80306e027bfa84e55e77b222e80c09d0d4b48762d90404408aace15d40eccfd8b349820ace6f61f1e7fda5a87000d4e41b4064a70",
+        "ea95a1ac7a5c1d2288d019f80306e027bfa84e55e77b222e80c09d0d4b48762d\
+         90404408aace15d40eccfd8b349820ace6f61f1e7fda5a87000d4e41b4064a70",
     ),
     (
         "SHORT_SUM",
@@ -90,8 +94,8 @@ const RIGHT_1: &str = "ok|o/v1/inventory.json|54\n";
 
 const RIGHT_2: &str = "ok|o/v2/inventory.json|54\n";
 
-/// What is changed, the lines of the first version and of the second, and what a cycle of one file a
-/// run says.
+/// What is changed, the lines of the first version and of the second, and what a cycle of one file
+/// a run says.
 type Rows = (
     &'static str,
     &'static [(&'static str, &'static str)],

@@ -35,6 +35,7 @@ use Rattle.ocfl_item.proofs.{HeadLaws.{unknown_stops}, ItemLaws.{clean_some}}
 use Rattle.ocfl_item.proofs.{LinesLaws.{unhashed_at}, LooksZones.{at_root, declared_root}}
 use Rattle.ocfl_item.proofs.CommonLaws.{lines_alone, unnamed_unhashed}
 use Rattle.ocfl_rules.proofs.MetaLaws.{common_is_meta}
+use Rattle.ocfl_item.proofs.UpToLaws.{files_up_to}
 use Rattle.ocfl_item.proofs.AuditingLaws.{failed_behind, files_near, front_of_none, near_within, read_behind, few_once, front_all, heads_append}
 use Rattle.ocfl_item.proofs.VisitLaws.{meet_stop, meets_unopened, visit_of_folder, visit_of_item}
 use Rattle.ocfl_tree.proofs.Stores.{did_then, listed_well}
@@ -190,6 +191,7 @@ module _ (further : Further) (root : StorageRoot) where
         heads = subst (IsFront (heads_of root (m.trail ++ k.trail)))
             (heads_append root m.trail k.trail ∙ ap (λ l. heads_of root m.trail ++ l) quiet.1 ∙ append-nil (heads_of root m.trail) ∙ m.heads) (front_all (heads_of root (m.trail ++ k.trail)));
         store = λ q g. let w = k.stops.store q g in (w.0, failed_behind further root s t u m.listings k.stops.goes.listings m.trail k.trail q m.read (listed_well s t m.trail m.listings 0 (omega arith) m.did) w.1);
+        up_to = λ q g. files_up_to further root t u [] (n ∷ []) why k [] q g;
       }
 
   module _ (e : Place) (es : List Entry) (m : MadeDeclared) (h : IsBase root e es m) (v : Visit) (p : Pending) (item : v.item ≡ Some p) (table : v.table ≡ None) (pending : IsPending further root p) (at : p.place ≡ e) where

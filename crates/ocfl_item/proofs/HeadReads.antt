@@ -1,12 +1,12 @@
 -- What reading an object's head did, as a visit says it.
-use Rattle.std.proofs.Common.{◌≡◌, ℕ, List, [], ◌∷◌, sym, ◌∙◌, ap, subst, Option}
+use Rattle.std.proofs.Common.{◌≡◌, ℕ, List, [], ◌∷◌, sym, ◌∙◌, ap, subst, Option, Some}
 use Rattle.std.proofs.lemmas.List.{append_cancel_left, append-nil}
 use Rattle.std.specs.Prelude.{IfOk, Result, Ok, Err}
 use Rattle.ocfl_tree.specs.{Place.{Place}, StorageRoot.{StorageRoot}, Store.{Store, Did}}
 use Rattle.ocfl_tree.specs.declared.store.Opening.{Opening}
 use Rattle.ocfl_report.specs.declared.further.Further.{Further}
 use Rattle.ocfl_inventory.specs.Table.{Table}
-use Rattle.ocfl_item.specs.{Looking.{IsFront, failures_by}, Auditing.{FailedAt, LieIn}}
+use Rattle.ocfl_item.specs.{Looking.{IsFront, LiesUpTo, failures_by}, Auditing.{FailedAt, LieIn}}
 use Rattle.ocfl_item.specs.{HeadFiles.{OpensJust, files_there}, Internal.HeadFiles.{head_files}}
 use Rattle.ocfl_item.specs.{Internal.Ways.{IsHeadOf}, Internal.Visiting.{HeadRead}}
 use Rattle.ocfl_item.specs.{declared.fault.Fault.{Fault}, declared.lines.PlaceLines.{PlaceLines}}
@@ -16,6 +16,7 @@ use Rattle.ocfl_rules.specs.Zone.{inside, object_declared, zone}
 use Rattle.ocfl_item.proofs.AuditingLaws.{files_near, front_of_none}
 use Rattle.ocfl_item.proofs.FileLaws.{some_is_meta, some_of, stop_is_meta}
 use Rattle.ocfl_item.proofs.HeadCalls.{head_files_apart, head_files_meta}
+use Rattle.ocfl_item.proofs.UpToLaws.{files_up_to}
 use Rattle.ocfl_item.proofs.HeadTrails.{heads_append, heads_are, heads_at, heads_exact}
 
 -- what was opened from s to t is one list
@@ -66,5 +67,6 @@ head_read_from further root s t o (Err why) z k is =
         store = λ q e.
             let f = stops.stops.store q e in
             (f.0, subst (λ ls. FailedAt further root s t ls stops.trail q) (front_of_none stops.stops.goes.listings stops.stops.goes.listed) f.1);
+        up_to = λ q e. subst (λ x. LiesUpTo (Some x) q) (append-nil o) (files_up_to further root s t o names why k [] q e);
       };
     }

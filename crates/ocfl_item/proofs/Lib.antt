@@ -30,6 +30,7 @@ mod VersionReads
 mod HeadReads
 mod HeadOpens
 pub mod AuditingLaws
+pub mod UpToLaws
 pub mod ShutLaws
 mod ShortLaws
 mod StopLaws

@@ -24,13 +24,14 @@ use Rattle.ocfl_rules.proofs.{MetaLaws.{object_around}, ObjectLaws.{object_by_zo
 use Rattle.ocfl_item.specs.{Around.{AreBehind, IsMet, TellOfSidecars}, Auditing.{LiesBeside}, HeadFiles.{FilesStop, ReadsFiles, files_there}}
 use Rattle.ocfl_item.specs.Internal.HeadFiles.{HaveSidecars}
 use Rattle.ocfl_item.specs.Internal.Visiting.{IsEntryAt, IsInventoryAt, IsShut, is_checked}
-use Rattle.ocfl_item.specs.{Looking.{IsFront}, Meeting.{IsItemAt, MeetFails, Meets, Visits}, Pending.{IsPending}}
+use Rattle.ocfl_item.specs.{Looking.{IsFront, LiesUpTo}, Meeting.{IsItemAt, MeetFails, Meets, Visits}, Pending.{IsPending}}
 use Rattle.ocfl_item.specs.{declared.fault.Fault.{Fault}, declared.visit.Visit.{Visit}}
 use Rattle.ocfl_item.specs.{declared.meeting.Around.{Around}, Root.{root_at, root_view}}
 use Rattle.ocfl_item.specs.declared.pending.Pending.{Pending}
 use Rattle.ocfl_item.specs.declared.fault.Fault.TheVariants as fault
 use Rattle.ocfl_item.proofs.{AuditingLaws.{files_in, front_none, front_of_none}, BaseLaws.{IsQuiet, front_quiet, only_quiet}}
 use Rattle.ocfl_item.proofs.{FileLaws.{front_once, whole_front}, LooksZones.{inside_on}}
+use Rattle.ocfl_item.proofs.UpToLaws.{files_up_to}
 use Rattle.ocfl_item.proofs.{VersionItems.{found}, VisitLaws.{file_shut, visit_of_item, visits_memory, visits_told}, VisitPlaces.{entry_met}}
 
 abbrev both : List Text
@@ -127,6 +128,7 @@ module _ (root : StorageRoot) (e o : Place) (v : Text) (h : IsInventoryAt root e
         heads = subst (λ os. IsFront os (on (reads_inventory root e) e)) (sym (quiet r.trail r.opened).1) (front_none (on (reads_inventory root e) e));
         near = λ x i meta. inr (e, beside r.trail r.opened x i);
         store = r.stops.store;
+        up_to = λ q g. subst (λ x. LiesUpTo (Some x) q) (sym whole) (files_up_to Inventories root s t d both why r (inventory_name ∷ []) q g);
       }
 
   -- ---- what is met there

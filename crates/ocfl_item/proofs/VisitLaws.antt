@@ -38,7 +38,7 @@ use Rattle.ocfl_item.specs.declared.role.Role.TheVariants as role
 use Rattle.ocfl_item.specs.declared.sight.Sight.TheVariants as sight
 use Rattle.ocfl_item.proofs.{ContentLaws.{named_short, not_root}, CommonLaws.{IsFree, lines_alone, lines_free, no_version, unnamed_free, unnamed_unhashed}, LooksZones.{dir_from_leaf, entered_from}}
 use Rattle.ocfl_item.proofs.LooksEntries.{emptied, kind_file, not_emptied}
-use Rattle.ocfl_item.proofs.AuditingLaws.{front_all, front_none, near_none, none_once}
+use Rattle.ocfl_item.proofs.{AuditingLaws.{front_all, front_none, near_none, none_once}, UpToLaws.{listed_up_to}}
 use Rattle.ocfl_item.proofs.ShutLaws.{listed_shows, looked_at, no_head_unread, shut_no_dir, shut_zone}
 use Rattle.ocfl_item.proofs.LinesLaws.{unhashed_at}
 
@@ -121,6 +121,7 @@ fails_unopened further root s t e why listings over did listed store = record {
   listed = listed;
   heads = front_none (on (reads_inventory root e) e);
   store = store;
+  up_to = λ q g. listed_up_to further root s t e (is_looked_into root e) listings q listed (store q g).1;
 }
 
 pub meet_stop : (further : Further) (root : StorageRoot) (s t : Store) (e : Place) (why : Fault) → is_looked_into root e ≡ true → Stops further root s t (e ∷ []) [] why → MeetFails further root s t e why
@@ -140,6 +141,7 @@ meet_out further root s t e h = record {
   listed = subst (IsFront h.listings) h.listed (front_all h.listings);
   heads = subst (IsFront (heads_of root h.trail)) h.heads (front_all (heads_of root h.trail));
   store = λ q g. absurd cc;
+  up_to = λ q g. absurd cc;
 }
 
 -- nothing was done, and memory was refused

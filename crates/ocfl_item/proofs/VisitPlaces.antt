@@ -239,6 +239,7 @@ listed_fails further root s t u e why head over did looked h = record {
   listed = subst (λ b. IsFront (e ∷ []) (on b e)) (sym looked) (front_all (e ∷ []));
   heads = h.heads;
   store = λ q g. let w = h.store q g in (w.0, failed_behind further root s t u (e ∷ []) [] [] h.trail q refl (listed_well s t [] (e ∷ []) 0 (omega arith) did) w.1);
+  up_to = h.up_to;
 }
 
 pub visits_then : (further : Further) (root : StorageRoot) (s t u : Store) (e : Place) (r : Result Visit Fault) → is_head (zone root e) ≡ true → s.tree ≡ root

@@ -1,13 +1,17 @@
--- The way to a place; the front of a list; which faults are failures.
+-- The way to a place; in which directory one lies; the front of a list; which faults are failures.
 use Rattle.std.specs.Prelude.{◌≡◌, ℕ, List, [], ◌∷◌, ◌++◌, Option, Some, None}
-use Rattle.ocfl_tree.specs.Place.{Place}
-use Rattle.ocfl_rules.specs.Zone.{beginnings}
+use Rattle.ocfl_tree.specs.Place.{Place, Text}
+use Rattle.ocfl_rules.specs.{Between.{IsWithin}, Zone.{beginnings}}
 use Rattle.ocfl_item.specs.declared.fault.Fault.{Fault}
 use Rattle.ocfl_item.specs.declared.fault.Fault.TheVariants as fault
 
 -- the proper beginnings of a place, the root first, and then the place
 abbrev pub way_to : Place → List Place
 way_to p = beginnings p ++ p ∷ []
+
+-- a place lies right in a directory that is not after this place, if one is given
+abbrev pub LiesUpTo : Option Place → Place → Type 0
+LiesUpTo to q = (d : Place) (n : Text) → q ≡ d ++ n ∷ [] → IsWithin to d
 
 -- one list begins the other
 abbrev pub IsFront : {A : Type 0} → List A → List A → Type 0

@@ -13,7 +13,7 @@ use Rattle.ocfl_rules.specs.Between.{is_looked_into}
 use Rattle.ocfl_rules.specs.Walk.{is_reached, seen_names}
 use Rattle.ocfl_item.specs.Auditing.{FailedAt, IsMetadataRead, LieIn, LiesBeside}
 use Rattle.ocfl_tree.specs.Ascending.{IsAmong}
-use Rattle.ocfl_item.specs.{Looking.{IsFront, failures_by}, Pending.{IsPending}, Root.{root_at, root_view}}
+use Rattle.ocfl_item.specs.{Looking.{IsFront, LiesUpTo, failures_by}, Pending.{IsPending}, Root.{root_at, root_view}}
 use Rattle.ocfl_item.specs.{declared.fault.Fault.{Fault}, declared.folder.Folder.{Folder}}
 use Rattle.ocfl_item.specs.{declared.pending.Pending.{Pending}, declared.visit.Visit.{Visit}}
 use Rattle.ocfl_item.specs.declared.fault.Fault.TheVariants as fault
@@ -39,7 +39,8 @@ pub record Meets (further : Further) (root : StorageRoot) (s t : Store) (e : Pla
   pub heads : heads_of root trail ≡ on (reads_inventory root e) e
   pub near : LieIn further root listings trail
 
--- at most this, and then there was a fault
+-- at most this, and then there was a fault. The place at which the store failed lies in no directory
+-- after this place
 pub record MeetFails (further : Further) (root : StorageRoot) (s t : Store) (e : Place) (why : Fault) : Type 0 where
   pub over : s.tree ≡ root
   pub trail : List Opening
@@ -53,6 +54,7 @@ pub record MeetFails (further : Further) (root : StorageRoot) (s t : Store) (e :
   pub heads : IsFront (heads_of root trail) (on (reads_inventory root e) e)
   pub near : LieIn further root listings trail
   pub store : (q : Place) → why ≡ fault.Store q → (is_hashed further root q ≡ false) × FailedAt further root s t listings trail q
+  pub up_to : (q : Place) → why ≡ fault.Store q → LiesUpTo (Some e) q
 
 -- the item of a place, if it has lines
 abbrev pub IsItemAt : Further → StorageRoot → Place → Option Pending → Type 0

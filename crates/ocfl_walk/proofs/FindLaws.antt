@@ -3,26 +3,27 @@ use Rattle.std.proofs.Common.{◌≡◌, ◌≢◌, ◌⊎◌, inl, inr, ℕ, �
 use Rattle.std.proofs.{lemmas.Bool.{false_from_ne_true}, lemmas.List.{append-nil, length-append, nil_from_length, same_from_push}}
 use Rattle.std.proofs.lemmas.List.{Elements.{All-from_recursion}, Kept.{AllPairs-cons}}
 use Rattle.std.specs.List.{AllByRecursion}
-use Rattle.std.specs.Prelude.{AllPairs, is_some, Result, Ok, Err}
+use Rattle.std.specs.Prelude.{AllPairs, is_some, not, Result, Ok, Err}
 use Rattle.ocfl_tree.specs.{Place.{Text, Place}, StorageRoot.{StorageRoot, dir}, Store.{Store, Did}}
 use Rattle.ocfl_tree.specs.{Listing.{kind_at, kind_in}, declared.store.Entry.{Entry}}
-use Rattle.ocfl_tree.specs.{declared.store.Opening.{Opening}, Ascending.{IsAmong}}
+use Rattle.ocfl_tree.specs.{Calls.{opening}, declared.store.Opening.{Opening}, Ascending.{IsAmong}}
 use Rattle.ocfl_report.specs.declared.further.Further.{Further}
 use Rattle.ocfl_report.specs.declared.further.Further.TheVariants.{Nothing, Inventories}
 use Rattle.ocfl_rules.specs.Inventories.{version_inventory_in}
 use Rattle.ocfl_rules.specs.Zone.{Zone, skipped, hierarchy, inside, zone, seen}
-use Rattle.ocfl_rules.specs.Trail.{heads_of, inventory_of, is_head, content_trail, reads_inventory}
+use Rattle.ocfl_rules.specs.Trail.{heads_of, inventory_of, is_head, is_meta, content_openings, content_trail, reads_inventory}
 use Rattle.ocfl_rules.specs.{Walk.{is_reached}, Head.{on}, Between.{is_looked_into}}
 use Rattle.ocfl_walk.specs.WalkCalls.{holder_of, AreAllListed}
 use Rattle.ocfl_walk.specs.Internal.Entering.{Comes, Descends, DescendFails, Leads, may_open}
-use Rattle.ocfl_walk.specs.Internal.Finding.{Finds, FindsAll, FindFails, FindsItem, OpensNoHead}
-use Rattle.ocfl_item.specs.{Looking.{IsFront, failures_by}, Auditing.{IsMetadataRead, LieIn, LiesBeside}}
+use Rattle.ocfl_walk.specs.Internal.Finding.{Finds, FindsAll, FindFails, FindsItem, LiesUpToOne, OpensNoHead}
+use Rattle.ocfl_item.specs.Auditing.{FailedAt, IsMetadataRead, LieIn, LiesBeside, LiesIn, LiesNear, in_listing, in_opening}
+use Rattle.ocfl_item.specs.Looking.{IsFront, LiesUpTo, failures_by}
 use Rattle.ocfl_item.specs.{Around.{AreBehind, IsMet, IsPart, IsTableAround}, Meeting.{OpensBeside, Visits}}
 use Rattle.ocfl_item.specs.{Ways.{AreInventories, IsAt, way_below}, declared.fault.Fault.{Fault}}
 use Rattle.ocfl_item.specs.{declared.folder.Folder.{Folder}, declared.pending.Pending.{Pending}}
 use Rattle.ocfl_item.specs.{declared.meeting.Around.{Around}, declared.visit.Visit.{Visit}}
 use Rattle.ocfl_item.specs.declared.fault.Fault.TheVariants as fault
-use Rattle.ocfl_tree.proofs.Orders.{among_left, among_right, true_not_false}
+use Rattle.ocfl_tree.proofs.Orders.{among_filter, among_left, among_map, among_right, true_not_false}
 use Rattle.ocfl_tree.proofs.Stores.{among_either, did_nothing}
 use Rattle.ocfl_walk.proofs.{BehindLaws.{is_behind}, ReachLaws.{own_listed}}
 use Rattle.ocfl_walk.proofs.DescentLaws.{calls_then, failed_then, front_on, front_within, no_calls, own_inventory_reached}
@@ -31,6 +32,7 @@ use Rattle.ocfl_rules.proofs.{BetweenLaws.{seen_reached}, AuditExists.{append_on
 use Rattle.ocfl_rules.proofs.WayLaws.{head_seen, is_closed}
 use Rattle.ocfl_item.proofs.AuditingLaws.{few_once, front_all, near_none, near_on, none_once, heads_append}
 use Rattle.ocfl_item.proofs.{ItemLaws.{head_zone}, LooksCalls.{memory_no_store}}
+use Rattle.ocfl_item.proofs.UpToLaws.{up_to_in, up_to_own}
 use Rattle.ocfl_item.proofs.LooksZones.{inside_step, sight_nothing, unseen_behind}
 
 -- ---- lists
@@ -103,6 +105,57 @@ none_of_heads : (root : StorageRoot) (trail : List Opening) → AllByRecursion (
 none_of_heads root [] h = refl
 none_of_heads root (x ∷ trail) h = (λ i. h.0 i ++ none_of_heads root trail h.1 i)
 
+-- ---- where a descent failed
+
+-- the one file that it opened is an object's inventory
+one_inventory : (root : StorageRoot) (trail : List Opening) (x : Opening) → length trail ≤ 1 → AreInventories root trail → IsAmong trail x → inventory_of (zone root x.place) ≡ [] → ⊥
+one_inventory root [] x few only i none = i
+one_inventory root (y ∷ []) x few only (inl same) none =
+    let empty : length (inventory_of (zone root y.place)) ≡ 0 = ap (λ z. length (inventory_of (zone root z.place))) (sym same) ∙ ap length none in
+    let one : 1 ≡ length (inventory_of (zone root y.place)) = only ∙ ap length (append-nil (inventory_of (zone root y.place))) in
+    omega (arith, empty, one)
+one_inventory root (y ∷ []) x few only (inr i) none = i
+one_inventory root (y ∷ z ∷ trail) x few only i none = omega (arith, few)
+
+-- what was opened is metadata
+pub opened_meta : (further : Further) (root : StorageRoot) (trail : List Opening) → content_trail further root trail ≡ [] → (x : Opening) → IsAmong trail x → is_meta further root x.place ≡ true
+opened_meta further root trail none x i = by (is_meta further root x.place) refl
+  where
+    by : (b : Bool) → is_meta further root x.place ≡ b → b ≡ true
+    by true e = refl
+    by false e =
+        let content = among_filter (λ o. not (is_meta further root o.place)) trail x i (ap not e) in
+        absurd (subst (λ ps. IsAmong ps x.place) none (among_map (λ o. o.place) (content_openings further root trail) x content))
+
+descended_up_to : (further : Further) (root : StorageRoot) (s t : Store) (way may : List Place) (why : Fault) → length may ≤ 1 → (h : DescendFails further root s t way may why) (q : Place)
+    → FailedAt further root s t h.goes.calls.listings h.goes.calls.trail q → LiesUpToOne way q
+descended_up_to further root s t way may why few h q at = by at
+  where
+    trail : List Opening
+    trail = h.goes.calls.trail
+
+    on_way_there : (d : Place) → IsAmong h.goes.calls.listings d → IsAmong way d
+    on_way_there d i = subst (λ ps. IsAmong ps d) (sym h.goes.listed.1) (among_left (h.goes.calls.listings ++ []) h.goes.listed.0 d (among_left h.goes.calls.listings [] d i))
+
+    few_there : length trail ≤ 1
+    few_there = let k = front_fits (heads_of root trail) [] may h.goes.heads in let only = h.goes.only in omega (arith, few, k, only)
+
+    in_one : LiesIn h.goes.calls.listings q → LiesUpToOne way q
+    in_one k = (k.0, (on_way_there k.0 k.1.1.0, subst (λ x. LiesUpTo (Some x) q) (append-nil k.0) (up_to_in k.0 [] q k.1.0 k.1.1.1)))
+
+    near : (given : ℕ) (f : Further) → LiesNear f root h.goes.calls.listings q → IsAmong trail (opening q given true) → LiesUpToOne way q
+    near given Nothing k i = in_one k
+    near given Inventories (inl k) i = in_one k
+    near given Inventories (inr k) i = absurd (one_inventory root trail (opening q given true) few_there h.goes.only i (beside_quiet root k.0 q k.1))
+
+    by : FailedAt further root s t h.goes.calls.listings trail q → LiesUpToOne way q
+    by (in_listing before is failed read) =
+        let there = subst (λ ls. IsAmong ls q) (sym is) (among_right before (q ∷ []) q (inl refl)) in
+        (q, (on_way_there q there, up_to_own q))
+    by (in_opening before given is none) =
+        let there : IsAmong trail (opening q given true) = subst (λ os. IsAmong os (opening q given true)) (sym is) (among_right before (opening q given true ∷ []) (opening q given true) (inl refl)) in
+        near given further (h.goes.near (opening q given true) there (opened_meta further root trail h.goes.calls.meta (opening q given true) there)) there
+
 module _ (further : Further) (root : StorageRoot) where
   -- ---- what was done
 
@@ -129,7 +182,11 @@ module _ (further : Further) (root : StorageRoot) where
   }
 
   pub finds_stopped : (s t : Store) (way may : List Place) (why : Fault) → length may ≤ 1 → DescendFails further root s t way may why → FindFails further root s t way may why
-  finds_stopped s t way may why few h = record { finds = finds_descended s t way [] may [] (failures_by why) few h.goes; store = h.store }
+  finds_stopped s t way may why few h = record {
+    finds = finds_descended s t way [] may [] (failures_by why) few h.goes;
+    store = h.store;
+    up_to = λ q e. descended_up_to further root s t way may why few h q (h.store q e).1;
+  }
 
   pub both_once : (left : List Place) (os os' : List Opening) → length os + length left ≤ 1 → AreInventories root os → (left ≡ [] → OpensNoHead further root os')
       → AllPairs (λ a b. a.place ≢ b.place) os' → AllPairs (λ a b. a.place ≢ b.place) (os ++ os')
@@ -185,8 +242,11 @@ module _ (further : Further) (root : StorageRoot) where
     pub item_on : AreAllListed root way (h.calls.listings ++ more) → (p : Place) (r : Result (Option Pending) Fault) → FindsItem further root t u more left p r → FindsItem further root s u way may p r
     item_on all_first p (Ok o) k = record { gives = (all_on k.gives.0 all_first, k.gives.1) }
     item_on all_first p (Err why) k = record {
-      gives = record { finds = finds_on (failures_by why) k.gives.finds; store = failed_then further root s t u why h.calls k.gives.finds.calls k.gives.store };
+      gives = record { finds = finds_on (failures_by why) k.gives.finds; store = failed_then further root s t u why h.calls k.gives.finds.calls k.gives.store; up_to = λ q e. one_on q (k.gives.up_to q e) };
     }
+      where
+        one_on : (q : Place) → LiesUpToOne more q → LiesUpToOne way q
+        one_on q g = (g.0, (subst (λ ps. IsAmong ps g.0) (sym h.listed.1) (among_left (h.calls.listings ++ more) h.listed.0 g.0 (among_right h.calls.listings more g.0 g.1.0)), g.1.1))
 
   pub finds_nothing : (s : Store) (way may : List Place) → s.tree ≡ root → Finds further root s s way may 0
   finds_nothing s way may over = record { calls = no_calls further root s s over (did_nothing s); once = none_once; closed = λ e. nothing_no_head further root [] refl; listed = (way, refl); heads = (may, refl); near = near_none further root [] }
@@ -201,7 +261,7 @@ module _ (further : Further) (root : StorageRoot) where
 
   -- what was found, and then memory was refused
   pub item_refused : (s t : Store) (way may : List Place) (p : Place) → Finds further root s t way may 0 → FindsItem further root s t way may p (Err fault.Memory)
-  item_refused s t way may p h = record { gives = record { finds = h; store = λ q e. absurd (memory_no_store q e) } }
+  item_refused s t way may p h = record { gives = record { finds = h; store = λ q e. absurd (memory_no_store q e); up_to = λ q e. absurd (memory_no_store q e) } }
 
   -- ---- at the last name
 
@@ -268,6 +328,7 @@ module _ (further : Further) (root : StorageRoot) where
               finds =
                   finds_met s t m.trail m.heads (λ g n. beside_no_head further root e m.trail (m.elsewhere g n)) (failures_by why) m.listings m.over m.did m.read m.meta m.once (front_within e (is_looked_into root e) m.listings m.listed) m.near;
               store = m.store;
+              up_to = λ q g. (e, (inl refl, m.up_to q g));
             };
           }
 

@@ -1,7 +1,8 @@
 -- What was done to know one place.
 use Rattle.std.proofs.Common.{◌≡◌, ◌≢◌, ℕ, List, [], ◌∷◌, ◌++◌, refl, sym, ◌∙◌, ap, subst, true, false, Bool, Option, Some, None, filter}
 use Rattle.std.specs.Prelude.{AllPairs, cond, ◌||◌, not, Result, Ok, Err, MatchResult}
-use Rattle.ocfl_tree.specs.{Place.{Text, Place, text_eq}, StorageRoot.{StorageRoot}}
+use Rattle.std.specs.Ordering.{is_lt}
+use Rattle.ocfl_tree.specs.{Place.{Text, Place, place_cmp, text_eq}, StorageRoot.{StorageRoot}}
 use Rattle.ocfl_tree.specs.{Store.{Store, Did}, declared.store.Opening.{Opening}}
 use Rattle.ocfl_report.specs.declared.further.Further.{Further}
 use Rattle.ocfl_report.specs.declared.further.Further.TheVariants.{Nothing, Inventories}
@@ -14,15 +15,16 @@ use Rattle.ocfl_rules.specs.Trail.{content_trail, heads_of, inventory_of, reads_
 use Rattle.ocfl_rules.proofs.AuditExists.{zone_is}
 use Rattle.ocfl_rules.proofs.PathLaws.{notes_at}
 use Rattle.ocfl_item.specs.Auditing.{FailedAt, IsMetadataRead, LieIn}
-use Rattle.ocfl_item.specs.{Looking.{IsFront, failures_by, way_to}, Meeting.{IsItemAt, Visits}}
+use Rattle.ocfl_item.specs.{Looking.{IsFront, LiesUpTo, failures_by, way_to}, Meeting.{IsItemAt, Visits}}
 use Rattle.ocfl_item.specs.{Ways.{Stops, way_below}, declared.fault.Fault.{Fault}}
 use Rattle.ocfl_item.specs.{declared.pending.Pending.{Pending}, declared.visit.Visit.{Visit}}
 use Rattle.ocfl_walk.specs.WalkCalls.{AreAllListed, GoDownFails, GoesDown, IsRootFirst, holder, holder_of}
 use Rattle.ocfl_walk.specs.Internal.Entering.{Starts, StartFails}
-use Rattle.ocfl_walk.specs.Internal.Finding.{Finds, FindsAll, FindFails, FindsItem}
+use Rattle.ocfl_walk.specs.Internal.Finding.{Finds, FindsAll, FindFails, FindsItem, LiesUpToOne}
 use Rattle.ocfl_item.specs.declared.fault.Fault.TheVariants as fault
 use Rattle.ocfl_item.proofs.AuditingLaws.{audits_meta, audits_nothing, fails_meta, front_all, front_kept, none_once}
-use Rattle.ocfl_walk.proofs.{DescentLaws.{front_within}, ReachLaws.{own_listed}}
+use Rattle.ocfl_item.proofs.UpToLaws.{begins_not_before, not_less_or}
+use Rattle.ocfl_walk.proofs.{DescentLaws.{front_within}, OnWay.{on_way}, ReachLaws.{own_listed}}
 use Rattle.ocfl_walk.proofs.EnterLaws.{comes_first, start_listed, start_unlisted}
 use Rattle.ocfl_walk.proofs.FindLaws.{all_on, front_own, finds_come, finds_nothing, finds_stopped, item_on, item_refused, may_few}
 
@@ -56,8 +58,8 @@ module _ (further : Further) (root : StorageRoot) where
       }
 
       went_wrong : (why : Fault) → ((q : Place) → why ≡ fault.Store q → (is_hashed further root q ≡ false) × FailedAt further root s t listed trail q)
-          → Did s t trail listed (failures_by why) → GoDownFails further root s t (Some p) why
-      went_wrong why store did = record {
+          → Did s t trail listed (failures_by why) → ((q : Place) → why ≡ fault.Store q → LiesUpTo (Some p) q) → GoDownFails further root s t (Some p) why
+      went_wrong why store did up_to = record {
         trail = trail;
         listed = listed;
         heads = heads_of root trail;
@@ -65,6 +67,7 @@ module _ (further : Further) (root : StorageRoot) where
         listed_front = way;
         heads_front = heads;
         once = once;
+        up_to = λ q e. (p, (refl, up_to q e));
       }
 
     -- of the object that holds it the inventory is read only if its head reads it
@@ -77,7 +80,15 @@ module _ (further : Further) (root : StorageRoot) where
         went k.trail k.listings k.over k.meta h.finds.once h.finds.listed (held (holder_of (zone root p)) 0 h.finds) h.finds.near k.did (k.read refl) first h.all
 
     pub go_down_fails : (why : Fault) → FindFails further root s t (way_to p) (holder_of (zone root p)) why → GoDownFails further root s t (Some p) why
-    go_down_fails why h = let k = h.finds.calls in went_wrong k.trail k.listings k.over k.meta h.finds.once h.finds.listed (held (holder_of (zone root p)) (failures_by why) h.finds) h.finds.near why h.store k.did
+    go_down_fails why h =
+        let k = h.finds.calls in
+        went_wrong k.trail k.listings k.over k.meta h.finds.once h.finds.listed (held (holder_of (zone root p)) (failures_by why) h.finds) h.finds.near why h.store k.did (λ q e. on_the_way q (h.up_to q e))
+      where
+        -- what is on the way is not after where it leads
+        on_the_way : (q : Place) → LiesUpToOne (way_to p) q → LiesUpTo (Some p) q
+        on_the_way q g d n is =
+            let r = on_way p g.0 g.1.0 in
+            not_less_or p g.0 d (subst (λ x. is_lt (place_cmp x g.0) ≡ false) (sym r.1) (begins_not_before g.0 r.0)) (g.1.1 d n is)
 
     -- the start of a walk is such a way
     pub start_goes_down : Starts further root s t p → GoesDown further root s t (Some p)
@@ -165,7 +176,7 @@ module _ (further : Further) (root : StorageRoot) where
       let m = h.gives in
       subst (λ x. GoDownFails further root s t (Some x) why) (sym top)
       (went_wrong s t [] m.trail m.listings m.over m.meta m.once (front_within [] (is_looked_into root []) m.listings m.listed)
-      (no_objects m.trail (front_within [] (reads_inventory root []) (heads_of root m.trail) m.heads)) m.near why m.store m.did)
+      (no_objects m.trail (front_within [] (reads_inventory root []) (heads_of root m.trail) m.heads)) m.near why m.store m.did m.up_to)
 
   pub answered_memory : (s : Store) (p : Place) → s.tree ≡ root → GoDownFails further root s s (Some p) fault.Memory
   answered_memory s p over = go_down_fails s s p fault.Memory (item_refused further root s s (way_to p) (holder_of (zone root p)) p (finds_nothing further root s (way_to p) (holder_of (zone root p)) over)).gives

@@ -27,6 +27,7 @@ mod EnterLaws
 pub mod WalkCallLaws
 mod OrderlyTests
 mod WalkWords
+pub mod OnWay
 mod FindLaws
 pub mod FoundLaws
 mod StandSteps

@@ -1,7 +1,7 @@
 -- What the calls of a walk did adds up.
 use Rattle.std.proofs.Common.{◌≡◌, List, [], ◌++◌, refl, sym, ◌∙◌, ap, subst, false, Option, Some, None}
-use Rattle.std.specs.Prelude.{slice_get}
-use Rattle.ocfl_tree.specs.{Place.{Place}, StorageRoot.{StorageRoot}, Store.{Store, Did}}
+use Rattle.std.specs.{Ordering.{is_lt}, Prelude.{slice_get}}
+use Rattle.ocfl_tree.specs.{Place.{Place, place_cmp}, StorageRoot.{StorageRoot}, Store.{Store, Did}}
 use Rattle.ocfl_tree.specs.declared.store.Opening.{Opening}
 use Rattle.ocfl_report.specs.declared.further.Further.{Further}
 use Rattle.ocfl_rules.specs.{Due.{due}, Head.{on}, Trail.{heads_of, reads_inventory}}
@@ -9,6 +9,7 @@ use Rattle.ocfl_rules.specs.Between.{IsBeyond, IsWithin, is_looked_into, looked_
 use Rattle.ocfl_rules.proofs.BetweenLaws.{looked_on, read_on}
 use Rattle.ocfl_item.specs.{Looking.{IsFront, failed_place}, Auditing.{Audits, LieIn}}
 use Rattle.ocfl_item.specs.{Meeting.{Meets, MeetFails}, declared.fault.Fault.{Fault}}
+use Rattle.ocfl_item.proofs.{LooksCalls.{memory_no_store}, UpToLaws.{not_less_or}}
 use Rattle.ocfl_item.proofs.AuditingLaws.{audits_nothing, audits_on, audits_fail, audits_meta, fails_meta, fails_nothing, front_behind, front_more, front_none}
 use Rattle.ocfl_walk.specs.Ends.{before_end, is_past}
 use Rattle.ocfl_walk.specs.WalkCalls.{FailsAmong, FailsBetween, FailsOut, Walks, WalkFails, WalksOut, next_due}
@@ -43,18 +44,25 @@ module _ (further : Further) (root : StorageRoot) (s t : Store) (from : Option P
     fails = fails_meta further root s t m.listings (heads_of root m.trail) m.trail why m.over m.did m.meta refl m.near m.store;
     listed_front = subst (IsFront m.listings) (sym near.looked) m.listed;
     heads_front = subst (IsFront (heads_of root m.trail)) (sym near.read) m.heads;
+    up_to = m.up_to;
   }
 
+-- what is not after a place that is within an end
+within_before : (to : Option Place) (b d : Place) → IsWithin to b → is_lt (place_cmp b d) ≡ false → IsWithin to d
+within_before None b d within low = tt
+within_before (Some p) b d within low = not_less_or p b d within low
+
 -- calls that were made before those that failed
-fails_behind : (further : Further) (root : StorageRoot) (s t u : Store) {ls ms xs hs gs ys : List Place} → ls ++ ms ≡ xs → hs ++ gs ≡ ys → (os : List Opening) (why : Fault)
-    → Audits further root s t [] ls hs os → FailsAmong further root t u ms gs why → FailsAmong further root s u xs ys why
-fails_behind further root s t u {ls} {ms} {xs} {hs} {gs} {ys} looked read os why a f = record {
+fails_behind : (further : Further) (root : StorageRoot) (s t u : Store) {ls ms xs hs gs ys : List Place} {to : Option Place} → ls ++ ms ≡ xs → hs ++ gs ≡ ys → (os : List Opening) (why : Fault)
+    → Audits further root s t [] ls hs os → FailsAmong further root t u ms gs to why → FailsAmong further root s u xs ys to why
+fails_behind further root s t u {ls} {ms} {xs} {hs} {gs} {ys} {to} looked read os why a f = record {
   trail = os ++ f.trail;
   listed = ls ++ f.listed;
   heads = hs ++ f.heads;
   fails = audits_fail further root s t u [] [] _ _ _ _ os f.trail (failed_place why) a f.fails;
   listed_front = front_behind ls f.listed ms xs looked f.listed_front;
   heads_front = front_behind hs f.heads gs ys read f.heads_front;
+  up_to = f.up_to;
 }
 
 module _ (further : Further) (root : StorageRoot) (s t u : Store) (from : Option Place) (b : Place) (beyond : IsBeyond from b) where
@@ -82,6 +90,7 @@ module _ (further : Further) (root : StorageRoot) (s t u : Store) (from : Option
     fails = f.fails;
     listed_front = front_more f.listed _ _ _ (looked_to e root from (next_due further root from) b beyond within before) f.listed_front;
     heads_front = front_more f.heads _ _ _ (read_to e root from (next_due further root from) b beyond within before) f.heads_front;
+    up_to = λ q g d n is. within_before (next_due further root from) b d within (f.up_to q g d n is);
   }
 
   pub walks_out : Walks further root s t from (Some b) → WalksOut further root t u (Some b) e → WalksOut further root s u from e
@@ -95,7 +104,7 @@ module _ (further : Further) (root : StorageRoot) (s t u : Store) (from : Option
   walks_fail_out why none v w =
       let same : next_due further root from ≡ next_due further root (Some b) = ap (λ ps. slice_get ps 0) none in
       let within = next_within further root b in
-      subst (λ to. FailsAmong further root s u (before_end e (looked_between root from to)) (before_end e (read_between root from to)) why) (sym same)
+      subst (λ to. FailsAmong further root s u (before_end e (looked_between root from to)) (before_end e (read_between root from to)) to why) (sym same)
       (fails_behind further root s t u (looked_to e root from (next_due further root (Some b)) b beyond within before) (read_to e root from (next_due further root (Some b)) b beyond within before) v.trail why v.audits w)
 
 -- if nothing is left before the end nothing is done
@@ -104,7 +113,7 @@ pub walks_out_nothing : (further : Further) (root : StorageRoot) (s : Store) (fr
 walks_out_nothing further root s from e over looked read = record { trail = []; audits = audits_as further (sym looked) (sym read) (audits_nothing further root s over) }
 
 -- if memory was refused before anything was done
-pub no_memory : (further : Further) (root : StorageRoot) (s : Store) {looked read : List Place} → s.tree ≡ root → FailsAmong further root s s looked read fault.Memory
+pub no_memory : (further : Further) (root : StorageRoot) (s : Store) {looked read : List Place} {to : Option Place} → s.tree ≡ root → FailsAmong further root s s looked read to fault.Memory
 no_memory further root s over = record {
   trail = [];
   listed = [];
@@ -112,6 +121,7 @@ no_memory further root s over = record {
   fails = fails_nothing further root s over;
   listed_front = front_none _;
   heads_front = front_none _;
+  up_to = λ q e. absurd (memory_no_store q e);
 }
 
 -- to the end of the whole
@@ -125,5 +135,5 @@ module _ (further : Further) (root : StorageRoot) (s t : Store) (from : Option P
   pub fails_all : (why : Fault) → FailsOut further root s t from e why → WalkFails further root s t from why
   fails_all why f =
       let to = next_due further root from in
-      subst (λ ls. FailsAmong further root s t ls (read_between root from to) why) (all_kept e under below (looked_between root from to))
-      (subst (λ hs. FailsAmong further root s t (before_end e (looked_between root from to)) hs why) (all_kept e under below (read_between root from to)) f)
+      subst (λ ls. FailsAmong further root s t ls (read_between root from to) to why) (all_kept e under below (looked_between root from to))
+      (subst (λ hs. FailsAmong further root s t (before_end e (looked_between root from to)) hs to why) (all_kept e under below (read_between root from to)) f)

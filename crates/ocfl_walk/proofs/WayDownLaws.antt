@@ -13,33 +13,7 @@ use Rattle.ocfl_rules.proofs.{MetaLaws.{head_shown}, Trails.{none_unread}}
 use Rattle.ocfl_item.specs.Looking.{way_to}
 use Rattle.ocfl_item.proofs.WantedLaws.{among_last}
 use Rattle.ocfl_walk.specs.WalkCalls.{GoesDown, IsRootFirst, holder, way_of}
-use Rattle.ocfl_walk.proofs.{FoundLaws.{none_hashed}, HolderLaws.{held_above}}
-
--- ---- places on the way
-
--- a place that another begins with
-abbrev pub IsBeginning : Place → Place → Type 0
-IsBeginning p d = (q : Place) × (p ≡ d ++ q)
-
-mapped : (n : Text) (ps : List Place) (d : Place) → IsAmong (map (λ q. n ∷ q) ps) d → (e : Place) × IsAmong ps e × (d ≡ n ∷ e)
-mapped n [] d i = absurd i
-mapped n (e ∷ ps) d (inl f) = (e, inl refl, f)
-mapped n (e ∷ ps) d (inr i) = let k = mapped n ps d i in (k.0, inr k.1, k.2)
-
-begun : (p d : Place) → IsAmong (beginnings p) d → IsBeginning p d
-begun [] d i = absurd i
-begun (n ∷ p) d (inl e) = (n ∷ p, ap (λ x. x ++ n ∷ p) (sym e))
-begun (n ∷ p) d (inr i) =
-    let k = mapped n (beginnings p) d i in
-    let q = begun p k.0 k.1 in
-    (q.0, ap (λ x. n ∷ x) q.1 ∙ ap (λ x. x ++ q.0) (sym k.2))
-
-pub on_way : (p d : Place) → IsAmong (way_to p) d → IsBeginning p d
-on_way p d i = by ((among_last (beginnings p) p d).0 i)
-  where
-    by : IsAmong (beginnings p) d ⊎ (d ≡ p) → IsBeginning p d
-    by (inl k) = begun p d k
-    by (inr e) = ([], sym e ∙ sym (append-nil d))
+use Rattle.ocfl_walk.proofs.{FindLaws.{opened_meta}, FoundLaws.{none_hashed}, HolderLaws.{held_above}, OnWay.{on_way}}
 
 -- ---- openings of inventories
 
@@ -49,17 +23,6 @@ one_head root (y ∷ trail) x o (inl e) h =
     let own : inventory_of (zone root y.place) ≡ o ∷ [] = ap (λ z. inventory_of (zone root z.place)) (sym e) ∙ sym (append-nil (inventory_of (zone root x.place))) ∙ h in
     among_left (inventory_of (zone root y.place)) (heads_of root trail) o (subst (λ os. IsAmong os o) (sym own) (inl refl))
 one_head root (y ∷ trail) x o (inr i) h = among_right (inventory_of (zone root y.place)) (heads_of root trail) o (one_head root trail x o i h)
-
-no_content : (further : Further) (root : StorageRoot) (trail : List Opening) → content_trail further root trail ≡ [] → (x : Opening) → IsAmong trail x → is_meta further root x.place ≡ true
-no_content further root [] h x i = absurd i
-no_content further root (y ∷ trail) h x i = by (is_meta further root y.place) refl h i (λ k j. no_content further root trail k x j)
-  where
-    by : (b : Bool) → is_meta further root y.place ≡ b
-        → map (λ o. o.place) (cond (not b) (y ∷ filter (λ o. not (is_meta further root o.place)) trail) (filter (λ o. not (is_meta further root o.place)) trail)) ≡ [] → IsAmong (y ∷ trail) x
-        → (content_trail further root trail ≡ [] → IsAmong trail x → is_meta further root x.place ≡ true) → is_meta further root x.place ≡ true
-    by false e k j more = absurd cc
-    by true e k (inl f) more = ap (λ o. is_meta further root o.place) f ∙ e
-    by true e k (inr j) more = more k j
 
 -- ---- the way down
 
@@ -82,7 +45,7 @@ module _ (further : Further) (root : StorageRoot) (s t : Store) (p : Option Plac
       by (Some d) o i = let k = held_above root d o i in (k.0, (k.1.0, ap (λ y. Some y) k.1.1))
 
   pub down_metadata : (trail : List Opening) × ((t.openings ≡ s.openings ++ trail) × ((x : Opening) → IsAmong trail x → is_meta further root x.place ≡ true))
-  down_metadata = (g.trail, (g.audits.did.openings_are, no_content further root g.trail nothing_opened))
+  down_metadata = (g.trail, (g.audits.did.openings_are, opened_meta further root g.trail nothing_opened))
 
   pub down_listed : (listed : List Place) × ((t.listings ≡ s.listings ++ listed) × ((d : Place) → IsAmong listed d → (q : Place) × (p ≡ Some (d ++ q))))
   down_listed = (g.listed, (g.audits.did.listings_are, λ d i. by p d (subst (λ ds. IsAmong ds d) (sym g.listed_front.1) (among_left g.listed g.listed_front.0 d i))))

@@ -7,8 +7,9 @@ use Rattle.ocfl_report.specs.declared.further.Further.{Further}
 use Rattle.ocfl_rules.specs.Zone.{Zone, skipped, hierarchy, inside, zone}
 use Rattle.ocfl_rules.specs.{Between.{looked_between, read_between}, Due.{due}, Trail.{reads_inventory}}
 use Rattle.ocfl_rules.specs.Walk.{is_reached}
-use Rattle.ocfl_item.specs.{Auditing.{Audits, Fails}, Looking.{IsFront, failed_place, way_to}}
+use Rattle.ocfl_item.specs.{Auditing.{Audits, Fails}, Looking.{IsFront, LiesUpTo, failed_place, way_to}}
 use Rattle.ocfl_item.specs.declared.fault.Fault.{Fault}
+use Rattle.ocfl_item.specs.declared.fault.Fault.TheVariants as fault
 use Rattle.ocfl_walk.specs.{Ends.{before_end}, declared.end.End.{End}}
 
 -- ---- from one place on to another
@@ -19,18 +20,20 @@ pub record Walks (further : Further) (root : StorageRoot) (s t : Store) (from to
   pub audits : Audits further root s t [] (looked_between root from to) (read_between root from to) trail
 
 -- the first of these directories were listed, and the first of these objects' inventories read, and
--- then there was a fault
-pub record FailsAmong (further : Further) (root : StorageRoot) (s t : Store) (looked read : List Place) (why : Fault) : Type 0 where
+-- then there was a fault. The place at which the store failed lies in no directory after this one, if
+-- there is one
+pub record FailsAmong (further : Further) (root : StorageRoot) (s t : Store) (looked read : List Place) (to : Option Place) (why : Fault) : Type 0 where
   pub trail : List Opening
   pub listed : List Place
   pub heads : List Place
   pub fails : Fails further root s t [] listed heads trail (failed_place why)
   pub listed_front : IsFront listed looked
   pub heads_front : IsFront heads read
+  pub up_to : (q : Place) → why ≡ fault.Store q → LiesUpTo to q
 
 -- the first of those between two places
 abbrev pub FailsBetween : Further → StorageRoot → Store → Store → Option Place → Option Place → Fault → Type 0
-FailsBetween further root s t from to why = FailsAmong further root s t (looked_between root from to) (read_between root from to) why
+FailsBetween further root s t from to why = FailsAmong further root s t (looked_between root from to) (read_between root from to) to why
 
 -- the place of the next item above a place, and none if no item is left
 abbrev pub next_due : Further → StorageRoot → Option Place → Option Place
@@ -50,7 +53,7 @@ pub record WalksOut (further : Further) (root : StorageRoot) (s t : Store) (from
 -- the first of those up to the next item's place, and then there was a fault
 abbrev pub FailsOut : Further → StorageRoot → Store → Store → Option Place → End → Fault → Type 0
 FailsOut further root s t from e why =
-    FailsAmong further root s t (before_end e (looked_between root from (next_due further root from))) (before_end e (read_between root from (next_due further root from))) why
+    FailsAmong further root s t (before_end e (looked_between root from (next_due further root from))) (before_end e (read_between root from (next_due further root from))) (next_due further root from) why
 
 -- ---- down to one place
 
@@ -91,6 +94,8 @@ pub record GoesDown (further : Further) (root : StorageRoot) (s t : Store) (p : 
   pub heads_front : IsFront heads (holder root p)
   pub once : AllPairs (λ a b. a.place ≢ b.place) trail
 
+-- the first of these, and then there was a fault. The store failed only if there was a way to go, and
+-- at a place that lies in no directory after the place given
 pub record GoDownFails (further : Further) (root : StorageRoot) (s t : Store) (p : Option Place) (why : Fault) : Type 0 where
   pub trail : List Opening
   pub listed : List Place
@@ -99,3 +104,4 @@ pub record GoDownFails (further : Further) (root : StorageRoot) (s t : Store) (p
   pub listed_front : IsFront listed (way_of p)
   pub heads_front : IsFront heads (holder root p)
   pub once : AllPairs (λ a b. a.place ≢ b.place) trail
+  pub up_to : (q : Place) → why ≡ fault.Store q → (e : Place) × ((p ≡ Some e) × LiesUpTo (Some e) q)

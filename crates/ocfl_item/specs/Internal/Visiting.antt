@@ -21,7 +21,7 @@ use Rattle.ocfl_rules.specs.Walk.{seen_names}
 use Rattle.ocfl_rules.specs.Head.{on}
 use Rattle.ocfl_rules.specs.Trail.{content_trail, is_head, heads_of, reads_inventory}
 use Rattle.ocfl_item.specs.Auditing.{FailedAt, IsMetadataRead, LieIn}
-use Rattle.ocfl_item.specs.{Looking.{IsFront, failures_by}, Internal.Ways.{IsHeadOf}}
+use Rattle.ocfl_item.specs.{Looking.{IsFront, LiesUpTo, failures_by}, Internal.Ways.{IsHeadOf}}
 use Rattle.ocfl_item.specs.{Meeting.{IsVisit}, declared.fault.Fault.{Fault}}
 use Rattle.ocfl_item.specs.{declared.lines.PlaceLines.{PlaceLines}, declared.role.Role.{Role}}
 use Rattle.ocfl_item.specs.{declared.visit.Visit.{Visit}, declared.root.RootInventory.{RootInventory as MadeRoot}}
@@ -118,6 +118,7 @@ pub record ReadOneFails (further : Further) (root : StorageRoot) (s t : Store) (
   pub heads : IsFront (heads_of root trail) (on (reads_inventory root o) o)
   pub near : LieIn further root (o ∷ []) trail
   pub store : (q : Place) → why ≡ fault.Store q → (is_hashed further root q ≡ false) × FailedAt further root s t [] trail q
+  pub up_to : (q : Place) → why ≡ fault.Store q → LiesUpTo (Some o) q
 
 -- the lines of an object's head and its table
 pub record HeadRead (further : Further) (root : StorageRoot) (s t : Store) (o : Place) (r : Result (PlaceLines × Option Table × Option MadeRoot) Fault) : Type 0 where

@@ -1,13 +1,15 @@
 -- One place, looked up by itself: the way down to it, and what is met there.
-use Rattle.std.specs.Prelude.{◌≡◌, ◌≢◌, ℕ, List, [], Option, Result, MatchResult, AllPairs}
+use Rattle.std.specs.Prelude.{◌≡◌, ◌≢◌, ℕ, List, [], Option, Some, Result, MatchResult, AllPairs}
+use Rattle.ocfl_tree.specs.Ascending.{IsAmong}
 use Rattle.ocfl_tree.specs.{Place.{Place}, StorageRoot.{StorageRoot}, Store.{Store}}
 use Rattle.ocfl_report.specs.declared.further.Further.{Further}
 use Rattle.ocfl_report.specs.declared.further.Further.TheVariants.{Nothing, Inventories}
 use Rattle.ocfl_rules.specs.{Trail.{heads_of, inventory_of}, Zone.{zone}}
 use Rattle.ocfl_tree.specs.declared.store.Opening.{Opening}
 use Rattle.std.specs.List.{AllByRecursion}
-use Rattle.ocfl_item.specs.{Auditing.{LieIn}, Looking.{IsFront, failures_by}, Meeting.{IsItemAt}}
+use Rattle.ocfl_item.specs.{Auditing.{LieIn}, Looking.{IsFront, LiesUpTo, failures_by}, Meeting.{IsItemAt}}
 use Rattle.ocfl_item.specs.{declared.fault.Fault.{Fault}, declared.pending.Pending.{Pending}}
+use Rattle.ocfl_item.specs.declared.fault.Fault.TheVariants as fault
 use Rattle.ocfl_walk.specs.{Internal.Entering.{Calls, NamesFailed}, WalkCalls.{AreAllListed}}
 
 -- nothing was opened or, where inventories of versions are checked, no object's inventory
@@ -31,10 +33,15 @@ pub record FindsAll (further : Further) (root : StorageRoot) (s t : Store) (way 
   pub finds : Finds further root s t way may 0
   pub all : AreAllListed root way finds.calls.listings
 
+-- in no directory after one of these places
+abbrev pub LiesUpToOne : List Place → Place → Type 0
+LiesUpToOne way q = (w : Place) × (IsAmong way w × LiesUpTo (Some w) q)
+
 -- and then there was a fault
 pub record FindFails (further : Further) (root : StorageRoot) (s t : Store) (way may : List Place) (why : Fault) : Type 0 where
   pub finds : Finds further root s t way may (failures_by why)
   pub store : NamesFailed further root s t why finds.calls
+  pub up_to : (q : Place) → why ≡ fault.Store q → LiesUpToOne way q
 
 -- the item of a place
 pub record FindsItem (further : Further) (root : StorageRoot) (s t : Store) (way may : List Place) (p : Place) (r : Result (Option Pending) Fault) : Type 0 where

@@ -14,7 +14,7 @@ use Rattle.ocfl_rules.proofs.PartLaws.{places_within_is}
 use Rattle.ocfl_item.specs.{Auditing.{LiesIn, LieIn, LiesNear}, Looking.{IsFront, way_to}}
 use Rattle.ocfl_scrub.specs.declared.stop.ReportStop.{ReportStop}
 use Rattle.ocfl_walk.specs.WalkCalls.{way_of}
-use Rattle.ocfl_walk.proofs.WayDownLaws.{on_way}
+use Rattle.ocfl_walk.proofs.OnWay.{on_way}
 use Rattle.ocfl_scrub.specs.{Call.{Call}, Checking.{CheckEnds}}
 use Rattle.ocfl_laws.specs.Openings.{OpensNear, OpensWithin}
 use Rattle.ocfl_report.specs.declared.further.Further.{Further}

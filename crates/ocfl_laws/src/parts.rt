@@ -140,8 +140,8 @@ pub fn a_run_of_a_part_looks_once()
 {}
 
 /// Each file that an audit, a run or a check opens is right in a directory that the call listed,
-/// content files too, and even if the call stopped. Of a sidecar of an inventory of a version, which
-/// only the option opens, it is said that it is there or beside such an inventory. Each such
+/// content files too, and even if the call stopped. Of a sidecar of an inventory of a version,
+/// which only the option opens, it is said that it is there or beside such an inventory. Each such
 /// directory is in the part or on the way down to where the call began; of a check it is on the way
 /// to its place.
 pub fn openings_lie_where_it_was_listed()

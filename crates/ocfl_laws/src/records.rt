@@ -166,7 +166,8 @@ pub fn an_audit_that_stops_wrote_its_first_items()
 pub fn a_run_takes_the_cut_of_its_limits()
     ensures lines { (further : Further) (root : StorageRoot) (s t : Store) (before written : List ℕ)
         (from last next : Option Place) (limits : Limits) (spent files : ℕ) (finding : Bool)
-        → Runs (known_call further root s t before written) from last limits spent files finding next
+        → Runs (known_call further root s t before written) from last limits spent files finding
+        next
         → (trail : List Opening) × ((t.openings ≡ s.openings ++ trail)
         × ((t.failures ≡ s.failures + length (unread_of further root trail))
         × ((written ≡ before
@@ -223,7 +224,8 @@ pub fn a_run_that_stops_took_the_first_of_its_cut()
     ensures lines { (further : Further) (root : StorageRoot) (s t : Store) (before written : List ℕ)
         (from last : Option Place) (limits : Limits) (spent files : ℕ) (finding : Bool)
         (why : ReportStop)
-        → RunStops (known_call further root s t before written) from last limits spent files finding why
+        → RunStops (known_call further root s t before written) from last limits spent files
+        finding why
         → (trail : List Opening) × ((whole : List Item)
         × ((others : List Item) × ((gone : ℕ) × ((t.openings ≡ s.openings ++ trail)
         × ((cut (after (audit further root (unread_of further root trail)) from) limits
@@ -286,7 +288,8 @@ pub fn a_cycle_takes_the_cuts_of_its_limits()
     ensures lines { (further : Further) (root : StorageRoot) (s t : Store)
         (before written : List ℕ) (last : Option Place)
         (limits : List Limits) (spent files : ℕ) (finding : Bool) (count : ℕ) (whole : Bool)
-        → Cycles (known_call further root s t before written) last limits spent files finding count whole
+        → Cycles (known_call further root s t before written) last limits spent files finding count
+        whole
         → (trail : List Opening) × ((t.openings ≡ s.openings ++ trail)
         × ((t.failures ≡ s.failures + length (unread_of further root trail))
         × ((written ≡ before
@@ -361,7 +364,8 @@ pub fn a_cycle_that_stops_took_the_first_of_its_cuts()
     ensures lines { (further : Further) (root : StorageRoot) (s t : Store)
         (before written : List ℕ) (last : Option Place)
         (limits : List Limits) (spent files : ℕ) (finding : Bool) (count : ℕ) (why : ReportStop)
-        → CycleStops (known_call further root s t before written) last limits spent files finding count why
+        → CycleStops (known_call further root s t before written) last limits spent files finding
+        count why
         → (trail : List Opening) × ((whole : List Item)
         × ((others : List Item) × ((gone : ℕ) × ((t.openings ≡ s.openings ++ trail)
         × ((joined (take count (runs (audit further root (unread_of further root trail)) limits))
@@ -506,7 +510,8 @@ pub fn a_cycle_leaves_its_cursor_after_what_it_took()
 pub fn a_run_without_failures_takes_the_audits_items()
     ensures ended { (further : Further) (root : StorageRoot) (s t : Store)
         (before written : List ℕ) (c : Cursor) (limits : Limits) (spent files : ℕ) (finding : Bool)
-        → RunsCleanly (known_call further root s t before written) c limits spent files finding run.Ended
+        → RunsCleanly (known_call further root s t before written) c limits spent files finding
+        run.Ended
         → (left (after (audit further root []) (place_in c.state)) limits ≡ [])
         × ((written ≡ before ++ text (cut (after (audit further root [])
         (place_in c.state)) limits))
@@ -515,7 +520,8 @@ pub fn a_run_without_failures_takes_the_audits_items()
         × (finding ≡ found (cut (after (audit further root []) (place_in c.state)) limits))))) }
     ensures spent { (further : Further) (root : StorageRoot) (s t : Store)
         (before written : List ℕ) (c : Cursor) (limits : Limits) (spent files : ℕ) (finding : Bool)
-        → RunsCleanly (known_call further root s t before written) c limits spent files finding run.Spent
+        → RunsCleanly (known_call further root s t before written) c limits spent files finding
+        run.Spent
         → (left (after (audit further root []) (place_in c.state)) limits ≢ [])
         × ((written ≡ before ++ text (cut (after (audit further root [])
         (place_in c.state)) limits))

@@ -181,6 +181,7 @@ module _ (further : Further) (root : StorageRoot) (s t a : Store) (over : a.tree
     fails = h;
     listed_front = w.listed_front;
     heads_front = w.heads_front;
+    up_to = w.up_to;
   })
 
   pub gives_elsewhere : (last : Option Place) (e : End) (next : Walk) (o : Option Pending) → GivesOut further root s t last e next o → (b : Store) × (IsAlike s t a b × GivesOut further root a b last e next o)

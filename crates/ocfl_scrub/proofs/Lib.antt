@@ -1,6 +1,6 @@
 pub mod Lists
 pub mod AuditsJoined
-mod TakeLaws
+pub mod TakeLaws
 mod CheckLaws
 mod BetweenLaws
 pub mod PartStarts
@@ -17,7 +17,7 @@ mod NextLaws
 pub mod RunPlaces
 pub mod RunsJoined
 pub mod CycleEndLaws
-mod DirectoryLaws
+pub mod DirectoryLaws
 mod ChainRuns
 pub mod ChainLaws
 pub mod ChainHeadline

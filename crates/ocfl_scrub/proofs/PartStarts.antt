@@ -28,7 +28,8 @@ use Rattle.ocfl_walk.proofs.BeforeLaws.{below_from, due_from, looked_from, read_
 use Rattle.ocfl_walk.proofs.EndLaws.{all_left, not_past_down}
 use Rattle.ocfl_scrub.specs.Starting.{end_of, greater_of, unless_root, first_place, is_before, entry_by, entry, stand_by, stand, due_within, looked_in, read_in, items_in}
 use Rattle.ocfl_scrub.proofs.OrderLaws.{looked_ascend, read_ascend}
-use Rattle.ocfl_scrub.proofs.PassLaws.{due_ascends, not_less_or}
+use Rattle.ocfl_item.proofs.UpToLaws.{not_less_or}
+use Rattle.ocfl_scrub.proofs.PassLaws.{due_ascends}
 
 -- ---- what is in a part: what is not less than its first place, and not past its end
 

@@ -27,7 +27,8 @@ use Rattle.ocfl_scrub.proofs.Passing.{up_to_last, due_in, Passes, Finishes, Halt
 use Rattle.ocfl_scrub.proofs.Lists.{flat_append, ascends_left}
 use Rattle.ocfl_scrub.proofs.AuditsJoined.{items_before, items_behind, items_then}
 use Rattle.ocfl_scrub.proofs.BetweenLaws.{HasGoneOn, looked_self, looked_next, looked_end, looked_front, read_self, read_next, read_end, read_front, lost_listed, lost_heads, front_behind}
-use Rattle.ocfl_scrub.proofs.TakeLaws.{fault_of_nothing}
+use Rattle.ocfl_item.proofs.UpToLaws.{not_less_or}
+use Rattle.ocfl_scrub.proofs.TakeLaws.{failed_is, fault_of_nothing, missed_no_store}
 use Rattle.ocfl_item.proofs.AuditingLaws.{audits_fail, audits_nothing, audits_on}
 use Rattle.ocfl_report.specs.declared.further.Further.{Further}
 
@@ -99,17 +100,6 @@ module _ (further : Further) (root : StorageRoot) (t u v : Store) (last to : Opt
       (audits_fail further root t u v [] qs (looked_between root last to) [] (read_between root last to) [] w.trail os _ w.audits k))
 
 -- ---- the last place that was taken
-
--- places that are not less than another
-pub not_less_or : (x a b : Place) → is_lt (place_cmp x a) ≡ false → is_lt (place_cmp a b) ≡ false → is_lt (place_cmp x b) ≡ false
-not_less_or x a b h k = by (place_cmp a b) (place_cmp x b) refl refl
-  where
-    by : (r s : Ordering) → place_cmp a b ≡ r → place_cmp x b ≡ s → is_lt s ≡ false
-    by Less s e f = absurd (true_not_false (sym (ap is_lt e) ∙ k))
-    by Equal s e f = sym (ap is_lt f) ∙ subst (λ z. is_lt (place_cmp x z) ≡ false) (place_cmp_exact a b e) h
-    by Greater Less e f = absurd (true_not_false (sym (ap is_lt (place_cmp_total.trans x b a f (below_from_greater place_cmp_total a b e))) ∙ h))
-    by Greater Equal e f = refl
-    by Greater Greater e f = refl
 
 -- after one place there is a last one
 pub last_among : (p : Place) (ps : List Place) → (m : Place) × ((last_or (Some p) ps ≡ Some m) × IsAmong (p ∷ ps) m)
@@ -289,6 +279,7 @@ module _ (further : Further) (root : StorageRoot) (e : End) (s t u : Store) (old
           ahead = λ d y i j.
               ahead_of further root last d (subst (λ ps. IsWithin (slice_get ps 0) d) (sym least) (next_at d (subst (λ ds. IsAmong ds d) (looked_next root e from last low p up) i)))
               y (among_from_filter (λ z. not (is_past e z)) (due further root last) y j).0;
+          up_to = λ q y stop i. absurd (missed_no_store (call_of further root u v mid new) p why k q stop);
           there = λ q i d j. subst (λ ds. IsAmong ds d) (sym (looked_next root e from last low p up)) (listed_further root from e q p d (up_to_next q (among_more h.done k.begun (p ∷ []) k.one.0 q k.one.1 i)) j);
           due_are = halves;
           one = (k.one.0, next_is ∙ k.one.1);
@@ -325,6 +316,7 @@ module _ (further : Further) (root : StorageRoot) (e : End) (s t u : Store) (old
         ahead = λ d y i j.
             let due_there = (among_from_filter (λ z. not (is_past e z)) (due further root last) y j).0 in
             lost_or d y due_there (among_either (up_to_last (looked_between root) from last) w.listed d i);
+        up_to = λ q y stop i d n is. ahead_of further root last d (w.up_to q (failed_is why q stop) d n is) y (among_from_filter (λ z. not (is_past e z)) (due further root last) y i).0;
         there = λ q i d j. among_left (up_to_last (looked_between root) from last) w.listed d
             (listed_to_last root from e h.done done_ascends q (subst (λ qs. IsAmong qs q) (append-nil h.done) i) d j last h.last_is);
         due_are = halves;

@@ -9,7 +9,7 @@ use Rattle.ocfl_item.specs.{Looking.{IsFront}, Auditing.{Audits, Fails}}
 use Rattle.ocfl_report.specs.declared.further.Further.{Further}
 use Rattle.ocfl_scrub.specs.Types.{ReportStop}
 use Rattle.ocfl_walk.specs.{Ends.{before_end}, declared.end.End.{End}}
-use Rattle.ocfl_scrub.specs.{Starting.{AreAhead}, Taking.{PartOf, stop_place}}
+use Rattle.ocfl_scrub.specs.{Starting.{AreAhead, FailsUpTo}, Taking.{PartOf, stop_place}}
 
 -- what is between a place and the last one taken: nothing if there is none
 abbrev pub up_to_last : (Option Place → Option Place → List Place) → Option Place → Option Place → List Place
@@ -52,6 +52,7 @@ pub record Halts (further : Further) (root : StorageRoot) (e : End) (s t : Store
   pub listed_front : IsFront listed (before_end e (looked_between root from None))
   pub heads_front : IsFront heads (before_end e (read_between root from None))
   pub ahead : AreAhead listed (due_in further root e last)
+  pub up_to : FailsUpTo (stop_place why) (due_in further root e last)
   pub there : (p : Place) → IsAmong (done ++ begun) p → (d : Place) → IsAmong (before_end e (looked_between root from (Some p))) d → IsAmong listed d
   pub due_are : due_in further root e from ≡ done ++ due_in further root e last
   pub one : IsFront begun (take 1 (due_in further root e last))

@@ -23,17 +23,17 @@ use Rattle.ocfl_scrub.specs.declared.stop.ReportStop.TheVariants.{Output}
 use Rattle.ocfl_scrub.specs.Types.{ReportStop}
 use Rattle.ocfl_walk.specs.{WalkCalls.{GoesDown, GoDownFails}}
 use Rattle.ocfl_walk.proofs.WalkCallLaws.{audits_as}
-use Rattle.ocfl_scrub.specs.{Call.{call_of}, Taking.{PartOf}, Written.{places, Figures}}
+use Rattle.ocfl_scrub.specs.{Call.{call_of}, Taking.{PartOf, stop_place}, Written.{places, Figures}}
 use Rattle.ocfl_scrub.specs.Running.{taken_in, place_in, RunsWithin, RunStopsWithin, RunEndsWithin, RunsFromWithin, RunsCleanWithin, RunsCleanlyWithin, IsPaid, begun, state_after}
-use Rattle.ocfl_scrub.specs.Starting.{AreAhead, due_within, end_of, entry, stand, looked_in, read_in, LooksOver, StopsLooking, items_in}
+use Rattle.ocfl_scrub.specs.Starting.{AreAhead, FailsUpTo, due_within, end_of, entry, stand, looked_in, read_in, LooksOver, StopsLooking, items_in}
 use Rattle.ocfl_scrub.specs.{Beginning.{Begins}, declared.running.RunStatus.{RunStatus}}
 use Rattle.ocfl_scrub.specs.declared.running.RunStatus.TheVariants.{Ended, Spent, Stopped, Worn}
 use Rattle.ocfl_scrub.specs.declared.stop.ReportStop.TheVariants as halt
 use Rattle.ocfl_scrub.proofs.Paying.{Paid, Counts, IsWithinBoth, PaysAll, PaysUpTo, PaysHalting}
 use Rattle.ocfl_scrub.proofs.AuditLaws.{places_of_items, take_items, nothing_out, none_left, above_are}
-use Rattle.ocfl_scrub.proofs.{PassLaws.{take_nothing}, TakeLaws.{fault_other, nothing_of}}
+use Rattle.ocfl_scrub.proofs.{PassLaws.{take_nothing}, TakeLaws.{failed_is, fault_other, nothing_of}}
 use Rattle.ocfl_scrub.proofs.{MeterLaws.{paid_files}, Passing.{due_in}}
-use Rattle.ocfl_scrub.proofs.{AheadLaws.{ahead_both, way_ahead}, RunPlaces.{rest_is}}
+use Rattle.ocfl_scrub.proofs.{AheadLaws.{ahead_both, down_up_to, way_ahead}, RunPlaces.{rest_is}}
 use Rattle.ocfl_scrub.proofs.PartStarts.{due_starts, looked_all, read_all, looked_to, read_to}
 use Rattle.ocfl_scrub.proofs.LookLaws.{looks_over, stops_looking, stops_above}
 use Rattle.ocfl_scrub.proofs.WayListed.{before_next, halted_lie, taken_lie}
@@ -186,6 +186,7 @@ module _ (further : Further) (root : StorageRoot) (part : Part) (s t u : Store) 
         figures = record { spent_is = h.counts.spent_is; files_is = h.counts.files_is; found_is = k.found_is };
         looks = looked.0;
         ahead = looked.1;
+        up_to = subst (FailsUpTo (stop_place why)) (sym left_is) k.up_to;
       }
 
 -- the place that a walk is given by reference
@@ -203,6 +204,7 @@ not_run further root part s t old from l why g = record {
   figures = record { spent_is = refl; files_is = refl; found_is = refl };
   looks = stops_above further root part s t old old from why g;
   ahead = ahead_both g.listed [] (due_within further root part from) (way_ahead further root part from g.listed g.listed_front) (λ d p i j. absurd i);
+  up_to = λ q y stop i. down_up_to further root part s t from why g q y (failed_is why q stop) i;
 }
 
 -- ---- if no failure was counted

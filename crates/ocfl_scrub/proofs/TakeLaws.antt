@@ -1,17 +1,21 @@
 -- One item, judged and written.
-use Rattle.std.proofs.Common.{◌≡◌, ◌≢◌, ℕ, ◌+◌, List, [], ◌∷◌, refl, sym, ◌∙◌, ap, subst, true, false, Bool, Option, None, length, take, append-nil, arith}
+use Rattle.std.proofs.Common.{◌≡◌, ◌≢◌, ℕ, ◌+◌, List, [], ◌∷◌, ◌++◌, refl, sym, ◌∙◌, ap, subst, inl, true, false, Bool, Option, Some, None, length, take, append-nil, arith}
 use Rattle.std.proofs.KnownBytes.{Appends-nil}
 use Rattle.std.specs.{Prelude.{cond, ◌||◌}, List.{list_any}, Io.KnownBytes.{Appends}}
 use Rattle.ocfl_tree.specs.{Place.{Text, Place}, StorageRoot.{StorageRoot}, Store.{Store, Did}}
 use Rattle.ocfl_report.specs.{Line.{Line, Item, is_finding_code, has_finding, found}, Text.{lines_text, text}}
 use Rattle.ocfl_rules.specs.{Audit.{total_cost}, Due.{hashed_among, items_at}, Trail.{unread_of}}
-use Rattle.ocfl_item.specs.{Looking.{IsFront}, Auditing.{Fails}, declared.fault.Fault.{Fault}}
+use Rattle.ocfl_tree.specs.{Ascending.{IsAmong}, Calls.{opening}}
+use Rattle.ocfl_tree.proofs.Orders.{among_from_filter, among_map, among_right, true_not_false}
+use Rattle.ocfl_rules.specs.Inventories.{is_hashed}
+use Rattle.ocfl_item.specs.Auditing.{Fails, FailedAt, in_listing, in_opening}
+use Rattle.ocfl_item.specs.{Looking.{IsFront, failed_place}, declared.fault.Fault.{Fault}}
 use Rattle.ocfl_item.specs.Judging.{Judges, JudgeFails}
 use Rattle.ocfl_scrub.specs.Types.{ReportStop}
 use Rattle.ocfl_item.specs.declared.fault.Fault.TheVariants as fault
 use Rattle.ocfl_report.specs.declared.further.Further.{Further}
 use Rattle.ocfl_scrub.specs.declared.stop.ReportStop.TheVariants as halt
-use Rattle.ocfl_scrub.specs.{Call.{call_of}, Taking.{WritesLines, PartOf, Takes, Misses}}
+use Rattle.ocfl_scrub.specs.{Call.{Call, call_of}, Taking.{WritesLines, PartOf, Takes, Misses, stop_place}}
 use Rattle.ocfl_walk.proofs.FoundLaws.{none_hashed}
 
 pub or_none : (b : Bool) → (b || false) ≡ b
@@ -30,6 +34,33 @@ lines_written old new lines piece finding e sent found_is =
     (item ∷ [], subst (Appends old new) (e ∙ sym (append-nil (lines_text lines))) sent, found_is ∙ sym (or_none (has_finding item)))
 
 -- ---- on a store that tells its tree
+
+-- the place at which the store failed, of a fault
+pub failed_is : (why : Fault) (q : Place) → failed_place why ≡ Some q → why ≡ fault.Store q
+failed_is (fault.Store p) q e = let same : p ≡ q = cc in ap fault.Store same
+failed_is fault.Memory q e = absurd cc
+
+hashed_there : (further : Further) (root : StorageRoot) (ps : List Place) (p : Place) → IsAmong (hashed_among further root ps) p → is_hashed further root p ≡ true
+unfolding hashed_among
+hashed_there further root ps p i = (among_from_filter (is_hashed further root) ps p i).1
+
+-- an item that was not taken is none at which the store failed
+pub missed_no_store : (call : Call) (p : Place) (why : ReportStop) → Misses call p why → (q : Place) → stop_place why ≡ Some q → ⊥
+missed_no_store call p why m q stop = by at.1
+  where
+    at : (is_hashed call.further call.root q ≡ false) × FailedAt call.further call.root call.before call.after [] m.trail q
+    at = m.fails.store q stop
+
+    not_empty : {A : Type 0} (before : List A) (x : A) → [] ≡ before ++ x ∷ [] → ⊥
+    not_empty [] x e = absurd cc
+    not_empty (y ∷ before) x e = absurd cc
+
+    by : FailedAt call.further call.root call.before call.after [] m.trail q → ⊥
+    by (in_listing before is failed read) = not_empty before q is
+    by (in_opening before given is none) =
+        let there : IsAmong m.trail (opening q given true) = subst (λ os. IsAmong os (opening q given true)) (sym is) (among_right before (opening q given true ∷ []) (opening q given true) (inl refl)) in
+        let place : IsAmong (hashed_among call.further call.root m.begun) q = subst (λ ps. IsAmong ps q) m.alone (among_map (λ o. o.place) m.trail (opening q given true) there) in
+        true_not_false (sym (hashed_there call.further call.root m.begun q place) ∙ at.0)
 
 pub fault_other : (why : Fault) → halt.Fault why ≢ halt.Output
 fault_other why e = cc

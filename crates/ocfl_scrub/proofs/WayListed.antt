@@ -31,7 +31,8 @@ use Rattle.ocfl_scrub.specs.Starting.{FilesLieIn, due_within, end_of, entry, ent
 use Rattle.ocfl_scrub.proofs.{DirectoryLaws.{has_directory, hashed_within}, Lists.{ascends_across}}
 use Rattle.ocfl_scrub.proofs.Passing.{Halts, due_in}
 use Rattle.ocfl_scrub.proofs.PartStarts.{due_starts, due_within_ascends, lies_exact, looked_starts, not_less_first, unless_root_is}
-use Rattle.ocfl_scrub.proofs.PassLaws.{among_beyond, looked_further, not_less_or, take_nothing}
+use Rattle.ocfl_scrub.proofs.PassLaws.{among_beyond, looked_further, take_nothing}
+use Rattle.ocfl_item.proofs.UpToLaws.{not_less_or}
 use Rattle.ocfl_scrub.proofs.WayOrder.{among_way}
 
 -- ---- places from a directory on, and before what is right in it, are in it

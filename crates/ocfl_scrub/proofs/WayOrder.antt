@@ -14,7 +14,7 @@ use Rattle.ocfl_rules.proofs.BelowLaws.{cmp_behind, from_append, ascends_append}
 use Rattle.ocfl_item.specs.Looking.{way_to, IsFront}
 use Rattle.ocfl_item.proofs.{ItemLaws.{head_zone}, LooksZones.{inside_on}}
 use Rattle.ocfl_walk.specs.{WalkCalls.{holder_of, way_of, holder}, Before.{directory_of}}
-use Rattle.ocfl_walk.proofs.{HolderLaws.{held_above, held_alone}, WayDownLaws.{on_way}}
+use Rattle.ocfl_walk.proofs.{HolderLaws.{held_above, held_alone}, OnWay.{on_way}}
 use Rattle.ocfl_walk.proofs.BeforeLaws.{directory_is}
 use Rattle.ocfl_scrub.proofs.{DirectoryLaws.{has_directory}, Lists.{nothing_front, ascends_left}}
 use Rattle.ocfl_scrub.proofs.Lists.{ascends_across}

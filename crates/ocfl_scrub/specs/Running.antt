@@ -13,8 +13,8 @@ use Rattle.ocfl_cursor.specs.declared.limits.Limits.{Limits as MadeLimits}
 use Rattle.ocfl_report.specs.declared.further.Further.{Further}
 use Rattle.ocfl_scrub.specs.declared.stop.ReportStop.TheVariants as halt
 use Rattle.ocfl_scrub.specs.Call.{Call, IsUnfailing, WhereTold, Writes}
-use Rattle.ocfl_scrub.specs.{Taking.{WritesLines}, Types.{ReportStop, RunEnd, RunStatus}}
-use Rattle.ocfl_scrub.specs.Starting.{AreAhead, LooksOver, StopsLooking, due_within, items_in}
+use Rattle.ocfl_scrub.specs.{Taking.{WritesLines, stop_place}, Types.{ReportStop, RunEnd, RunStatus}}
+use Rattle.ocfl_scrub.specs.Starting.{AreAhead, FailsUpTo, LooksOver, StopsLooking, due_within, items_in}
 use Rattle.ocfl_scrub.specs.Written.{places, Figures, StopsWithin}
 use Rattle.ocfl_scrub.specs.declared.running.RunStatus.TheVariants as status
 
@@ -96,13 +96,15 @@ pub record RunsWithin (call : Call) (part : Part) (from last : Option Place) (li
   pub next_is : next ≡ slice_get (places (left (items_in call.further call.root trail part from) limits)) 0
 
 -- It stopped: the first items of the cut went out whole, and of the next at most a proper beginning.
--- No item that is left is before a directory that was looked into
+-- No item that is left is before a directory that was looked into, or before that in which the store
+-- failed
 pub record RunStopsWithin (call : Call) (part : Part) (from last : Option Place) (limits : Limits) (spent files : ℕ) (finding : Bool) (why : ReportStop) : Type 0 where
   pub trail : List Opening
   pub stops : StopsWithin (taken_in call.further call.root trail part from limits) call.old call.new from last why
   pub figures : Figures stops.whole spent files finding
   pub looks : StopsLooking call part from (places stops.whole ++ stops.begun) trail why
   pub ahead : AreAhead (looks.down ++ looks.listed) (due_within call.further call.root part last)
+  pub up_to : FailsUpTo (stop_place why) (due_within call.further call.root part last)
 
 abbrev pub RunEndsWithin : Call → Part → Option Place → Option Place → Limits → ℕ → ℕ → Bool → RunStatus → Type 0
 RunEndsWithin call part from last limits spent files finding status.Ended = RunsWithin call part from last limits spent files finding None

@@ -12,7 +12,7 @@ use Rattle.ocfl_rules.specs.Between.{looked_between, read_between}
 use Rattle.ocfl_rules.specs.Zone.{beginnings}
 use Rattle.ocfl_rules.specs.Parts.{Part, within, places_within}
 use Rattle.ocfl_rules.specs.Trail.{reads_inventory, unread_of}
-use Rattle.ocfl_item.specs.{Looking.{IsFront, way_to}, Auditing.{Audits, Fails, LiesIn}}
+use Rattle.ocfl_item.specs.{Looking.{IsFront, LiesUpTo, way_to}, Auditing.{Audits, Fails, LiesIn}}
 use Rattle.ocfl_report.specs.declared.further.Further.{Further}
 use Rattle.ocfl_walk.specs.Before.{directory_of, place_before}
 use Rattle.ocfl_walk.specs.declared.end.End.{End}
@@ -81,6 +81,10 @@ items_in further root trail part from = after (within part (audit further root (
 -- none of some places is before one of these directories
 abbrev pub AreAhead : List Place → List Place → Type 0
 AreAhead dirs ps = (d p : Place) → IsAmong dirs d → IsAmong ps p → is_lt (place_cmp p d) ≡ false
+
+-- the place at which the store failed, if it did, lies in no directory after one of these places
+abbrev pub FailsUpTo : Option Place → List Place → Type 0
+FailsUpTo failed ps = (q p : Place) → failed ≡ Some q → IsAmong ps p → LiesUpTo (Some p) q
 
 -- the directories of a part that are looked into between two places, and its objects whose
 -- inventories are read

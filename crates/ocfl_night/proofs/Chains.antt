@@ -12,7 +12,7 @@ use Rattle.ocfl_scrub.specs.Joining.{PartRun, Ran}
 use Rattle.ocfl_scrub.specs.declared.running.RunStatus.{RunStatus}
 use Rattle.ocfl_scrub.specs.declared.running.RunStatus.TheVariants as status
 use Rattle.ocfl_state.specs.{Content.{Closed, is_closed}, declared.checkpoint_parts.Left.{Left}}
-use Rattle.ocfl_night.specs.Chain.{AreNextIn, NoneLost, RootRun, look_of, AreLooked, joined, LeadTo, EndAt, past, past_branch, part_after, from_after, LedBy, Led, LedToEnd, IsClosedAs, AreClosed, AreLeft, HasClosed}
+use Rattle.ocfl_night.specs.Chain.{AreNextIn, NoneBefore, RootRun, look_of, AreLooked, joined, LeadTo, EndAt, past, past_branch, part_after, from_after, LedBy, Led, LedToEnd, IsClosedAs, AreClosed, AreLeft, HasClosed}
 use Rattle.ocfl_night.specs.{Looks.{IsRootOf, Known, MayBeGone, Rounds, IsOneOf}, Sound.{closed_text}}
 
 -- a beginning of nothing
@@ -56,7 +56,7 @@ leave_on further part c d runs (x ∷ left) l (first, (rest, (e, (are, (leads, (
 
 -- and it is next, as those before were
 pub next_on : (further : Further) (known : Option Known) (part : Part) (left : List Left) (l : Left) → AreNextIn further known part left
-    → (root : StorageRoot) × (IsRootOf known root × NoneLost further root (part_after part left) l.after l.place) → AreNextIn further known part (left ++ l ∷ [])
+    → (root : StorageRoot) × (IsRootOf known root × NoneBefore further root (part_after part left) l.after l.place) → AreNextIn further known part (left ++ l ∷ [])
 next_on further known part [] l all next = (next, tt)
 next_on further known part (x ∷ left) l all next = (all.0, next_on further known (past_branch part x) left l all.1 next)
 

@@ -19,7 +19,7 @@ use Rattle.ocfl_state.specs.declared.checkpoint_parts.RootIdentity.{RootIdentity
 use Rattle.ocfl_state.specs.declared.checkpoint_parts.TopNames.{TopNames}
 use Rattle.ocfl_state.specs.declared.folder.StateFolder as state
 use Rattle.ocfl_state.proofs.CheckpointTexts.{text_determines}
-use Rattle.ocfl_night.specs.Chain.{AreNextIn, NoneLost, RootRun, joined, look_of, part_after, LeadTo, EndAt, LedBy, LedToEnd, HasRuns, IsReportOf, HasClosed}
+use Rattle.ocfl_night.specs.Chain.{AreNextIn, NoneBefore, RootRun, joined, look_of, part_after, LeadTo, EndAt, LedBy, LedToEnd, HasRuns, IsReportOf, HasClosed}
 use Rattle.ocfl_night.specs.Looks.{IfGiven, IsNoMore, IsOneOf, IsRootOf, IsWithin, Look, Rounds}
 use Rattle.ocfl_night.specs.Sound.{closed_text, IsOpen, IsClosing, IsMoved, Stands, IsNew, IsMarked, IsSoundAt, IsAt, IsSettled, IsReady, IsOneMore, IsShut}
 use Rattle.ocfl_night.specs.{Site.{first_checkpoint}, declared.site.Site.{Site}}
@@ -415,8 +415,8 @@ pub left_stands : {rounds : Rounds} {t : Text} {k next : Checkpoint} {c : Conten
     → Stands rounds t next c
 left_stands {rounds} {t} {k} {c = c} branch same is none stands =
     let o = open_of is stands in
-    let next : (root : StorageRoot) × (IsRootOf rounds.known root × NoneLost rounds.further root (part_after rounds.part k.left) (place_in k.cursor.state) branch) =
-    (none.0, (none.1.0, subst (λ (f : Further). NoneLost f none.0 (part_after rounds.part k.left) (place_in k.cursor.state) branch) o.led.checks none.1.1)) in
+    let next : (root : StorageRoot) × (IsRootOf rounds.known root × NoneBefore rounds.further root (part_after rounds.part k.left) (place_in k.cursor.state) branch) =
+    (none.0, (none.1.0, subst (λ (f : Further). NoneBefore f none.0 (part_after rounds.part k.left) (place_in k.cursor.state) branch) o.led.checks none.1.1)) in
     let chain = leave_on rounds.further rounds.part o.led.first k.cursor o.led.runs k.left (left_at branch k) o.led.chain refl in
     subst (λ (x : Checkpoint). Stands rounds t x c) (sym same)
     (inl (record { phase = o.phase; led = record { first = o.led.first; runs = o.led.runs; starts = o.led.starts; checks = o.led.checks; chain = chain; next = next_on rounds.further rounds.known rounds.part k.left (left_at branch k) o.led.next next; looked = o.led.looked }; text = o.text; report = o.report; begins = o.begins; is_whole = o.is_whole; lossless = o.lossless; told = o.told; told_is = o.told_is; earlier = o.earlier }))

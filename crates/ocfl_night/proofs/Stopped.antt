@@ -21,9 +21,9 @@ use Rattle.ocfl_rules.specs.{Inventories.{is_version_sidecar}, Objects.{IsVersio
 use Rattle.ocfl_rules.proofs.AuditExists.{zone_is}
 use Rattle.ocfl_rules.proofs.MetaLaws.{version_sidecar_is}
 use Rattle.ocfl_night.proofs.Chains.{run_checks}
-use Rattle.ocfl_rules.proofs.BelowLaws.{cmp_behind, text_from_test}
+use Rattle.ocfl_rules.proofs.BelowLaws.{text_from_test}
 use Rattle.ocfl_rules.proofs.BranchLaws.{nothing_above}
-use Rattle.ocfl_item.specs.{Auditing.{Fails, FailedAt, LiesIn, LiesNear, in_listing, in_opening}}
+use Rattle.ocfl_item.specs.{Auditing.{Fails, FailedAt, in_listing, in_opening}, Looking.{LiesUpTo}}
 use Rattle.ocfl_item.specs.declared.fault.Fault.TheVariants as fault
 use Rattle.ocfl_cursor.specs.Cursor.{Cursor}
 use Rattle.ocfl_scrub.specs.Joining.{PartRun, Ran}
@@ -32,11 +32,12 @@ use Rattle.ocfl_scrub.specs.{Call.{known_call}, Starting.{due_within}, declared.
 use Rattle.ocfl_scrub.specs.declared.running.RunStatus.{RunStatus}
 use Rattle.ocfl_scrub.specs.declared.running.RunStatus.TheVariants as status
 use Rattle.ocfl_scrub.specs.declared.stop.ReportStop.TheVariants as report
-use Rattle.ocfl_scrub.proofs.PassLaws.{not_less_or}
+use Rattle.ocfl_item.proofs.UpToLaws.{begins_not_before, not_less_or}
+use Rattle.ocfl_scrub.proofs.DirectoryLaws.{has_directory}
 use Rattle.ocfl_scrub.specs.declared.running.RunEnd.{RunEnd}
 use Rattle.ocfl_state.specs.{Checkpoint.{Checkpoint}, declared.checkpoint_parts.Left.{Left}}
 use Rattle.ocfl_state.specs.declared.checkpoint_parts.ReportMark.{ReportMark}
-use Rattle.ocfl_night.specs.{Chain.{NoneLost, part_after}, Ending.{IsAway, IsMadeBy, IsUnkept, place_or_pause, slice_end}}
+use Rattle.ocfl_night.specs.{Chain.{NoneBefore, part_after}, Ending.{IsAway, IsMadeBy, IsUnkept, place_or_pause, slice_end}}
 use Rattle.ocfl_night.specs.{Looks.{Look}, Promises.{StopsNextOver}, Steps.{IsNext, IsRun}}
 use Rattle.ocfl_terms.specs.{declared.made.Made.{Made}, declared.made.SliceEnd.{SliceEnd}, declared.stop.Stop.{Stop}}
 use Rattle.ocfl_terms.specs.declared.made.SliceEnd.TheVariants as slice
@@ -45,9 +46,6 @@ use Rattle.ocfl_night.proofs.Branches.{last_of}
 use Rattle.ocfl_report.specs.declared.further.Further.{Further}
 
 -- ---- the branch of a place
-
-begins_not_less : (u r : Place) → is_lt (place_cmp (u ++ r) u) ≡ false
-begins_not_less u r = ap is_lt (ap (place_cmp (u ++ r)) (sym (append-nil u)) ∙ cmp_behind u r []) ∙ nothing_above r
 
 -- the place begins with it
 branch_begins : (q : Place) → (r : Place) × (q ≡ branch_at q ++ r)
@@ -61,7 +59,7 @@ branch_begins q = by (is_root_meta q || speaks_for_object (last_name q))
 before_branch : (q y : Place) → is_lt (place_cmp y q) ≡ false → is_lt (place_cmp y (branch_at q)) ≡ false
 before_branch q y h =
     let k = branch_begins q in
-    not_less_or y q (branch_at q) h (subst (λ z. is_lt (place_cmp z (branch_at q)) ≡ false) (sym k.1) (begins_not_less (branch_at q) k.0))
+    not_less_or y q (branch_at q) h (subst (λ z. is_lt (place_cmp z (branch_at q)) ≡ false) (sym k.1) (begins_not_before (branch_at q) k.0))
 
 -- ---- that of metadata is its directory
 
@@ -133,35 +131,28 @@ hashed_there : (further : Further) (root : StorageRoot) (ps : List Place) (p : P
 unfolding hashed_among
 hashed_there further root ps p i = (among_from_filter (is_hashed further root) ps p i).1
 
--- of a directory that was listed its branch is that or is on the way to it, and of a file that was
--- opened it is one of these directories
-record IsListed (dirs : List Place) (q : Place) : Type 0 where
-  pub dir : Place
-  pub among : IsAmong dirs dir
-  pub ahead : (y : Place) → is_lt (place_cmp y dir) ≡ false → is_lt (place_cmp y (branch_at q)) ≡ false
+-- what was opened last speaks for its directory: what is not before that is not before its branch
+opened_ahead : (further : Further) (root : StorageRoot) (q y : Place) → is_meta further root q ≡ true → LiesUpTo (Some y) q → is_lt (place_cmp y (branch_at q)) ≡ false
+opened_ahead further root [] y meta up = before_branch [] y (nothing_above y)
+opened_ahead further root (n ∷ q) y meta up =
+    let k = has_directory (n ∷ q) (λ e. cc) in
+    subst (λ b. is_lt (place_cmp y b) ≡ false) (sym (meta_branch further root (n ∷ q) k.0 k.1.0 k.1.1 meta)) (up k.0 k.1.0 k.1.1)
 
-failed_listed : (further : Further) (root : StorageRoot) (s t : Store) (begun listed heads : List Place) (trail : List Opening) (q : Place) → further ≡ Nothing → Fails further root s t begun listed heads trail (Some q) → IsListed listed q
-failed_listed further root s t begun listed heads trail q plain h = by (h.store q refl).1
+-- a place that is not before a directory that was listed, nor before the one in which the store
+-- failed, is not before the branch of where it failed
+failed_ahead : (further : Further) (root : StorageRoot) (s t : Store) (begun listed heads : List Place) (trail : List Opening) (q y : Place) → Fails further root s t begun listed heads trail (Some q)
+    → ((d : Place) → IsAmong listed d → is_lt (place_cmp y d) ≡ false) → LiesUpTo (Some y) q → is_lt (place_cmp y (branch_at q)) ≡ false
+failed_ahead further root s t begun listed heads trail q y h ahead up = by (h.store q refl).1
   where
-    by : FailedAt further root s t listed trail q → IsListed listed q
-    by (in_listing before is failed read) = record {
-      dir = q;
-      among = subst (λ ds. IsAmong ds q) (sym is) (among_right before (q ∷ []) q (inl refl));
-      ahead = before_branch q;
-    }
+    by : FailedAt further root s t listed trail q → is_lt (place_cmp y (branch_at q)) ≡ false
+    by (in_listing before is failed read) = before_branch q y (ahead q (subst (λ ds. IsAmong ds q) (sym is) (among_right before (q ∷ []) q (inl refl))))
     by (in_opening before given is none) = of (is_meta further root q) refl
       where
         there : IsAmong trail (opening q given true)
         there = subst (λ os. IsAmong os (opening q given true)) (sym is) (among_right before (opening q given true ∷ []) (opening q given true) (inl refl))
 
-        of : (b : Bool) → is_meta further root q ≡ b → IsListed listed q
-        of true e =
-            let k : LiesIn listed q = subst (λ (f : Further). LiesNear f root listed q) plain (h.near (opening q given true) there e) in
-            record {
-              dir = k.0;
-              among = k.1.1.0;
-              ahead = λ y low. subst (λ b. is_lt (place_cmp y b) ≡ false) (sym (meta_branch further root q k.0 k.1.0 k.1.1.1 e)) low;
-            }
+        of : (b : Bool) → is_meta further root q ≡ b → is_lt (place_cmp y (branch_at q)) ≡ false
+        of true e = opened_ahead further root q y e up
         of false e =
             let content : IsAmong (content_openings further root trail) (opening q given true) = among_filter (λ x. not (is_meta further root x.place)) trail (opening q given true) there (ap not e) in
             let hashed = hashed_there further root begun q (subst (λ l. IsAmong l q) h.opened (among_map (λ x. x.place) (content_openings further root trail) (opening q given true) content)) in
@@ -174,8 +165,8 @@ place_left why None = refl
 place_left why (Some p) = refl
 
 pub none_before : (further : Further) (root : StorageRoot) (part : Part) (c : Cursor) (r : PartRun) (q : Place) → Ran further root part c r → r.ran.end ≡ status.Stopped (report.Fault (fault.Store q))
-    → NoneLost further root part (place_in r.ran.cursor.state) (branch_at q)
-none_before further root part c r q m is plain y i =
+    → NoneBefore further root part (place_in r.ran.cursor.state) (branch_at q)
+none_before further root part c r q m is y i =
     let h = m.runs in
     let why : ReportStop = report.Fault (fault.Store q) in
     let call = known_call further root m.before m.behind m.old (m.old ++ (r.report ++ m.cut)) in
@@ -183,8 +174,8 @@ none_before further root part c r q m is plain y i =
     subst (λ (e : RunStatus). RunEndsWithin call part (place_in c.state) h.last r.limits r.ran.spent r.ran.files r.ran.found e) is h.run in
     let stood : place_in r.ran.cursor.state ≡ h.last =
     ap (λ (x : Cursor). place_in x.state) h.cursor_is ∙ ap (λ (e : RunStatus). place_in (state_after e h.last)) is ∙ place_left why h.last in
-    let at = failed_listed further root m.before m.behind _ _ _ w.trail q plain w.looks.fails in
-    at.ahead y (w.ahead at.dir y at.among (subst (λ o. IsAmong (due_within further root part o) y) stood i))
+    let left : IsAmong (due_within further root part h.last) y = subst (λ o. IsAmong (due_within further root part o) y) stood i in
+    failed_ahead further root m.before m.behind _ _ _ w.trail q y w.looks.fails (λ d j. w.ahead d y j left) (w.up_to q y refl left)
 
 -- ---- the same of a slice
 
@@ -217,7 +208,7 @@ made_stops root part k look ran lines over run (Ok m) next made = λ p is.
     let cursor : run.run.ran.cursor ≡ m.checkpoint.cursor = ap (λ (x : RunEnd). x.cursor) run.ran_is ∙ sym next.1.cursor_is in
     let left : k.left ≡ m.checkpoint.left = sym (ap (λ (x : Checkpoint). x.left) next.1.rest_is) in
     let checks : k.cursor.further ≡ m.checkpoint.cursor.further = sym (run_checks k.cursor.further look.root (part_after part k.left) k.cursor run.run run.made) ∙ ap (λ (x : Cursor). x.further) cursor in
-    subst (λ (x : StorageRoot). NoneLost m.checkpoint.cursor.further x (part_after part m.checkpoint.left) (place_in m.checkpoint.cursor.state) (branch_at p)) over
-    (subst (λ (f : Further). NoneLost f look.root (part_after part m.checkpoint.left) (place_in m.checkpoint.cursor.state) (branch_at p)) checks
-    (subst (λ (l : List Left). NoneLost k.cursor.further look.root (part_after part l) (place_in m.checkpoint.cursor.state) (branch_at p)) left
-    (subst (λ (x : Cursor). NoneLost k.cursor.further look.root (part_after part k.left) (place_in x.state) (branch_at p)) cursor none)))
+    subst (λ (x : StorageRoot). NoneBefore m.checkpoint.cursor.further x (part_after part m.checkpoint.left) (place_in m.checkpoint.cursor.state) (branch_at p)) over
+    (subst (λ (f : Further). NoneBefore f look.root (part_after part m.checkpoint.left) (place_in m.checkpoint.cursor.state) (branch_at p)) checks
+    (subst (λ (l : List Left). NoneBefore k.cursor.further look.root (part_after part l) (place_in m.checkpoint.cursor.state) (branch_at p)) left
+    (subst (λ (x : Cursor). NoneBefore k.cursor.further look.root (part_after part k.left) (place_in x.state) (branch_at p)) cursor none)))

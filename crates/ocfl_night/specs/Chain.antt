@@ -4,7 +4,6 @@ use Rattle.std.specs.Prelude.{⊤, ℕ, ◌≡◌, ◌≢◌, ◌⊎◌, ◌+◌
 use Rattle.std.specs.{List.{AllByRecursion}, Ordering.{is_lt}}
 use Rattle.ocfl_tree.specs.{Place.{Text, Place, place_cmp}, Ascending.{IsAmong}, StorageRoot.{StorageRoot}}
 use Rattle.ocfl_report.specs.declared.further.Further.{Further}
-use Rattle.ocfl_report.specs.declared.further.Further.TheVariants.{Nothing}
 use Rattle.ocfl_rules.specs.{Parts.{Part}, Trail.{unread_of}}
 use Rattle.ocfl_cursor.specs.Cursor.{Cursor}
 use Rattle.ocfl_scrub.specs.{Running.{place_in}, Joining.{PartRun, Ran}, Starting.{due_within}}
@@ -81,16 +80,11 @@ LedToEnd further part c runs left d = LedBy EndAt further part c runs left d
 abbrev pub NoneBefore : Further → StorageRoot → Part → Option Place → Place → Type 0
 NoneBefore further root part from branch = (p : Place) → IsAmong (due_within further root part from) p → is_lt (place_cmp p branch) ≡ false
 
--- So of an audit that checks nothing further. Of one that checks the inventories of versions too this
--- is not claimed: it is not known beside which inventory a sidecar lies that could not be read.
-abbrev pub NoneLost : Further → StorageRoot → Part → Option Place → Place → Type 0
-NoneLost further root part from branch = further ≡ Nothing → NoneBefore further root part from branch
-
 -- So between where each of some branches was left out and that branch there was no item, over the
 -- storage root of one of these looks: what was lost with it is its own.
 abbrev pub AreNextIn : Further → Option Known → Part → List Left → Type 0
 AreNextIn further known part [] = ⊤
-AreNextIn further known part (l ∷ left) = ((root : StorageRoot) × (IsRootOf known root × NoneLost further root part l.after l.place)) × AreNextIn further known (past_branch part l) left
+AreNextIn further known part (l ∷ left) = ((root : StorageRoot) × (IsRootOf known root × NoneBefore further root part l.after l.place)) × AreNextIn further known (past_branch part l) left
 
 -- ---- closed reports
 

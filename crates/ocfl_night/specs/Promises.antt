@@ -6,7 +6,7 @@ use Rattle.ocfl_item.specs.Judging.{HasShortFiles}
 use Rattle.ocfl_scrub.specs.{Running.{place_in}, declared.kept.KeptWalk.{KeptWalk}}
 use Rattle.ocfl_state.specs.declared.folder.StateFolder as state
 use Rattle.ocfl_state.specs.{Checkpoint.{Checkpoint}, Content.{Closed, Content}, Crash.{LeavesOnly}}
-use Rattle.ocfl_night.specs.{Chain.{NoneLost, part_after}, Ending.{place_or_pause}, Leaving.{branch_at}, Looks.{IsRootOf, Rounds}}
+use Rattle.ocfl_night.specs.{Chain.{NoneBefore, part_after}, Ending.{place_or_pause}, Leaving.{branch_at}, Looks.{IsRootOf, Rounds}}
 use Rattle.ocfl_night.specs.{Sound.{IsAt, IsSoundAt, IsReady}, Steps.{IsLost, IsWalkAt, closes_whole}}
 use Rattle.ocfl_terms.specs.declared.plan.NightEnd.{NightEnd}
 use Rattle.ocfl_terms.specs.declared.made.Made.{Made}
@@ -36,14 +36,14 @@ IfReady S k folder Holds = (rounds : Rounds) → IfReadyIn S rounds k folder (Ho
 -- over a storage root of the looks, no item that is left at a checkpoint is before a branch, as far as
 -- that is claimed
 abbrev pub IsBranchNext : Rounds → Checkpoint → Place → Type 0
-IsBranchNext rounds k branch = (root : StorageRoot) × (IsRootOf rounds.known root × NoneLost k.cursor.further root (part_after rounds.part k.left) (place_in k.cursor.state) branch)
+IsBranchNext rounds k branch = (root : StorageRoot) × (IsRootOf rounds.known root × NoneBefore k.cursor.further root (part_after rounds.part k.left) (place_in k.cursor.state) branch)
 
 -- so it is of the place at which a slice stopped, if it did
 abbrev pub StopsNext : Rounds → Made → Type 0
 StopsNext rounds made = (p : Place) → place_or_pause made.end ≡ Ok p → IsBranchNext rounds made.checkpoint (branch_at p)
 
 abbrev pub StopsNextOver : StorageRoot → Part → Made → Type 0
-StopsNextOver root part made = (p : Place) → place_or_pause made.end ≡ Ok p → NoneLost made.checkpoint.cursor.further root (part_after part made.checkpoint.left) (place_in made.checkpoint.cursor.state) (branch_at p)
+StopsNextOver root part made = (p : Place) → place_or_pause made.end ≡ Ok p → NoneBefore made.checkpoint.cursor.further root (part_after part made.checkpoint.left) (place_in made.checkpoint.cursor.state) (branch_at p)
 
 -- if this checkpoint is there
 abbrev pub IfThere : Content → (Checkpoint → Type 0) → Type 0

@@ -130,8 +130,8 @@ fn declares_root(place: &Place) -> bool
 }
 
 /// The branch to leave out after a call at this place failed: that of the object if the place is
-/// one of its declarations, inventories or sidecars, that of the storage root if it is a declaration
-/// of that, else that of the place itself.
+/// one of its declarations, inventories or sidecars, that of the storage root if it is a
+/// declaration of that, else that of the place itself.
 pub(crate) fn branch_at(place: &Place) -> Result<Place, AllocError>
     ensures { IfOk result (λ branch. branch ≡ branch_at place.now) }
 {

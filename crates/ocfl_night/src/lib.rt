@@ -20,9 +20,9 @@
 //!   root, has another declaration, or lost more than half of its names; with `force_root` the last
 //!   two pass. A night that ends as `Refused` has changed nothing, and the reason that it gives
 //!   holds.
-//! - A folder whose checkpoint is older than its reports stays as it was too: the cycle that it says
-//!   is open, or the one after it, is closed, or the report that it says is to be closed is, and
-//!   there is another one. No folder that nights have left, ended or crashed at any moment, is
+//! - A folder whose checkpoint is older than its reports stays as it was too: the cycle that it
+//!   says is open, or the one after it, is closed, or the report that it says is to be closed is,
+//!   and there is another one. No folder that nights have left, ended or crashed at any moment, is
 //!   refused so.
 //! - The report has the lines of a run only if the files that declared the root were there, and the
 //!   same, after it (`slice`).
@@ -50,14 +50,15 @@
 //!   left has taken what the runs before had taken. So what the next night opens again is what one
 //!   run had opened, and of each run that stopped one file at most. Else a night opens each content
 //!   file once, however it ends.
-//! - It says that it stopped at a place only if the store failed there, in its last run or in the look
-//!   at the root after it, and if nothing could be done about that: twice, unless it is to stop at
-//!   faults, 64 runs had stopped before, or the root could not be looked at.
-//! - A night that is troubled says why. It says that the folder failed or is full only if the folder
-//!   counted a failure in it, or if what is there as a checkpoint is too long; that a checkpoint is
-//!   too long, only of one that it was to put; that the output failed, only if that counted a
-//!   failure; and never that the folder holds a closed report already or, in one that nights left,
-//!   that checkpoint and report do not fit each other. What memory refuses no count shows.
+//! - It says that it stopped at a place only if the store failed there, in its last run or in the
+//!   look at the root after it, and if nothing could be done about that: twice, unless it is to
+//!   stop at faults, 64 runs had stopped before, or the root could not be looked at.
+//! - A night that is troubled says why. It says that the folder failed or is full only if the
+//!   folder counted a failure in it, or if what is there as a checkpoint is too long; that a
+//!   checkpoint is too long, only of one that it was to put; that the output failed, only if that
+//!   counted a failure; and never that the folder holds a closed report already or, in one that
+//!   nights left, that checkpoint and report do not fit each other. What memory refuses no count
+//!   shows.
 //! - All but the last holds of a state folder and a store that are as they tell, over a root with
 //!   no file of 2^62 bytes or more; what is said of another root or part needs no store that tells.
 //!   The last holds of a clock that tells what it answered and heard.

@@ -594,9 +594,10 @@ pub fn night<S: StateFolder, T: Tree, C: Clock, O: Output>(
         (S.seen folder.old) (S.seen folder.new) (content_since site.now.further root
         (T.state tree.old) (T.state tree.new))) }
 
-    // However it ends, it opens each content file at most once, but for one of each run that stopped.
-    // Whenever a crash comes, the checkpoint that is left has taken what the runs before had taken:
-    // what is opened again after it is what one run had opened, and those that stopped had begun with.
+    // However it ends, it opens each content file at most once, but for one of each run that
+    // stopped. Whenever a crash comes, the checkpoint that is left has taken what the runs before
+    // had taken: what is opened again after it is what one run had opened, and those that stopped
+    // had begun with.
     //
     // Its store is asked for what its runs ask for, one after the other. Each goes on with the walk
     // of the one before it, if its limits ended that one. Between two, before the first and after
@@ -623,8 +624,8 @@ pub fn night<S: StateFolder, T: Tree, C: Clock, O: Output>(
     ensures rightly { IsTrue S.told → (why : ModelRefusal) → result.end ≡ halt.Refused why
         → IsRefused T.told (T.state tree.old) site.now plan.now (S.seen folder.old) why }
 
-    // So does one in the folder of another root, part or audit, with a checkpoint that is older than
-    // the reports, or over a root that is not as it was or declares nothing.
+    // So does one in the folder of another root, part or audit, with a checkpoint that is older
+    // than the reports, or over a root that is not as it was or declares nothing.
     ensures barred { IsTrue S.told
         → IsBarred T.told (T.state tree.old) site.now plan.now (S.seen folder.old)
         → IsNotBegun result.end × IsUntouched S.StateFolder folder.old folder.new }
@@ -653,8 +654,8 @@ pub fn night<S: StateFolder, T: Tree, C: Clock, O: Output>(
         → ((cycle : ℕ) → result.end ≢ halt.CycleEnded cycle)
         → SameClosed S.StateFolder folder.old folder.new }
 
-    // It is called whole exactly if nothing of it was lost, and no branch was left out, by this night
-    // or before it.
+    // It is called whole exactly if nothing of it was lost, and no branch was left out, by this
+    // night or before it.
     ensures whole { IsTrue S.told → OverShort T.told (T.state tree.old)
         (λ _. IsKept S.StateFolder (of_any site.now.further (part_at site.now.ends)) folder.old
         → (cycle : ℕ) → result.end ≡ halt.CycleEnded cycle → (d : Closed)
@@ -683,8 +684,8 @@ pub fn night<S: StateFolder, T: Tree, C: Clock, O: Output>(
     ensures ends { All (λ branch. IsTrue (has_end branch)) result.left.items }
 
     // It is the list of its runs. The first was begun where the folder's checkpoint stood, and each
-    // other one where the one before it led, after the clock answered that the night is not asked to
-    // stop and that the end has not come, within the limits of the plan. By these it ended as it
+    // other one where the one before it led, after the clock answered that the night is not asked
+    // to stop and that the end has not come, within the limits of the plan. By these it ended as it
     // says, unless troubled, and its figures are theirs. Where the last one led, the folder's
     // checkpoint stands then, or at the beginning of the next cycle if that one has ended.
     ensures told { IsTrue C.told → IsNight site.now.further plan.now S.told (S.seen folder.old)

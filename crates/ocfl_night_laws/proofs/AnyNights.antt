@@ -21,7 +21,6 @@ use Rattle.ocfl_night.proofs.Chains.{ended_cursor, has_none, left_again, left_al
 use Rattle.ocfl_night_laws.proofs.Around.{wrote_around}
 use Rattle.ocfl_night.proofs.Heard.{since_sound}
 use Rattle.ocfl_report.specs.declared.further.Further.{Further}
-use Rattle.ocfl_report.specs.declared.further.Further.TheVariants.{Nothing}
 
 -- ---- closed reports
 
@@ -202,11 +201,11 @@ module _ (further : Further) (root : StorageRoot) (known : Known) where
   over_one one (r ∷ runs) looked = (looked.0.1.1.root ∙ one looked.0.0 looked.0.1.0, over_one one runs looked.1)
 
   -- and branches were left out over it
-  pub next_over : ((l : Look) → IsAmong known.looks l → l.root ≡ root) → (part : Part) (left : List Left) → AreNextIn further (Some known) part left → further ≡ Nothing → AreNext further root part left
-  next_over one part [] all plain = tt
-  next_over one part (l ∷ left) all plain =
+  pub next_over : ((l : Look) → IsAmong known.looks l → l.root ≡ root) → (part : Part) (left : List Left) → AreNextIn further (Some known) part left → AreNext further root part left
+  next_over one part [] all = tt
+  next_over one part (l ∷ left) all =
       let same : all.0.0 ≡ root = sym all.0.1.0.1.1 ∙ one all.0.1.0.0 all.0.1.0.1.0 in
-      (subst (λ (x : StorageRoot). NoneBefore further x part l.after l.place) same (all.0.1.1 plain), next_over one (past_branch part l) left all.1 plain)
+      (subst (λ (x : StorageRoot). NoneBefore further x part l.after l.place) same all.0.1.1, next_over one (past_branch part l) left all.1)
 
   abbrev CouldNot : Place × ℕ → Type 0
   CouldNot e = (l : Look) × (IsAmong known.looks l × IsAmong l.unread e)

@@ -3,7 +3,6 @@ use Rattle.std.specs.Prelude.{⊤, ℕ, ◌≡◌, ◌≢◌, ◌++◌, List, []
 use Rattle.std.specs.List.{AllByRecursion}
 use Rattle.ocfl_tree.specs.{Place.{Place, Text}, Ascending.{IsAmong}, StorageRoot.{StorageRoot}}
 use Rattle.ocfl_report.specs.{Text.{text}, declared.further.Further.{Further}}
-use Rattle.ocfl_report.specs.declared.further.Further.TheVariants.{Nothing}
 use Rattle.ocfl_rules.specs.{Audit.{Unread, audit}, Parts.{Part, within}}
 use Rattle.ocfl_state.specs.{Content.{Content, Closed, is_closed}, Crash.{Outcomes, Follows}}
 use Rattle.ocfl_state.specs.Checkpoint.{Checkpoint}
@@ -72,12 +71,11 @@ abbrev pub HaveReadAll : {F : Type 0} → List (Night F) → Type 0
 HaveReadAll nights = AllByRecursion (λ n. n.look.unread ≡ []) nights
 
 -- A text is the audit of a part but for branches that were left out, at least one: up to where each
--- was, and then what comes after it. Between the two no item is lost but the branch's: so it is known
--- of an audit that checks nothing further
+-- was, and then what comes after it. Between the two no item is lost but the branch's
 pub record IsAround (further : Further) (root : StorageRoot) (part : Part) (report : Text) : Type 0 where
   pub left : List Left
   pub some : left ≢ []
-  pub next : further ≡ Nothing → AreNext further root part left
+  pub next : AreNext further root part left
   pub is : report ≡ text (around part None left (audit further root []))
 
 -- of each other one this holds

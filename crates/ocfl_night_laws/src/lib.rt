@@ -3,10 +3,10 @@
 //!
 //! # What is proved
 //!
-//! - Of any nights over one root, from an empty folder on, each ended or crashed at any moment: what
-//!   is left is sound, and what was told was committed. A closed report that is called whole is the
-//!   audit, in which only files are called unreadable that one of the nights could not read; any
-//!   other is the audit around branches that were left out, if all was read. Between two nights
+//! - Of any nights over one root, from an empty folder on, each ended or crashed at any moment:
+//!   what is left is sound, and what was told was committed. A closed report that is called whole
+//!   is the audit, in which only files are called unreadable that one of the nights could not read;
+//!   any other is the audit around branches that were left out, if all was read. Between two nights
 //!   closed reports may be taken away, but not that of a checkpoint's cycle while the checkpoint
 //!   says that it is to be closed (module `nights`).
 //! - No run of a night begins but where its clock has answered that the end has not come. The next
@@ -14,7 +14,8 @@
 //!   what is opened again is what one run had opened, and a file of each run that stopped
 //!   (`nights`).
 //! - A night is refused for a reason that holds of its folder and its root (`refusals`).
-//! - A night stops at a place exactly where nothing helps, and there the store has failed (`stops`).
+//! - A night stops at a place exactly where nothing helps, and there the store has failed
+//!   (`stops`).
 #![tactic(auto)]
 
 pub mod nights;

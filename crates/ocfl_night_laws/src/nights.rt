@@ -151,8 +151,8 @@ pub fn nothing_is_read_twice()
         → IsAscending place_cmp (flat_map (λ r. r.opened) readings) }
 {}
 
-/// A crash comes in one of a night's runs, or in what is done after it, and the next night is in the
-/// same cycle. Of what the runs before it had taken, that night opens nothing. So what it opens
+/// A crash comes in one of a night's runs, or in what is done after it, and the next night is in
+/// the same cycle. Of what the runs before it had taken, that night opens nothing. So what it opens
 /// again is what this one run had opened, and those that stopped had begun with.
 pub fn what_is_opened_again_is_one_runs<S: StateFolder>()
     ensures in_it { (root : StorageRoot) (part : Part) (cycle : ℕ) (taken : List Place)

@@ -33,7 +33,8 @@ pub fn a_night_stops_where_nothing_helps()
 {}
 
 /// Where a night stops, the store has failed: once at least, and twice if it stopped there though
-/// it may leave branches out, fewer than 64 runs had stopped before, and the root could be looked at.
+/// it may leave branches out, fewer than 64 runs had stopped before, and the root could be looked
+/// at.
 pub fn a_night_stops_where_the_store_failed()
     ensures once { (further : Further) (plan : Plan) (tells : Bool) (c d : Content)
         (old new : List Event) (end : NightEnd) (p : Place)

@@ -19,7 +19,7 @@ Tried, and what comes of it:
 - The scripts over such nights: the statement counts what S09 says; `recheck` looks again with the
   option; what `repair` shows brings a version's inventory back from a copy.
 - A cursor, a part's cursor and a state folder of the other kind: refused, status 4 and 3; nothing
-  is written.
+  is written. Parts of which one is of the other kind are not joined, and it is named.
 - Openings: each sidecar of a version at most once, each file once, and without the option nothing
   of a version's inventory.
 - A version's inventory that cannot be read has S08, and its sidecar stops a run.
@@ -466,9 +466,29 @@ def other_nights(folder):
             check("nights %s go on" % its, (status in (0, 1), said), (True, ""))
 
 
+def other_parts(folder):
+    """Parts of which one is of the other kind are not joined, and that one is named."""
+    root = versions.make_root(os.path.join(folder, "root"), {"o": LETTERS, "p": LETTERS})
+    file = write(os.path.join(folder, "separators"), b"p\n")
+    for number, (first, second, word) in enumerate([([OPTION], [], "without"),
+                                                     ([], [OPTION], "with")]):
+        parts = "%s/parts-%d" % (folder, number)
+        os.mkdir(parts)
+        for part, its in [(1, first), (2, second)]:
+            state = Nights("%s/part-%06d" % (parts, part), root, "--parts", file, "--part",
+                           str(part))
+            until_closed("parts of two kinds, part %d %s" % (part, its), state, its, 1)
+        status, out, said = ran(["join", "--parts", file, "--state", parts])
+        wanted = "part 2: its nights are of an audit %s --inventories" % word
+        check("a join of parts of two kinds %s" % first, (status, wanted in out + said), (3, True))
+        check("a join of parts of two kinds %s: nothing is put" % first,
+              os.path.exists(parts + "/reports/cycle-000001"), False)
+
+
 def other_kind(folder):
     other_cursors(folder)
     other_nights(folder)
+    other_parts(folder)
 
 
 # ---- what is opened, and what cannot be

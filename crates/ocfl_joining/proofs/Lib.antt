@@ -3,6 +3,7 @@ mod Parts
 mod LastClosed
 mod Copies
 mod Decoded
+mod Audits
 mod ClosedLaws
 mod Cycling
 pub mod Stopping

@@ -53,6 +53,7 @@ pub record AreFacts (c : Checkpoint) (facts : Facts) : Type 0 where
   pub root_is : facts.root.items ≡ root_of c.root
   pub from_is : facts.from ≡ from_of c.part
   pub below_is : facts.below ≡ below_of c.part
+  pub further_is : facts.further ≡ c.cursor.further
   pub last_is : facts.last ≡ last_closed c
   pub lines_are : facts.has_lines ≡ has_lines c
 
@@ -149,6 +150,7 @@ known_of facts cycle told found = record {
   root = facts.root.items;
   from = facts.from;
   below = facts.below;
+  further = facts.further;
   cycle = cycle;
   whole = found.whole;
   told = told;

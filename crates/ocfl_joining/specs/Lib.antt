@@ -3,6 +3,7 @@ pub mod Folders
 pub mod Reports
 pub mod Crash
 pub mod Joined
+pub mod Audited
 pub mod Stops
 pub mod Memory
 pub mod Within

@@ -2,19 +2,22 @@
 use Rattle.std.specs.Prelude.{ℕ, zero, suc, ◌+◌, ◌-◌, ◌==◌, ◌&&◌, nat_lt, nat_le, max, List, [], ◌∷◌, ◌++◌, length, filter, flat_map, is_some, Bool, true, false, not, if◌then◌else◌, Option, Some, None, slice_get}
 use Rattle.std.specs.List.{find}
 use Rattle.ocfl_tree.specs.Place.{Text, Place, text_eq, place_eq}
+use Rattle.ocfl_report.specs.declared.further.Further.{Further}
+use Rattle.ocfl_report.specs.declared.further.Further.TheVariants.{Nothing, Inventories}
 use Rattle.ocfl_separators.specs.Separators.{start_of_part, end_of_part}
 use Rattle.ocfl_joining.specs.declared.part.MissingPart.{MissingPart}
 use Rattle.ocfl_joining.specs.declared.part.PartFault.{PartFault}
-use Rattle.ocfl_joining.specs.declared.part.PartFault.TheVariants.{NoPart, NotClosed, OtherRoot, OtherPart, OtherCycle, Untold, FewNames, Incomplete}
+use Rattle.ocfl_joining.specs.declared.part.PartFault.TheVariants.{NoPart, NotClosed, OtherRoot, OtherPart, OtherAudit, OtherCycle, Untold, FewNames, Incomplete}
 
 -- What is known of the report that a part closed in a cycle: which storage root the part is of, in
--- whatever form; where it begins, and below which place it stays; the cycle; whether nothing of the
--- report was lost or left out; whether what it has new and gone was said; how many names the storage
--- root had when the cycle began; and the places that were left out.
+-- whatever form; where it begins, and below which place it stays; what its audit checks further; the
+-- cycle; whether nothing of the report was lost or left out; whether what it has new and gone was said;
+-- how many names the storage root had when the cycle began; and the places that were left out.
 pub record KnownPart : Type 0 where
   pub root : Text
   pub from : Option Place
   pub below : Option Place
+  pub further : Further
   pub cycle : ℕ
   pub whole : Bool
   pub told : Bool
@@ -41,26 +44,34 @@ is_part separators number = nat_lt 0 number && nat_le number (length separators 
 abbrev pub has_ends : KnownPart → Option Place → Option Place → Bool
 has_ends part from below = same_end part.from from && same_end part.below below
 
+-- two audits check the same
+abbrev pub check_same : Further → Further → Bool
+check_same Nothing Nothing = true
+check_same Nothing Inventories = false
+check_same Inventories Nothing = false
+check_same Inventories Inventories = true
+
 -- less than half of the most
 abbrev pub is_few : ℕ → Option ℕ → Bool
 is_few most None = false
 is_few most (Some names) = nat_lt names (most - names)
 
--- what is wrong with a part that has these ends, the first of these; `most` is the most names that
--- one of the parts saw in the storage root
-abbrev pub closed_fault : Text → ℕ → ℕ → Option Place → Option Place → KnownPart → Option PartFault
-closed_fault root cycle most from below part =
+-- what is wrong with a part that has these ends, the first of these, beside others whose audits check
+-- this further; `most` is the most names that one of the parts saw in the storage root
+abbrev pub closed_fault : Text → Further → ℕ → ℕ → Option Place → Option Place → KnownPart → Option PartFault
+closed_fault root further cycle most from below part =
     if not (text_eq part.root root) then Some OtherRoot
     else (if not (has_ends part from below) then Some OtherPart
+    else (if not (check_same part.further further) then Some OtherAudit
     else (if not (part.cycle == cycle) then Some OtherCycle
     else (if not part.told then Some Untold
     else (if is_few most part.names then Some FewNames
-    else (if not part.whole then Some Incomplete else None)))))
+    else (if not part.whole then Some Incomplete else None))))))
 
-abbrev pub fault_of : List Place → Text → ℕ → ℕ → ℕ → Option KnownPart → Option PartFault
-fault_of separators root cycle most number None = if is_part separators number then Some NotClosed else Some NoPart
-fault_of separators root cycle most number (Some part) =
-    if is_part separators number then closed_fault root cycle most (start_of_part separators number) (end_of_part separators number) part else Some NoPart
+abbrev pub fault_of : List Place → Text → Further → ℕ → ℕ → ℕ → Option KnownPart → Option PartFault
+fault_of separators root further cycle most number None = if is_part separators number then Some NotClosed else Some NoPart
+fault_of separators root further cycle most number (Some part) =
+    if is_part separators number then closed_fault root further cycle most (start_of_part separators number) (end_of_part separators number) part else Some NoPart
 
 -- ---- all parts
 
@@ -81,6 +92,15 @@ root_of parts = by (find (λ part. is_some part) parts)
     by (Some None) = []
     by (Some (Some part)) = part.root
 
+-- what the audit of the first part that is known checks further; nothing if none is known
+abbrev pub further_of : List (Option KnownPart) → Further
+further_of parts = by (find (λ part. is_some part) parts)
+  where
+    by : Option (Option KnownPart) → Further
+    by None = Nothing
+    by (Some None) = Nothing
+    by (Some (Some part)) = part.further
+
 -- the most names that one of them saw in the storage root; 0 if no number is known
 abbrev pub most_names : List (Option KnownPart) → ℕ
 most_names [] = 0
@@ -100,7 +120,7 @@ named number (Some fault) = record { part = number; fault = fault } ∷ []
 
 -- the part with a number, if something is wrong with it
 abbrev pub missing_at : List Place → Text → ℕ → List (Option KnownPart) → ℕ → List MissingPart
-missing_at separators root cycle parts number = named number (fault_of separators root cycle (most_names parts) number (part_at parts number))
+missing_at separators root cycle parts number = named number (fault_of separators root (further_of parts) cycle (most_names parts) number (part_at parts number))
 
 -- how many parts there are: those that the separators make, and those of which something is known
 abbrev pub part_count : List Place → List (Option KnownPart) → ℕ
@@ -124,6 +144,7 @@ hinders NoPart = true
 hinders NotClosed = true
 hinders OtherRoot = true
 hinders OtherPart = true
+hinders OtherAudit = true
 hinders OtherCycle = true
 hinders Untold = true
 hinders FewNames = true

@@ -2,7 +2,8 @@
 -- that stopped.
 use Rattle.std.specs.Prelude.{ℕ, List, [], ◌∷◌, ◌++◌, length, flat_map, codes, decimal, string_bytes, if◌then◌else◌, Option, Some, None}
 use Rattle.ocfl_tree.specs.Place.{Text, Place}
-use Rattle.ocfl_report.specs.Text.{place_text}
+use Rattle.ocfl_report.specs.{Text.{place_text}, declared.further.Further.{Further}}
+use Rattle.ocfl_report.specs.declared.further.Further.TheVariants.{Nothing, Inventories}
 use Rattle.ocfl_joining.specs.Missing.{KnownPart, most_names, names_of, numbers, part_at}
 use Rattle.ocfl_joining.specs.declared.{failing.FailedCall.{FailedCall}, joining.JoinStop.{JoinStop}}
 use Rattle.ocfl_joining.specs.declared.joining.JoinStop.TheVariants.{Missing, Changed, Part, Output, Unsaid, Memory}
@@ -10,13 +11,14 @@ use Rattle.ocfl_joining.specs.declared.part.{MissingPart.{MissingPart}, PartFaul
 use Rattle.ocfl_joining.specs.declared.reports.ReportTrouble.{ReportTrouble}
 use Rattle.ocfl_joining.specs.declared.reports.ReportTrouble.TheVariants as trouble
 use Rattle.ocfl_joining.specs.declared.reports.ReportTrouble.TheVariants.{Failed}
-use Rattle.ocfl_joining.specs.declared.part.PartFault.TheVariants.{NoPart, NotClosed, OtherRoot, OtherPart, OtherCycle, Untold, FewNames, Incomplete}
+use Rattle.ocfl_joining.specs.declared.part.PartFault.TheVariants.{NoPart, NotClosed, OtherRoot, OtherPart, OtherAudit, OtherCycle, Untold, FewNames, Incomplete}
 
 abbrev pub fault_text : PartFault → Text
 fault_text NoPart = codes "there is no such part"
 fault_text NotClosed = codes "it closed no report"
 fault_text OtherRoot = codes "it is of another storage root"
 fault_text OtherPart = codes "it is of another part"
+fault_text OtherAudit = codes "it does not check the same as another part"
 fault_text OtherCycle = codes "its report is of another cycle"
 fault_text Untold = codes "its closing was not said yet"
 fault_text FewNames = codes "it saw less than half of the names that another part saw in the storage root"
@@ -27,6 +29,15 @@ abbrev pub part_line : ℕ → Text → Text
 part_line number words = codes "ocfl-scrub: part " ++ decimal number ++ codes ": " ++ words ++ codes "\n"
 
 -- ---- parts that keep a cycle from being joined
+
+-- its audit checks this further, and that of another part does not, or the other way around
+abbrev pub audit_text : Further → Text
+audit_text Nothing = codes "its nights are of an audit without --inventories, and those of another part of one with it"
+audit_text Inventories = codes "its nights are of an audit with --inventories, and those of another part of one without it"
+
+abbrev pub other_audit_text : Option KnownPart → Text
+other_audit_text None = fault_text OtherAudit
+other_audit_text (Some part) = audit_text part.further
 
 -- it saw few of the names that another part saw
 abbrev pub few_text : ℕ → ℕ → Option KnownPart → Text
@@ -42,6 +53,7 @@ reason_text cycle most part NoPart = fault_text NoPart
 reason_text cycle most part NotClosed = fault_text NotClosed
 reason_text cycle most part OtherRoot = fault_text OtherRoot
 reason_text cycle most part OtherPart = fault_text OtherPart
+reason_text cycle most part OtherAudit = other_audit_text part
 reason_text cycle most part OtherCycle = fault_text OtherCycle
 reason_text cycle most part Untold = codes "its closing of cycle " ++ decimal cycle ++ codes " was not said yet"
 reason_text cycle most part FewNames = few_text cycle most part

@@ -15,6 +15,7 @@ ghost use Rattle.ocfl_state.specs.CheckpointRefusal.{RefusedRightly};
 use crate::part::ClosedPart;
 use crate::reports::KeptMark;
 use ocfl_cursor::{Refused, State};
+use ocfl_report::Further;
 use ocfl_state::{Checkpoint, Left, Phase, RootIdentity, decode_checkpoint};
 use ocfl_tree::Place;
 use std::alloc::{AllocError, Global};
@@ -28,6 +29,8 @@ pub struct Facts {
     pub from: Option<Place>,
     /// Below which place it stays. The last part, and a whole root, has no end.
     pub below: Option<Place>,
+    /// What its audit checks further.
+    pub further: Further,
     /// The cycle that was closed last; 0 if none was.
     pub last: u64,
     /// Whether that cycle is known to have read files, so that its report has lines.
@@ -41,6 +44,7 @@ impl Drop for Facts {
             root: _root,
             from: _from,
             below: _below,
+            further: _further,
             last: _last,
             has_lines: _has_lines,
         } = self;
@@ -132,6 +136,7 @@ pub fn facts_of(alloc: Global, checkpoint: &Checkpoint) -> Result<Facts, AllocEr
     ensures root { IfOk result (λ facts. facts.root.items ≡ root_of checkpoint.now.root) }
     ensures from { IfOk result (λ facts. facts.from ≡ from_of checkpoint.now.part) }
     ensures below { IfOk result (λ facts. facts.below ≡ below_of checkpoint.now.part) }
+    ensures further { IfOk result (λ facts. facts.further ≡ checkpoint.now.cursor.further) }
     ensures last { IfOk result (λ facts. facts.last ≡ last_closed checkpoint.now) }
     ensures lines { IfOk result (λ facts. facts.has_lines ≡ has_lines checkpoint.now) }
 {
@@ -139,6 +144,7 @@ pub fn facts_of(alloc: Global, checkpoint: &Checkpoint) -> Result<Facts, AllocEr
         root: root_text(alloc, &checkpoint.root)?,
         from: find_from(checkpoint)?,
         below: find_below(checkpoint)?,
+        further: checkpoint.cursor.further(),
         last: last_closed(checkpoint),
         has_lines: has_lines(checkpoint),
     })
@@ -365,6 +371,7 @@ pub fn known_part(
         root: facts.root.to_vec(alloc)?,
         from: copy_end(&facts.from)?,
         below: copy_end(&facts.below)?,
+        further: facts.further,
         cycle,
         whole: found.whole,
         told,

@@ -1,53 +1,61 @@
 //! Which parts cannot be joined, and why.
 ghost use Rattle.std.specs.Prelude.{◌≡◌, ◌+◌, ◌++◌, IfOk, OnOk, filter, is_some, option_map};
 ghost use Rattle.std.specs.List.{find};
-ghost use Rattle.ocfl_joining.specs.Missing.{closed_fault, fault_of, has_ends, hinders, is_few};
+ghost use Rattle.ocfl_joining.specs.Missing.{check_same, closed_fault, fault_of, further_of};
+ghost use Rattle.ocfl_joining.specs.Missing.{has_ends, hinders, is_few};
 ghost use Rattle.ocfl_joining.specs.Missing.{left_by, left_of, missing_of, most_names, named};
 ghost use Rattle.ocfl_joining.specs.Missing.{names_of, part_at, root_of, same_end};
 
 use crate::part::{ClosedPart, MissingPart, PartFault};
+use ocfl_report::Further;
 use ocfl_separators::Separators;
 use ocfl_tree::{Place, is_bytes};
 use std::alloc::{AllocError, Global};
 
 /// What is wrong with the part with this number, from 1, beside the others of this cycle of this
-/// storage root, of which one saw `most` names in it. None if nothing is.
+/// storage root, whose audits check this further, and of which one saw `most` names in it. None if
+/// nothing is.
 fn find_fault(
     separators: &Separators,
     root: &[u8],
+    further: Further,
     cycle: u64,
     most: u64,
     number: usize,
     part: Option<&ClosedPart>,
 ) -> Option<PartFault>
-    ensures { result ≡ fault_of separators.now root.now cycle most number
+    ensures { result ≡ fault_of separators.now root.now further cycle most number
         (option_map (λ p. p.now) part.entry) }
 {
     let Some((from, below)) = separators.ends(number) else {
         return Some(PartFault::NoPart);
     };
     match part {
-        Some(part) => find_closed_fault(root, cycle, most, from, below, part),
+        Some(part) => find_closed_fault(root, further, cycle, most, from, below, part),
         None => Some(PartFault::NotClosed),
     }
 }
 
 fn find_closed_fault(
     root: &[u8],
+    further: Further,
     cycle: u64,
     most: u64,
     from: Option<&Place>,
     below: Option<&Place>,
     part: &ClosedPart,
 ) -> Option<PartFault>
-    ensures { result ≡ closed_fault root.now cycle most (option_map (λ p. p.now) from.entry)
-        (option_map (λ p. p.now) below.entry) part.now }
+    ensures { result ≡ closed_fault root.now further cycle most
+        (option_map (λ p. p.now) from.entry) (option_map (λ p. p.now) below.entry) part.now }
 {
     if !is_bytes(part.root.as_slice(), root) {
         return Some(PartFault::OtherRoot);
     }
     if !is_part_of(part, from, below) {
         return Some(PartFault::OtherPart);
+    }
+    if !check_same(part.further, further) {
+        return Some(PartFault::OtherAudit);
     }
     if part.cycle != cycle {
         return Some(PartFault::OtherCycle);
@@ -81,6 +89,13 @@ fn is_end(place: &Option<Place>, end: Option<&Place>) -> bool
         (None, None) => true,
         _ => false,
     }
+}
+
+/// Whether two audits check the same.
+fn check_same(one: Further, other: Further) -> bool
+    ensures { result ≡ check_same one other }
+{
+    one == other
 }
 
 /// Whether a number of names is less than half of the most.
@@ -131,6 +146,16 @@ pub fn find_root(parts: &[Option<ClosedPart>]) -> &[u8]
     }
 }
 
+/// What the audit of the first part that is known checks further; nothing if none is known.
+fn find_further(parts: &[Option<ClosedPart>]) -> Further
+    ensures { result ≡ further_of parts.now }
+{
+    match first_known(parts) {
+        Some(Some(part)) => part.further,
+        _ => Further::Nothing,
+    }
+}
+
 /// Names each part of a storage root with whose report something is wrong, in their order, and
 /// what. None is named exactly if all can be joined and are whole. `parts` has what is known of
 /// each part.
@@ -147,6 +172,7 @@ pub fn find_missing(
         ≡ missing_of separators.now root.now cycle parts.now) }
 {
     let mut missing = Vec::new(alloc);
+    let further = find_further(parts);
     let most = find_most_names(parts);
     let Some(all) = separators.len().checked_add(1) else {
         return Err(AllocError);
@@ -154,7 +180,7 @@ pub fn find_missing(
     let count = parts.len().max(all);
     for index in 0..count {
         let part = part_with(parts, index + 1);
-        let fault = find_fault(separators, root, cycle, most, index + 1, part);
+        let fault = find_fault(separators, root, further, cycle, most, index + 1, part);
         add_missing(index + 1, fault, &mut missing)?;
     }
     Ok(missing)

@@ -2,6 +2,7 @@
 ghost use Rattle.std.specs.Prelude.{◌≡◌, Some};
 ghost use Rattle.ocfl_joining.specs.Saying.{fault_text};
 
+use ocfl_report::Further;
 use ocfl_tree::Place;
 use std::fmt;
 use std::marker::Model;
@@ -15,6 +16,8 @@ pub struct ClosedPart {
     pub from: Option<Place>,
     /// Below which place it stays. The last part has no end.
     pub below: Option<Place>,
+    /// What its audit checks further.
+    pub further: Further,
     /// Of which cycle the report is.
     pub cycle: u64,
     /// Nothing of the report was lost, and nothing was left out.
@@ -35,6 +38,7 @@ impl Drop for ClosedPart {
             root: _root,
             from: _from,
             below: _below,
+            further: _further,
             cycle: _cycle,
             whole: _whole,
             told: _told,
@@ -53,6 +57,7 @@ impl Model for ClosedPart {
       root = part.root.items;
       from = part.from;
       below = part.below;
+      further = part.further;
       cycle = part.cycle;
       whole = part.whole;
       told = part.told;
@@ -73,6 +78,8 @@ pub enum PartFault {
     OtherRoot,
     /// It is another part.
     OtherPart,
+    /// Its audit does not check the same as that of another part.
+    OtherAudit,
     /// Its report is of another cycle.
     OtherCycle,
     /// What its report has new and gone was not said yet.
@@ -92,6 +99,7 @@ fn words_of(fault: PartFault) -> &'static str
         PartFault::NotClosed => "it closed no report",
         PartFault::OtherRoot => "it is of another storage root",
         PartFault::OtherPart => "it is of another part",
+        PartFault::OtherAudit => "it does not check the same as another part",
         PartFault::OtherCycle => "its report is of another cycle",
         PartFault::Untold => "its closing was not said yet",
         PartFault::FewNames =>

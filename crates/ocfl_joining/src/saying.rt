@@ -3,9 +3,10 @@
 ghost use Rattle.std.specs.Prelude.{◌≡◌, ◌++◌, [], IfOk, IsOkAnd, OnOk, Some, flat_map};
 ghost use Rattle.std.specs.Prelude.{codes, decimal, option_map, string_bytes};
 ghost use Rattle.ocfl_joining.specs.Missing.{names_of};
-ghost use Rattle.ocfl_joining.specs.Saying.{after_colon, changed_line, failed_line, few_text};
-ghost use Rattle.ocfl_joining.specs.Saying.{lacking_text, left_line, left_lines, left_text};
-ghost use Rattle.ocfl_joining.specs.Saying.{missing_line, missing_text, part_line, partial_line};
+ghost use Rattle.ocfl_joining.specs.Saying.{after_colon, audit_text, changed_line, failed_line};
+ghost use Rattle.ocfl_joining.specs.Saying.{few_text, lacking_text, left_line, left_lines};
+ghost use Rattle.ocfl_joining.specs.Saying.{left_text, missing_line, missing_text};
+ghost use Rattle.ocfl_joining.specs.Saying.{other_audit_text, part_line, partial_line};
 ghost use Rattle.ocfl_joining.specs.Saying.{reason_text, stop_text, undone_line, words_of};
 
 use crate::failing::FailedCall;
@@ -13,7 +14,7 @@ use crate::joining::JoinStop;
 use crate::missing::{find_most_names, part_with};
 use crate::part::{ClosedPart, MissingPart, PartFault};
 use crate::reports::ReportTrouble;
-use ocfl_report::DisplayPlace;
+use ocfl_report::{DisplayPlace, Further};
 use ocfl_tree::Place;
 use std::alloc::{AllocError, Global};
 
@@ -59,6 +60,32 @@ fn few(
     }
 }
 
+/// What an audit checks further that does not check the same as that of another part.
+fn words_of_audit(further: Further) -> &'static str
+    ensures { result.now ≡ audit_text further }
+{
+    match further {
+        Further::Nothing =>
+            "its nights are of an audit without --inventories, and those of another part of one \
+             with it",
+        Further::Inventories =>
+            "its nights are of an audit with --inventories, and those of another part of one \
+             without it",
+    }
+}
+
+/// That a part does not check the same as another one, of which this is known.
+fn other_audit(alloc: Global, part: Option<&ClosedPart>) -> Result<String, AllocError>
+    ensures { IfOk result (λ text. string_bytes text
+        ≡ other_audit_text (option_map (λ p. p.now) part.entry)) }
+{
+    let fault = PartFault::OtherAudit;
+    match part {
+        Some(part) => String::from_str(alloc, words_of_audit(part.further)),
+        None => format!(in alloc; "{fault}"),
+    }
+}
+
 /// Why a part keeps a cycle from being joined, of which this is known.
 fn reason(
     alloc: Global,
@@ -73,6 +100,7 @@ fn reason(
     match fault {
         PartFault::Untold => { format!(in alloc; "its closing of cycle {cycle} was not said yet") }
         PartFault::FewNames => few(alloc, cycle, most, part),
+        PartFault::OtherAudit => other_audit(alloc, part),
         PartFault::NoPart
         | PartFault::NotClosed
         | PartFault::OtherRoot

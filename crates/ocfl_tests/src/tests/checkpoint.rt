@@ -515,8 +515,12 @@ fn a_part_is_known_by_what_was_kept(rt: HostRuntime) -> Result<(), Fail> {
     );
     assert_eq!(rt; part.root.len(), 14 + 1 + 32);
     assert!(rt; part.cycle == 7 && part.told && !part.whole);
+    assert_eq!(rt; part.further, Further::Nothing);
     assert_eq!(rt; part.names, Some(u64::MAX));
     assert_eq!(rt; part.left.len(), 2);
+    let checking = facts_of(alloc, &checkpoint_of(alloc, Further::Inventories)?)?;
+    let part = known_part(alloc, &checking, 7, true, &found)?;
+    assert_eq!(rt; part.further, Further::Inventories);
     let kept = &found.kept;
     assert_eq!(rt; add_runs(Some(5), kept), Some(7));
     assert_eq!(rt; add_runs(Some(u64::MAX), kept), Some(u64::MAX));

@@ -3,6 +3,7 @@ use crate::tests::common::store::place_of;
 use ocfl_join_disk::{ComparedReports, JoinDisk, MakingReports};
 use ocfl_joining::{ClosedPart, KeptMark, MemoryReport, PartReports, join};
 use ocfl_mem_disk::{MemDisk, MemJoinDisk};
+use ocfl_report::Further;
 use ocfl_say::MemOutput;
 use ocfl_separators::{Separators, read_parts};
 use std::alloc::Global;
@@ -33,6 +34,7 @@ fn closed(alloc: Global, index: usize, whole: bool) -> Result<ClosedPart, Fail> 
         root: Vec::from_slice(alloc, ROOT)?,
         from,
         below,
+        further: Further::Nothing,
         cycle: 7,
         whole,
         told: true,

@@ -6,6 +6,7 @@ use ocfl_joining::{
     end_of, failed_status, join_cycles, join_status, say_stop,
 };
 use ocfl_mem_disk::{MemClosed, MemDisk, MemJoinDisk};
+use ocfl_report::Further;
 use ocfl_say::MemOutput;
 use ocfl_separators::{Separators, read_parts};
 use std::alloc::Global;
@@ -29,6 +30,7 @@ fn facts(alloc: Global) -> Result<Vec<Option<Facts>>, Fail> {
             root: Vec::from_slice(alloc, ROOT)?,
             from,
             below,
+            further: Further::Nothing,
             last: 5,
             has_lines: true,
         }))?;

@@ -4,8 +4,9 @@ ghost use mathlib.Core.Bool.{false≢true};
 use crate::tests::common::store::place_of;
 use ocfl_joining::{
     ClosedPart, JoinStop, Joined, KeptMark, MemoryReport, MemoryReports, MissingPart, PartFault,
-    PartReports, ReportTrouble, find_missing, find_most_names, find_within, join,
+    PartReports, ReportTrouble, find_missing, find_most_names, find_within, join, say_missing,
 };
+use ocfl_report::Further;
 use ocfl_say::MemOutput;
 use ocfl_separators::{Separators, read_parts};
 use ocfl_state::ReportMark;
@@ -42,6 +43,7 @@ fn closed(alloc: Global, index: usize) -> Result<ClosedPart, Fail> {
         root: Vec::from_slice(alloc, ROOT)?,
         from: end(alloc, from)?,
         below: end(alloc, below)?,
+        further: Further::Nothing,
         cycle: 7,
         whole: true,
         told: true,
@@ -195,6 +197,7 @@ fn the_first_fault_of_a_part_is_told(rt: HostRuntime) -> Result<(), Fail> {
         PartFault::FewNames,
         PartFault::Untold,
         PartFault::OtherCycle,
+        PartFault::OtherAudit,
         PartFault::OtherPart,
         PartFault::OtherRoot,
     ] {
@@ -206,6 +209,7 @@ fn the_first_fault_of_a_part_is_told(rt: HostRuntime) -> Result<(), Fail> {
             PartFault::FewNames => part.names = Some(4),
             PartFault::Untold => part.told = false,
             PartFault::OtherCycle => part.cycle = 6,
+            PartFault::OtherAudit => part.further = Further::Inventories,
             PartFault::OtherPart => part.below = None,
             _ => part.root.clear(),
         }
@@ -222,6 +226,54 @@ fn the_first_fault_of_a_part_is_told(rt: HostRuntime) -> Result<(), Fail> {
     }
     let missing = find_missing(alloc, &separators, ROOT, 7, &parts)?;
     assert_eq!(rt; missing.as_slice(), [].as_slice());
+    Ok(())
+}
+
+/// Of three parts those are named that do not check what the first one does, with what they check.
+#[test]
+fn parts_that_check_other_things_are_not_joined(rt: HostRuntime) -> Result<(), Fail> {
+    let alloc = rt.alloc();
+    for (first, second, third, named, said) in [
+        (
+            Further::Nothing,
+            Further::Inventories,
+            Further::Nothing,
+            [one(2, PartFault::OtherAudit)].as_slice(),
+            "ocfl-scrub: part 2: its nights are of an audit with --inventories, and those of \
+             another part of one without it\n",
+        ),
+        (
+            Further::Inventories,
+            Further::Inventories,
+            Further::Nothing,
+            [one(3, PartFault::OtherAudit)].as_slice(),
+            "ocfl-scrub: part 3: its nights are of an audit without --inventories, and those of \
+             another part of one with it\n",
+        ),
+    ] {
+        let mut parts = all_closed(alloc)?;
+        for (part, further) in parts.iter_mut().zip([first, second, third]) {
+            if let Some(part) = part {
+                part.further = further;
+            }
+        }
+        let mut reports = reports(alloc, REPORTS[1].0, KeptMark::NotKept)?;
+        match joined(alloc, &parts, &mut reports)? {
+            Err(JoinStop::Missing(found)) => {
+                assert_eq!(rt; found.as_slice(), named);
+                assert_eq!(rt; say_missing(alloc, 7, &parts, &found)?.as_str(), said);
+            }
+            _ => return Err(Fail::new("joined")),
+        }
+        assert_eq!(rt; reports.joined().len(), 0);
+    }
+    // All of them with the option.
+    let mut parts = all_closed(alloc)?;
+    for part in parts.iter_mut().flatten() {
+        part.further = Further::Inventories;
+    }
+    let mut reports = reports(alloc, REPORTS[1].0, KeptMark::NotKept)?;
+    assert!(rt; joined(alloc, &parts, &mut reports)?.is_ok());
     Ok(())
 }
 

@@ -10,3 +10,6 @@ mod Changeless
 mod Checking
 mod Ends
 mod Opened
+mod Lost
+mod Backing
+mod Partings

@@ -1,5 +1,6 @@
 pub mod Files
 pub mod Cut
+pub mod Back
 pub mod Losing
 pub mod Taken
 pub mod Unchanged

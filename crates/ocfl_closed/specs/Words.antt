@@ -105,22 +105,25 @@ why_text state pair = if pair.closed.lost then codes "lines of this report were 
 -- ---- what is said
 
 -- the storage root and the state folder, as they are called; whether only a part is read; which
--- findings are known; and how many runs the cycle had
+-- findings are known; how many runs the cycle had; and which objects are back in it, which accounts
+-- say
 pub record Beside : Type 0 where
   pub root : Text
   pub state : Text
   pub is_part : Bool
   pub known : List KnownEntry
   pub runs : ℕ
+  pub back : List Place
 
 -- by what the words are made with
-abbrev pub beside_of : SaidWith → ℕ → Beside
-beside_of with runs = record {
+abbrev pub beside_of : SaidWith → ℕ → List Place → Beside
+beside_of with runs back = record {
   root = with.root.now;
   state = with.state.now;
   is_part = with.is_part;
   known = with.known.now;
   runs = runs;
+  back = back;
 }
 
 -- how many runs a cycle had, by the checkpoint that closed it
@@ -149,7 +152,8 @@ pub record IsClosing (b : Beside) (pair : Pair) (w : Counted) (c : Closing) : Ty
   pub rewritten : IsCount c.moved.rewritten w.rewritten
   pub went_back : IsCount c.moved.went_back w.went_back
   pub newer : IsCount c.moved.newer w.newer
-  pub back : c.back_count ≡ length c.back.now
+  pub back : c.back.now ≡ b.back
+  pub back_count : c.back_count ≡ length b.back
 
 -- the text is that of the closing, whichever findings are the most serious of the new ones
 abbrev pub IsTextOf : Closing → Text → Type 0

@@ -152,7 +152,8 @@ fn closing_of<'a>(with: &SaidWith<'a>, pair: &Pair, account: &'a Account) -> Clo
     ensures { (w : Counted) → AreCounted account.now.changes w
         → account.now.gone.items ≡ shown_of w
         → string_bytes account.now.why ≡ why_text with.entry.now.state.now pair.now
-        → IsClosing (beside_of with.entry.now account.now.made.runs) pair.now w result }
+        → IsClosing (beside_of with.entry.now account.now.made.runs account.now.back.items)
+        pair.now w result }
 {
     let changes = &account.changes;
     Closing {
@@ -190,8 +191,8 @@ pub(crate) fn text_of(
     ensures { (w : Counted) → AreCounted account.now.changes w
         → account.now.gone.items ≡ shown_of w
         → string_bytes account.now.why ≡ why_text with.now.state.now pair.now
-        → IfOk result (λ text. HasText (beside_of with.now account.now.made.runs) pair.now w
-        text.items) }
+        → IfOk result (λ text. HasText
+        (beside_of with.now account.now.made.runs account.now.back.items) pair.now w text.items) }
 {
     let closing = closing_of(with, pair, account);
     let text = closing_text(alloc, &closing)?;

@@ -2,7 +2,8 @@
 ghost use Rattle.std.specs.Prelude.{◌≡◌, IsTrue, IfOk, OnOk, string_bytes};
 ghost use Rattle.ocfl_accounts.specs.Causes.{HasCause};
 ghost use Rattle.ocfl_words.specs.Counted.{AreCounted, Counted, joined, shown_of};
-ghost use Rattle.ocfl_closed.specs.{Cut.{Still}, Words.{runs_in, why_text}};
+ghost use Rattle.ocfl_closed.specs.{Back.{AreBack}, Cut.{Still}, Files.{kept_of}};
+ghost use Rattle.ocfl_closed.specs.Words.{runs_in, why_text};
 
 use crate::account::{Account, CycleMade, why_not};
 use crate::back::find_back;
@@ -32,6 +33,8 @@ pub(crate) fn account_of<D: ClosedDisk>(
     ensures why { IfOk result (λ a. string_bytes a.why ≡ why_text with.now.state.now pair.now) }
     ensures runs { IsTrue D.told → IfOk result (λ a.
         a.made.runs ≡ runs_in (D.state disk.old).files pair.now) }
+    ensures back { IsTrue D.told → IfOk result (λ a.
+        AreBack (kept_of (D.state disk.old).files) pair.now a.back.items) }
     ensures still { IsTrue D.told → Still (D.state disk.old) (D.state disk.new) }
     ensures cause { IsTrue D.told
         → HasCause (D.state disk.old).faults (D.state disk.new).faults result }
@@ -143,6 +146,8 @@ fn find_returned<D: ClosedDisk>(
     disk: &mut D,
     pair: &Pair,
 ) -> Result<Vec<Place>, ClosingStop>
+    ensures back { IsTrue D.told → IfOk result (λ back.
+        AreBack (kept_of (D.state disk.old).files) pair.now back.items) }
     ensures still { IsTrue D.told → Still (D.state disk.old) (D.state disk.new) }
     ensures cause { IsTrue D.told
         → HasCause (D.state disk.old).faults (D.state disk.new).faults result }

@@ -1,28 +1,29 @@
 //! Objects that earlier accounts call gone, of which some may be back.
-ghost use Rattle.std.specs.Prelude.{◌≡◌, ◌++◌, ◌∷◌, [], IsTrue, OnOk};
+ghost use Rattle.std.specs.Prelude.{◌≡◌, ◌++◌, ◌∷◌, [], IsTrue, IfOk, IfSome, OnOk, List};
+ghost use Rattle.std.specs.Prelude.{Some, take};
 ghost use Rattle.std.proofs.Common.{sym, append-nil};
+ghost use Rattle.ocfl_tree.specs.Place.{Place as ModelPlace};
 ghost use Rattle.ocfl_accounts.specs.Causes.{HasCause};
-ghost use Rattle.ocfl_closed.specs.{Cut.{Still}, Internal.{Backs.{missing_seen, missing_then}}};
+ghost use Rattle.ocfl_closed.specs.Back.{AreBackOf, AreBackSince, AreLost, AreLostLately, list_of};
+ghost use Rattle.ocfl_closed.specs.Back.{most_objects};
+ghost use Rattle.ocfl_closed.specs.{Cut.{Still}, Files.{kept_of}};
+ghost use Rattle.ocfl_closed.specs.Internal.Backs.{AreLacking, missing_seen, missing_then};
 
+use crate::apart::without;
 use crate::disk::ClosedDisk;
-use crate::finding::left_by_both;
+use crate::finding::{copy_of, left_by_both};
 use crate::opening::open_reader;
+use crate::rows::take_rows;
 use ocfl_accounts::{ClosedCycle, ClosingStop, Pair};
 use ocfl_compare::{Change, Side, TakeChange, TakeStop, find_expected};
-use ocfl_report::{Line, TextStop, read_place, split_once};
+use ocfl_report::Line;
 use ocfl_tree::Place;
-use ocfl_words::{TakeLine, take_lines};
 use std::alloc::{AllocError, Global};
-use std::io::{self, ErrorKind};
-
-/// How many objects are looked for at most.
-const MOST: usize = 1_000_000;
 
 /// In how many cycles before one its account is looked for.
-const MOST_BACK: u64 = 1_000;
+const MOST_BACK: u64 = 999;
 
-/// Takes changes, and keeps the places of objects that are missing; or the rows of a list of what is
-/// gone, and keeps the places of objects.
+/// Takes changes, and keeps the places of objects that are missing.
 #[derive(Drop)]
 struct Places {
     places: Vec<Place>,
@@ -66,52 +67,69 @@ impl TakeChange for Places {
         missing_then t.places.items u.places.items v.places.items first then p q };
 }
 
-/// The place of a row of a list of what is gone, if it is of an object. The row has its line feed.
-fn object_of(alloc: Global, text: &[u8]) -> Result<Option<Place>, TextStop> {
-    let Some((word, rest)) = split_once(text, b'\t') else {
-        return Err(TextStop::Bad);
-    };
-    let Some(path) = rest.strip_suffix(b"\n") else {
-        return Err(TextStop::Bad);
-    };
-    if word == b"object".as_slice() || word == b"undeclared".as_slice() {
-        return Ok(Some(read_place(alloc, path)?));
-    }
-    Ok(None)
-}
-
-/// Takes the rows of a list of what is gone. It wants no more after one that cannot be read.
-impl TakeLine for Places {
-    fn take_line(&mut self, alloc: Global, text: &[u8]) -> io::Result<bool> {
-        match object_of(alloc, text) {
-            Ok(Some(place)) => self.places.push(place)?,
-            Ok(None) => (),
-            Err(_) => return Err(io::Error::from(ErrorKind::InvalidData)),
-        }
-        Ok(self.places.len() < MOST)
-    }
-}
-
-/// Takes the objects that the account of a cycle calls gone, as far as its list is there and can be
-/// read.
+/// Takes the objects that the account of a cycle calls gone, if its list is there.
 fn take_list<D: ClosedDisk>(
     alloc: Global,
     disk: &mut D,
     cycle: u64,
-    gone: &mut Places,
+    gone: &mut Vec<Place>,
 ) -> Result<(), ClosingStop>
+    ensures taken { IsTrue D.told → OnOk result ((more : List ModelPlace)
+        × (AreLost ((D.state disk.old).files.lists cycle) more × ((all : List ModelPlace)
+        → gone.old.items ≡ take most_objects all
+        → gone.new.items ≡ take most_objects (all ++ more)))) }
     ensures still { IsTrue D.told → Still (D.state disk.old) (D.state disk.new) }
     ensures cause { IsTrue D.told
         → HasCause (D.state disk.old).faults (D.state disk.new).faults result }
 {
-    match disk.open_list(cycle) {
-        Ok(Some(mut list)) => {
-            let _ = take_lines(alloc, &mut list, gone);
-            Ok(())
-        }
-        Err(ClosingStop::Memory) => Err(ClosingStop::Memory),
-        Ok(None) | Err(_) => Ok(()),
+    match disk.open_list(cycle)? {
+        Some(list) => take_opened(alloc, disk, cycle, list, gone),
+        None => Ok(()),
     }
+}
+
+/// Takes the objects that an opened list of a cycle calls gone. One that cannot be read is refused.
+fn take_opened<D: ClosedDisk>(
+    alloc: Global,
+    disk: &mut D,
+    cycle: u64,
+    list: D::Rows,
+    gone: &mut Vec<Place>,
+) -> Result<(), ClosingStop>
+    ensures taken { OnOk result (IfSome (D.Rows.remaining list) (λ bytes.
+        (more : List ModelPlace) × (AreLost (Some bytes) more × ((all : List ModelPlace)
+        → gone.old.items ≡ take most_objects all
+        → gone.new.items ≡ take most_objects (all ++ more))))) }
+    ensures still { IsTrue D.told → Still (D.state disk.old) (D.state disk.new) }
+    ensures cause { IsTrue D.told
+        → HasCause (D.state disk.old).faults (D.state disk.new).faults result }
+{
+    let mut list = list;
+    match take_rows(alloc, &mut list, gone) {
+        Ok(()) => Ok(()),
+        Err(error) => Err(disk.refuse_list(cycle, error)),
+    }
+}
+
+/// Takes the objects that the account of a cycle calls gone; none for the number 0.
+fn take_before<D: ClosedDisk>(
+    alloc: Global,
+    disk: &mut D,
+    cycle: u64,
+    gone: &mut Vec<Place>,
+) -> Result<(), ClosingStop>
+    ensures taken { IsTrue D.told → OnOk result ((more : List ModelPlace)
+        × (AreLost (list_of (D.state disk.old).files.lists cycle) more × ((all : List ModelPlace)
+        → gone.old.items ≡ take most_objects all
+        → gone.new.items ≡ take most_objects (all ++ more)))) }
+    ensures still { IsTrue D.told → Still (D.state disk.old) (D.state disk.new) }
+    ensures cause { IsTrue D.told
+        → HasCause (D.state disk.old).faults (D.state disk.new).faults result }
+{
+    if cycle == 0 {
+        return Ok(());
+    }
+    take_list(alloc, disk, cycle, gone)
 }
 
 /// The objects that the accounts before that of a cycle call gone, up to 1,000,000.
@@ -120,56 +138,41 @@ fn gone_before<D: ClosedDisk>(
     disk: &mut D,
     cycle: u64,
 ) -> Result<Vec<Place>, ClosingStop>
+    ensures lost { IsTrue D.told → IfOk result (λ places. (all : List ModelPlace)
+        × (AreLostLately (D.state disk.old).files.lists cycle all
+        × (places.items ≡ take most_objects all))) }
     ensures still { IsTrue D.told → Still (D.state disk.old) (D.state disk.new) }
     ensures cause { IsTrue D.told
         → HasCause (D.state disk.old).faults (D.state disk.new).faults result }
 {
-    let mut gone = Places {
-        places: Vec::new(alloc),
-    };
-    for back in 1..MOST_BACK {
-        let before = cycle.saturating_sub(back);
-        if before == 0 || gone.places.len() >= MOST {
-            break;
-        }
-        take_list(alloc, disk, before, &mut gone)?;
+    let mut gone = Vec::new(alloc);
+    for back in 0..MOST_BACK {
+        take_before(alloc, disk, cycle.saturating_sub(back + 1), &mut gone)?;
     }
-    Ok(gone.places)
-}
-
-/// Those of the places that are none of the others. Both are in order, each place once.
-fn without(alloc: Global, places: Vec<Place>, others: &[Place]) -> Result<Vec<Place>, AllocError> {
-    let mut rest = Vec::new(alloc);
-    let mut others = others.iter();
-    let mut next = others.next();
-    for place in places {
-        if next == Some(&place) {
-            next = others.next();
-        } else {
-            rest.push(place)?;
-        }
-    }
-    Ok(rest)
+    Ok(gone)
 }
 
 /// Which of these objects have no line of an object in the report of a cycle, outside of these
-/// places.
+/// places, in order and each once.
 fn find_lacking<D: ClosedDisk>(
     alloc: Global,
     disk: &mut D,
     cycle: u64,
-    objects: &mut Vec<Place>,
+    objects: Vec<Place>,
     left: &[Place],
 ) -> Result<Vec<Place>, ClosingStop>
+    ensures lacking { IsTrue D.told → IfOk result (λ lacking. AreLacking left.now objects.items
+        ((kept_of (D.state disk.old).files).reports cycle) lacking.items) }
     ensures still { IsTrue D.told → Still (D.state disk.old) (D.state disk.new) }
     ensures cause { IsTrue D.told
         → HasCause (D.state disk.old).faults (D.state disk.new).faults result }
 {
+    let mut objects = objects;
     let mut lacking = Places {
         places: Vec::new(alloc),
     };
     let mut report = open_reader(alloc, disk, cycle)?;
-    match find_expected(alloc, objects, &mut report, left, &mut lacking) {
+    match find_expected(alloc, &mut objects, &mut report, left, &mut lacking) {
         Ok(()) => Ok(lacking.places),
         Err(stop) => {
             let error = report.get_ref().error();
@@ -184,41 +187,63 @@ fn find_between<D: ClosedDisk>(
     disk: &mut D,
     before: &ClosedCycle,
     now: &ClosedCycle,
-    gone: &mut Vec<Place>,
+    gone: Vec<Place>,
 ) -> Result<Vec<Place>, ClosingStop>
+    ensures back { IsTrue D.told → IfOk result (λ back. AreBackOf
+        (now.now.left ++ before.now.left) gone.items
+        ((kept_of (D.state disk.old).files).reports before.now.cycle)
+        ((kept_of (D.state disk.old).files).reports now.now.cycle) back.items) }
     ensures still { IsTrue D.told → Still (D.state disk.old) (D.state disk.new) }
     ensures cause { IsTrue D.told
         → HasCause (D.state disk.old).faults (D.state disk.new).faults result }
 {
     let left = left_by_both(alloc, now, before)?;
-    let mut lacking = find_lacking(alloc, disk, before.cycle(), gone, &left)?;
+    let lacking = find_lacking(alloc, disk, before.cycle(), gone, &left)?;
     if lacking.is_empty() {
         return Ok(lacking);
     }
-    let still = find_lacking(alloc, disk, now.cycle(), &mut lacking, &left)?;
+    let copy = copy_of(alloc, &lacking)?;
+    let still = find_lacking(alloc, disk, now.cycle(), copy, &left)?;
     match without(alloc, lacking, &still) {
         Ok(back) => Ok(back),
         Err(_) => Err(ClosingStop::Memory),
     }
 }
 
-/// Those of the objects that earlier accounts call gone which are back: the report has a line of an
-/// object again, which the report before has not.
+/// Those of the objects that earlier accounts call gone which are back since the report before.
 pub(crate) fn find_back<D: ClosedDisk>(
     alloc: Global,
     disk: &mut D,
     pair: &Pair,
 ) -> Result<Vec<Place>, ClosingStop>
+    ensures back { IsTrue D.told → IfOk result (λ back. AreBackSince
+        (kept_of (D.state disk.old).files) pair.now.closed pair.now.before back.items) }
     ensures still { IsTrue D.told → Still (D.state disk.old) (D.state disk.new) }
     ensures cause { IsTrue D.told
         → HasCause (D.state disk.old).faults (D.state disk.new).faults result }
 {
-    let Some(before) = &pair.before else {
-        return Ok(Vec::new(alloc));
-    };
-    let mut gone = gone_before(alloc, disk, pair.closed.cycle())?;
+    match &pair.before {
+        Some(before) => find_since(alloc, disk, before, &pair.closed),
+        None => Ok(Vec::new(alloc)),
+    }
+}
+
+/// Those that are back since the report of this cycle before.
+fn find_since<D: ClosedDisk>(
+    alloc: Global,
+    disk: &mut D,
+    before: &ClosedCycle,
+    now: &ClosedCycle,
+) -> Result<Vec<Place>, ClosingStop>
+    ensures back { IsTrue D.told → IfOk result (λ back. AreBackSince
+        (kept_of (D.state disk.old).files) now.now (Some before.now) back.items) }
+    ensures still { IsTrue D.told → Still (D.state disk.old) (D.state disk.new) }
+    ensures cause { IsTrue D.told
+        → HasCause (D.state disk.old).faults (D.state disk.new).faults result }
+{
+    let gone = gone_before(alloc, disk, now.cycle())?;
     if gone.is_empty() {
         return Ok(gone);
     }
-    find_between(alloc, disk, before, &pair.closed, &mut gone)
+    find_between(alloc, disk, before, now, gone)
 }

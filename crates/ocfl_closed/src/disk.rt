@@ -125,6 +125,11 @@ pub trait ClosedDisk {
         ensures still { IsTrue told → Still (state self.old) (state self.new) }
         ensures cause { IsTrue told → IsCause (state self.old).faults (state self.new).faults result };
 
+    /// Keeps why the list of what is gone at the end of a cycle was not read.
+    fn refuse_list(&mut self, cycle: u64, error: io::Error) -> ClosingStop
+        ensures still { IsTrue told → Still (state self.old) (state self.new) }
+        ensures cause { IsTrue told → IsCause (state self.old).faults (state self.new).faults result };
+
     /// Keeps why the lines of the report of a cycle were not counted.
     fn refuse_lines(&mut self, cycle: u64, error: io::Error) -> ClosingStop
         ensures still { IsTrue told → Still (state self.old) (state self.new) }

@@ -6,7 +6,8 @@ ghost use Rattle.ocfl_accounts.specs.Causes.{HasCause, IsCause};
 ghost use Rattle.ocfl_accounts.specs.Changes.{Finds};
 ghost use Rattle.ocfl_words.specs.Counted.{AreCounted, Counted, counted, joined};
 ghost use Rattle.ocfl_words.specs.Kept.{kept_by, none_kept};
-ghost use Rattle.ocfl_closed.specs.{Cut.{Calm, Still}, Files.{kept_of}, Taken.{HasTaken}};
+ghost use Rattle.ocfl_closed.specs.{Back.{AreBack}, Cut.{Calm, Still}, Files.{kept_of}};
+ghost use Rattle.ocfl_closed.specs.Taken.{HasTaken};
 ghost use Rattle.ocfl_closed.specs.Unchanged.{AreAllUnchanged, AreUnchanged, IsBeforeUnchanged};
 ghost use Rattle.ocfl_closed.specs.Unchanged.{IsUnchangedSince, IsWholeUnchanged};
 ghost use Rattle.ocfl_closed.specs.Unchanged.{is_unchanged};
@@ -38,8 +39,9 @@ pub struct Told {
 
 /// Finds the changes of a closed cycle: since the report before, outside of what either left out;
 /// in what that one alone left out since the last whole one; and which objects that must be there
-/// are missing. Makes the list of what is gone by them, and says them. Of a cycle whose report lost
-/// lines it finds none. A report that was changed since it was closed is not compared.
+/// are missing. Makes the list of what is gone by them, and says them, and which objects are back.
+/// Of a cycle whose report lost lines it finds none. A report that was changed since it was closed
+/// is not compared.
 pub fn find_changes<D: ClosedDisk>(
     alloc: Global,
     disk: &mut D,
@@ -48,8 +50,10 @@ pub fn find_changes<D: ClosedDisk>(
 ) -> Result<Told, ClosingStop>
     ensures finds { IsTrue D.told → IfOk result (λ it.
         Finds (kept_of (D.state disk.old).files) pair.now
-        (said_beside (beside_of with.now (runs_in (D.state disk.old).files pair.now)))
-        it.found.text.items it.found.is_grave (D.state disk.new).beside) }
+        (said_beside (beside_of with.now (runs_in (D.state disk.old).files pair.now)
+        it.account.back.items)) it.found.text.items it.found.is_grave (D.state disk.new).beside) }
+    ensures back { IsTrue D.told → IfOk result (λ it.
+        AreBack (kept_of (D.state disk.old).files) pair.now it.account.back.items) }
     ensures unchanged { IsTrue D.told
         → OnOk result (AreUnchanged (D.state disk.old).files pair.now) }
     ensures calm { IsTrue D.told → Calm (D.state disk.old) (D.state disk.new) }
@@ -80,8 +84,10 @@ fn end_changes<D: ClosedDisk>(
     ensures text { IsTrue D.told → IfOk result (λ it. (v w x : Counted)
         → AreCounted taking.entry.words.since.changes v → AreCounted taking.entry.words.noting.changes w
         → AreCounted taking.entry.words.whole.changes x → HasText
-        (beside_of with.now (runs_in (D.state disk.old).files pair.now)) pair.now
-        (joined (joined v w) x) it.found.text.items) }
+        (beside_of with.now (runs_in (D.state disk.old).files pair.now) it.account.back.items)
+        pair.now (joined (joined v w) x) it.found.text.items) }
+    ensures back { IsTrue D.told → IfOk result (λ it.
+        AreBack (kept_of (D.state disk.old).files) pair.now it.account.back.items) }
     ensures grave { IfOk result (λ it. it.found.is_grave ≡ taking.entry.is_grave) }
     ensures calm { IsTrue D.told → Calm (D.state disk.old) (D.state disk.new) }
     ensures cause { IsTrue D.told
@@ -214,6 +220,18 @@ pub(crate) fn left_by_both(
 {
     match both(alloc, now.left(), before.left()) {
         Ok(left) => Ok(left),
+        Err(_) => Err(ClosingStop::Memory),
+    }
+}
+
+/// The same places.
+pub(crate) fn copy_of(alloc: Global, places: &[Place]) -> Result<Vec<Place>, ClosingStop>
+    ensures copy { IfOk result (λ copy. copy.items ≡ places.now) }
+    ensures memory { IsOkUnless result ClosingStop.Memory }
+{
+    let mut copy = Vec::new(alloc);
+    match put_places(places, &mut copy) {
+        Ok(()) => Ok(copy),
         Err(_) => Err(ClosingStop::Memory),
     }
 }

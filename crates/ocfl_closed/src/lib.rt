@@ -4,6 +4,7 @@
 
 mod account;
 mod accounting;
+mod apart;
 mod back;
 mod check;
 mod disk;
@@ -14,6 +15,7 @@ mod looking;
 mod marking;
 mod opening;
 mod reader;
+mod rows;
 mod taking;
 mod within;
 mod words;

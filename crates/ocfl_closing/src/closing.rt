@@ -29,7 +29,7 @@ use ocfl_say::Speaking;
 use ocfl_tree::Place;
 use std::alloc::{AllocError, Global};
 use std::fs::File;
-use std::io::{self, BufReader, ErrorKind, Write};
+use std::io::{self, BufReader, Write};
 use std::os::unix::fs::FileExt;
 use std::time::Clock;
 
@@ -163,6 +163,14 @@ impl OpenReport for Opened {
 /// That an open report could not be read.
 fn failed_report(alloc: Global, state: &str, report: &Opened, error: &io::Error) -> Failure {
     match report_path(alloc, state, report.cycle, report.whole) {
+        Ok(path) => failed_file(alloc, path.as_str(), error),
+        Err(error) => Failure::from(error),
+    }
+}
+
+/// That the list of what is gone at the end of a cycle could not be read.
+fn failed_list(alloc: Global, state: &str, cycle: u64, error: &io::Error) -> Failure {
+    match list_path(alloc, state, cycle) {
         Ok(path) => failed_file(alloc, path.as_str(), error),
         Err(error) => Failure::from(error),
     }
@@ -334,8 +342,7 @@ impl<R: Room + Clock + Eprint, F: Folder> ClosedDisk for Telling<'_, '_, R, F> {
     fn open_list(&mut self, cycle: u64) -> Result<Option<BufReader<File>>, ClosingStop> {
         match self.open_rows(cycle) {
             Ok(found) => Ok(found),
-            Err(error) if error.kind() == ErrorKind::OutOfMemory => Err(ClosingStop::Memory),
-            Err(_) => Err(ClosingStop::Failed),
+            Err(error) => Err(self.refuse_list(cycle, error)),
         }
     }
 
@@ -387,6 +394,12 @@ impl<R: Room + Clock + Eprint, F: Folder> ClosedDisk for Telling<'_, '_, R, F> {
         error: Option<io::Error>,
     ) -> ClosingStop {
         self.failure = Some(uncompared(self.rt.global(), cycle, before, stop, error));
+        ClosingStop::Failed
+    }
+
+    fn refuse_list(&mut self, cycle: u64, error: io::Error) -> ClosingStop {
+        let state = self.told.about.names.state;
+        self.failure = Some(failed_list(self.rt.global(), state, cycle, &error));
         ClosingStop::Failed
     }
 

@@ -127,6 +127,10 @@ impl ClosedDisk for OneCycle {
         })
     }
 
+    fn refuse_list(&mut self, _cycle: u64, _error: io::Error) -> ClosingStop {
+        ClosingStop::Failed
+    }
+
     fn refuse_lines(&mut self, _cycle: u64, _error: io::Error) -> ClosingStop {
         ClosingStop::Failed
     }

@@ -160,6 +160,10 @@ impl ClosedDisk for ReportsOn {
         self.note(format!(in self.alloc; "{stop};"))
     }
 
+    fn refuse_list(&mut self, cycle: u64, _error: io::Error) -> ClosingStop {
+        self.note(format!(in self.alloc; "bad list {cycle};"))
+    }
+
     fn refuse_lines(&mut self, cycle: u64, error: io::Error) -> ClosingStop {
         self.note(format!(in self.alloc; "{cycle}: {error};"))
     }
@@ -572,6 +576,60 @@ fn what_is_not_compared_is_not_said(rt: HostRuntime) -> Result<(), Fail> {
         let mut disk = disk_of(alloc, &row);
         assert!(rt; find(alloc, &mut disk, &row)?.is_err(), "{calls}");
         assert_eq!(rt; disk.calls.as_str(), calls);
+    }
+    Ok(())
+}
+
+/// A list of what was gone at the end of cycle 1, and which objects are back in cycle 3; nothing
+/// for a list that cannot be read.
+const LISTS: [(&str, Option<&[&str]>); 14] = [
+    ("", Some(&[])),
+    ("object\to\n", Some(&["o"])),
+    ("undeclared\to\n", Some(&["o"])),
+    ("object\tq\nobject\to\nundeclared\to\n", Some(&["o", "q"])),
+    ("object\tp\nobject\tr\nfile\to\n", Some(&[])),
+    ("expected\to\nchanged\to\nolder\to\nnewer\to\n", Some(&[])),
+    ("newer\to\nobject\tq\n", Some(&["q"])),
+    ("object\to", None),
+    ("object\to\n\n", None),
+    ("object o\n", None),
+    ("objects\to\n", None),
+    ("object\t\n", None),
+    ("object\to\nobject\t../q\n", None),
+    ("file\t%6F\nobject\to\n", None),
+];
+
+/// A cycle whose report has the objects `o` and `q`, which that of the cycle before lacks.
+fn row_of(rows: &'static str) -> Row {
+    Row {
+        reports: &[(2, true, ONE), (3, true, THREE)],
+        listed: None,
+        rows,
+        known: "z",
+        compared: SINCE_2,
+        calls: "",
+        list: "",
+        text: "",
+        is_grave: false,
+    }
+}
+
+#[test]
+fn objects_are_back_that_an_earlier_list_calls_gone(rt: HostRuntime) -> Result<(), Fail> {
+    let alloc = rt.alloc();
+    for (rows, back) in LISTS {
+        let row = row_of(rows);
+        let mut disk = disk_of(alloc, &row);
+        let found = find(alloc, &mut disk, &row)?;
+        let is_refused = disk.calls.as_str().ends_with("bad list 1;");
+        assert_eq!(rt; is_refused, back.is_none(), "{rows}");
+        match found {
+            Ok(told) => {
+                let wanted = places_of(alloc, back.ok_or("it was read")?)?;
+                assert_eq!(rt; told.account.back.as_slice(), wanted.as_slice(), "{rows}");
+            }
+            Err(_) => assert!(rt; back.is_none(), "{rows}"),
+        }
     }
     Ok(())
 }

@@ -1,5 +1,5 @@
 use Rattle.std.proofs.Common.{ap, false, refl, subst, ◌∙◌}
-use Rattle.ocfl_closed.specs.{Files.{kept_of}, Internal.{AllTaken, Stands.{stand_of}}, Words.{AreParts, HasText, beside_of, counted_in, runs_in}}
+use Rattle.ocfl_closed.specs.{Back.{AreBack}, Files.{kept_of}, Internal.{AllTaken, Stands.{stand_of}}, Words.{AreParts, HasText, beside_of, counted_in, runs_in}}
 use Rattle.ocfl_closed.specs.Unchanged.{AreUnchanged}
 use Rattle.ocfl_closed.proofs.Findings.{finds_of}
 use Rattle.ocfl_closed.proofs.finding.find_changes.Goals as goal
@@ -17,10 +17,15 @@ returns-clause-finds g c = λ told.
     let same = (c.make_list.ensures.calm told).files in
     let moved = (c.take_changes.ensures.still told).calm.files ∙ same in
     let taken = subst (λ f. AllTaken (AreParts old.known (kept_of f) pair) old new) same (c.in_ok-taking.ensures.taken told) in
-    finds_of (kept_of files) pair (beside_of with (runs_in files pair)) c.in_ok-told.told.found.text.items c.in_ok-told.told.found.is_grave (D.state c.end_changes.new.disk).beside old new
+    finds_of (kept_of files) pair (beside_of with (runs_in files pair) c.in_ok-told.told.account.back.items) c.in_ok-told.told.found.text.items c.in_ok-told.told.found.is_grave (D.state c.end_changes.new.disk).beside old new
     (ap contents c.new.ensures ∙ c.in_ok-list.ensures.empty told) refl c.new-2.ensures.known taken (c.in_ok-told.ensures.list told)
-    (λ p since whole noting. subst (λ f. HasText (beside_of with (runs_in f pair)) pair (counted_in p) c.in_ok-told.told.found.text.items) moved (c.in_ok-told.ensures.text told _ _ _ since noting whole))
+    (λ p since whole noting. subst (λ f. HasText (beside_of with (runs_in f pair) c.in_ok-told.told.account.back.items) pair (counted_in p) c.in_ok-told.told.found.text.items) moved (c.in_ok-told.ensures.text told _ _ _ since noting whole))
     c.in_ok-told.ensures.grave
 
 pub returns-clause-unchanged : goal.returns-clause-unchanged
 returns-clause-unchanged g c = λ told. subst (λ f. AreUnchanged f c.args.pair.now) (c.make_list.ensures.calm told).files (c.in_ok-taking.ensures.unchanged told)
+
+pub returns-clause-back : goal.returns-clause-back
+returns-clause-back g c = λ told.
+    let moved = (c.take_changes.ensures.still told).calm.files ∙ (c.make_list.ensures.calm told).files in
+    subst (λ f. AreBack (kept_of f) c.args.pair.now c.in_ok-told.told.account.back.items) moved (c.in_ok-told.ensures.back told)

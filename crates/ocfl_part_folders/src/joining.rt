@@ -1,61 +1,127 @@
 //! Joining the closed reports of all parts of a storage root, of one cycle.
+ghost use Rattle.std.specs.Prelude.{◌≡◌, ◌++◌, List, ℕ, Ok, Err, codes, string_bytes};
+ghost use Rattle.std.specs.Prelude.{IfErr, IfOk, IfSome, IsErr, IsErrAnd, MatchResult};
+ghost use Rattle.ocfl_files.specs.Failing.{OrMemory, Says};
+ghost use Rattle.ocfl_scope.specs.Stop.{stop_status};
+ghost use Rattle.ocfl_separators.specs.{Parts.{IsPartsText}, Stop.{StopsRightly}};
+ghost use Rattle.ocfl_part_folders.specs.Joining.{SaysUnread, status_by};
 
+use crate::calls::{PartCalls, RoomCalls};
 use crate::folder_disk::FolderDisk;
 use crate::part_facts::read_all;
 use ocfl_arguments::JoinAsked;
 use ocfl_files::failing::{Failure, say_failure};
 use ocfl_files::saying::say_out_of_memory;
 use ocfl_join_disk::DiskCycles;
-use ocfl_joining::{join_cycles, last_of_all};
+use ocfl_joining::{JoinEnd, join_cycles, last_of_all};
 use ocfl_kept::room::Room;
-use ocfl_say::Speaking;
+use ocfl_say::{Say, Speaking};
 use ocfl_scope::ScopeStop;
 use ocfl_separators::{PartsStop, Separators, read_parts};
 use std::alloc::{AllocError, Global};
 use std::fs::File;
-use std::io;
+use std::io::{self, Read};
 use std::rt::Files;
 
-/// What is said of separators that were not read.
-fn unread(alloc: Global, stop: PartsStop) -> Result<Failure, AllocError> {
-    let stop = ScopeStop::Parts(stop);
+/// A line of the words on separators that were not read.
+fn line_of(alloc: Global, stop: &ScopeStop) -> Result<String, AllocError>
+    ensures { IfOk result (λ line. (words : List ℕ) × (string_bytes line ≡ words ++ codes "\n")) }
+{
+    let words = format!(in alloc; "{stop}")?;
+    format!(in alloc; "{words}\n")
+}
+
+/// What is said of them.
+fn refused(alloc: Global, stop: ScopeStop) -> Result<Failure, AllocError>
+    ensures { IfOk result (λ failure. (words : List ℕ)
+        × Says (stop_status stop) (words ++ codes "\n") failure) }
+{
+    let line = line_of(alloc, &stop)?;
     Ok(Failure {
         status: stop.status(),
-        text: Some(format!(in alloc; "{stop}\n")?),
+        text: Some(line),
     })
 }
 
-/// Reads the separators' file.
-fn read_separators<R: Room>(rt: &R, file: &str) -> Result<Separators, Failure> {
-    let read = match rt.open_file(file) {
-        Ok(mut opened) => read_parts(rt.global(), &mut opened),
-        Err(_) => Err(PartsStop::Read),
-    };
-    match read {
-        Ok(separators) => Ok(separators),
-        Err(PartsStop::Memory) => Err(Failure::from(AllocError)),
-        Err(stop) => Err(Failure::made(unread(rt.global(), stop))),
+/// The same, unless memory was refused when they were read.
+fn unread(alloc: Global, stop: PartsStop) -> Result<Failure, AllocError>
+    ensures said { IfOk result (SaysUnread stop) }
+    ensures memory { stop ≡ PartsStop.Memory → IsErr result }
+{
+    match stop {
+        PartsStop::Memory => Err(AllocError),
+        stop => refused(alloc, ScopeStop::Parts(stop)),
     }
 }
 
-/// Joins each cycle that all parts have closed and that is not joined, and gives the status.
-fn join_all<R>(rt: &R, asked: &JoinAsked) -> Result<u8, Failure>
+/// The separators that were read, or what is said of why they were not.
+fn answer(alloc: Global, read: Result<Separators, PartsStop>) -> Result<Separators, Failure>
+    ensures { MatchResult read (λ separators. result ≡ Ok separators)
+        (λ stop. IsErrAnd result (OrMemory (SaysUnread stop))) }
+{
+    match read {
+        Ok(separators) => Ok(separators),
+        Err(stop) => Err(Failure::made(unread(alloc, stop))),
+    }
+}
+
+/// Reads separators from a file, if it was opened.
+fn read_from<F: Read + Drop>(alloc: Global, opened: io::Result<F>) -> Result<Separators, PartsStop>
+    ensures separators { IfOk opened (λ file. IfOk result
+        (λ separators. IfSome (F.remaining file) (λ bytes. IsPartsText bytes separators))) }
+    ensures refused { IfOk opened (λ file. IfErr result
+        (λ stop. IfSome (F.remaining file) (λ bytes. StopsRightly bytes stop))) }
+    ensures unopened { IfErr opened (λ _. result ≡ Err PartsStop.Read) }
+{
+    match opened {
+        Ok(mut opened) => read_parts(alloc, &mut opened),
+        Err(_) => Err(PartsStop::Read),
+    }
+}
+
+/// Reads what the checkpoints of all parts say, and joins each cycle that they have closed and that
+/// is not joined.
+fn join_over<C: PartCalls + Drop, S: Say + Drop>(
+    calls: C,
+    separators: &Separators,
+    out: S,
+) -> Result<JoinEnd, Failure> {
+    let mut calls = calls;
+    let alloc = calls.global();
+    let facts = read_all(&mut calls, separators.len().saturating_add(1))?;
+    let disk = FolderDisk::new(calls, &facts);
+    let mut cycles = DiskCycles::over(alloc, separators, &facts, disk, out);
+    Ok(join_cycles(&mut cycles, facts.len(), last_of_all(&facts)))
+}
+
+/// Joins the parts that a command asks for, and gives what came of it.
+fn join_all<R>(rt: &R, asked: &JoinAsked) -> Result<JoinEnd, Failure>
 where
     R: Room + Print + Eprint,
 {
-    let separators = read_separators(rt, asked.parts.as_str())?;
-    let state = asked.state.as_str();
-    let _held = rt.hold_folder(state)?;
-    let facts = read_all(rt, state, separators.len().saturating_add(1))?;
-    let disk = FolderDisk::new(rt, state, &facts);
+    let opened = rt.open_file(asked.parts.as_str());
+    let separators = answer(rt.global(), read_from(rt.global(), opened))?;
+    let folder = asked.state.as_str();
+    let _held = rt.hold_folder(folder)?;
     let mut writer = io::writer(rt);
     let out = Speaking { out: &mut writer };
-    let mut cycles = DiskCycles::over(rt.global(), &separators, &facts, disk, out);
-    let end = join_cycles(&mut cycles, facts.len(), last_of_all(&facts));
-    if !end.said {
-        say_out_of_memory(rt);
+    join_over(RoomCalls::new(rt, folder), &separators, out)
+}
+
+/// Says why a joining failed, or that memory ran out before all was said, and gives the exit
+/// status.
+fn end_with<R: Eprint>(rt: &R, came: Result<JoinEnd, Failure>) -> u8
+    ensures { result ≡ status_by came }
+{
+    match came {
+        Ok(end) => {
+            if !end.said {
+                say_out_of_memory(rt);
+            }
+            end.status
+        }
+        Err(failure) => say_failure(rt, &failure),
     }
-    Ok(end.status)
 }
 
 /// Joins the reports of all parts of each cycle that all of them have closed, the oldest first, and
@@ -64,8 +130,5 @@ pub fn join_parts<R>(rt: &R, asked: &JoinAsked) -> u8
 where
     R: Files<File = File> + AllocGlobal + Print + Eprint,
 {
-    match join_all(rt, asked) {
-        Ok(status) => status,
-        Err(failure) => say_failure(rt, &failure),
-    }
+    end_with(rt, join_all(rt, asked))
 }

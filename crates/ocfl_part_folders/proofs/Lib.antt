@@ -1,0 +1,4 @@
+mod Passing
+mod Asked
+mod Counted
+mod Ends

@@ -1,0 +1,4 @@
+pub mod Counting
+pub mod Folder
+pub mod Refusing
+pub mod Joining

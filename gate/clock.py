@@ -52,7 +52,7 @@ class Clock:
                 print_line("%s: %.1f processor minutes of proofs, %.1f of edits" % (crate, *both))
         minutes.note(taken, crates())
         rt = toolchain.load()
-        processors = rt.processors() if rt else os.cpu_count()
+        processors = toolchain.processors(rt) if rt else os.cpu_count()
         print_line("all of it took %.1f minutes on %d processors"
                    % ((time.monotonic() - self.began) / 60, processors))
 

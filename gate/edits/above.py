@@ -4,9 +4,9 @@ with the edit, and of its proofs only what the laws rest on is checked."""
 import contextlib
 import os
 import shutil
-import subprocess
 import tempfile
 
+from gate import toolchain
 from gate.edits import functions
 from gate.repository import crates
 
@@ -26,11 +26,7 @@ def checked(rt, laws, lower, texts, kept):
     with with_texts(lower, texts) as source:
         paths = [functions.path_of(it) for it in functions.functions_of(laws.name)]
         flags = ["--jobs", "1", *(word for path in paths for word in ("--only", path))]
-        words = words_over(laws, lower, source, flags)
-        command = [rt.rtlib.RATTLE, "check", *words, "--incremental", kept]
-        how = {"cwd": laws.folder, "stdin": subprocess.DEVNULL, "stdout": subprocess.PIPE,
-               "stderr": subprocess.STDOUT, "errors": "replace"}
-        ran = subprocess.run([*rt.rtlib.guarded(), *command], **how)
+        ran = toolchain.check_over_source(rt, laws, lower, source, flags, kept)
         # (so that files of the lower crate are named as in a check of it)
         ran.stdout = ran.stdout.replace(source + "/", "")
         return ran
@@ -47,17 +43,3 @@ def with_texts(crate, texts):
             with open(os.path.join(room, path), "w", encoding="utf-8") as file:
                 file.write(text)
         yield room
-
-
-def words_over(laws, lower, source, flags):
-    """The words of a check of a crate that reads one below it from a folder and not its library."""
-    words = laws.words(flags, keeps=False)
-    at = words.index("%s=%s" % (lower.name, lower.rlib))
-    kit = next(it for it in words if it.startswith("std=")).removeprefix("std=")
-    used = dict.fromkeys(["core", *lower.of_kit, *(it.name for it in lower.deps)])
-    passed = {it.partition("=")[0] for it in words[:at]}
-    words[at - 1:at + 1] = ["--lib", "%s:%s=%s/src/lib.rt" % (lower.name, ",".join(used), source)]
-    for name in used:
-        if name not in passed and name in ("core", *lower.of_kit):
-            words += ["--extern", "%s=%s" % (name, kit.replace("std.rlib", name + ".rlib"))]
-    return words

@@ -77,7 +77,7 @@ def unreadable() -> list[str]:
     """The edits that do not fit their sources any more, as `rt` reads them."""
     rt, faults = toolchain.load(), []
     for edit in every_edit() if rt else []:
-        why = rt.edited(edit.text(), folder_of(edit.crate))[1]
+        _, why = toolchain.edited(rt, edit.text(), folder_of(edit.crate))
         faults += ["%s %s: %s" % (edit.crate, edit.path, why)] if why else []
     return faults
 

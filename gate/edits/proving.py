@@ -28,30 +28,25 @@ def main():
     edits = collection.listed()
     sums = due.sums_of(edits)
     fill(rt, due.chosen(edits, sums), whole, lambda refused: due.note(refused, edits, sums))
-    return rt.main(["ci"])
+    return toolchain.prove_all(rt)
 
 
 def built_whole(made):
     """The crates whose libraries are built with their proofs."""
-    above = [it.name for crate in made.values() for it in crate.below()]
+    above = [it for crate in made.values() for it in toolchain.names_below(crate)]
     return {name for name in made if above.count(name) <= FEW}
 
 
 def fill(rt, edits, whole, note):
     """Puts the steps of trying edits into the queue of `rt ci`, and notes those that were
     refused."""
-    queue = rt.in_lanes
-
-    def in_lanes(tasks):
-        steps = trying.tasks_beside(rt, os.getcwd(), edits, whole)
-        given = queue({**tasks, **steps})
-        own = {key: given[key] for key in steps}
-        counts = trying.count_refused(own)
-        note(trying.refused(own))
+    def ended(given):
+        counts = trying.count_refused(given)
+        note(trying.refused(given))
         print("edits: %d passed, %d failed" % counts, flush=True)
-        return given
 
-    rt.in_lanes = in_lanes
+    toolchain.put_into_queue(
+        rt, lambda: trying.tasks_beside(rt, os.getcwd(), edits, whole), ended)
 
 
 if __name__ == "__main__":

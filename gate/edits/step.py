@@ -3,8 +3,6 @@
 Its last line says in JSON of each thing that it tried whether that went well and what is to be said
 of it, and the seconds of processors that it took."""
 import contextlib
-import hashlib
-import io
 import json
 import os
 import re
@@ -16,8 +14,8 @@ import tempfile
 from gate import toolchain
 from gate.edits import above, collection, functions, rounds
 from gate.repository import copy_or_link
+from gate.toolchain import KEPT
 
-KEPT = "out/incremental"
 # The status of a check that was called wrongly, as with a path that fits no function.
 UNASKED = 2
 # What says no more than that a proof names what is gone, or rests on another that failed.
@@ -34,14 +32,13 @@ REFUSED = re.compile(r"fn (\S+): (?:not proved|no proof)(?!: it calls)")
 
 def library(rt, crate, jobs):
     """Builds a crate for those that stand on it."""
-    crate.out = io.StringIO()
-    status = crate.build_rlib(jobs, anew=False)
-    return not status, "built" if not status else crate.out.getvalue()[-2000:]
+    well, said = toolchain.build_library(crate, jobs)
+    return well, "built" if well else said[-2000:]
 
 
 def whole(rt, crate, jobs):
     """Checks a crate as it is, over what it kept."""
-    ran = rt.checked(crate, {}, jobs, os.path.join(crate.folder, KEPT))
+    ran = toolchain.check(rt, crate, {}, jobs, os.path.join(crate.folder, KEPT))
     return not ran.returncode, "proved" if not ran.returncode else ran.stdout[-2000:]
 
 
@@ -49,43 +46,8 @@ def base(rt, crate, jobs):
     """Checks a crate as it is, over the proof that `rt ci` just made of it. What its library lacks
     of that is proved from nothing."""
     with contextlib.suppress(OSError, ValueError, TypeError):
-        lay_out(crate)
+        toolchain.lay_out(crate)
     return whole(rt, crate, jobs)
-
-
-def lay_out(crate):
-    """Lays out the checked modules that a library carries as a check keeps them: each in a file of
-    its own, in a folder for this build of the prover. A check takes only what is up to date."""
-    with open(os.path.join(crate.rlib, "format")) as it:
-        build = re.search(r"(?m)^rattle-build (\S+)$", it.read())
-    whole = os.path.join(crate.folder, KEPT)
-    folder = os.path.join(whole + ".new", build[1].replace("/", "_"))
-    carried = os.path.join(crate.rlib, "toolchain", "checked")
-    with open(carried + ".json") as it:
-        rows = [json.loads(line) for line in it]
-    os.makedirs(os.path.join(folder, "long"))
-    with open(carried + ".a", "rb") as modules:
-        for name, begin, size in rows:
-            # (statements of modules, and a sum of all, have a slash in their names)
-            if "/" not in name:
-                modules.seek(begin)
-                module = modules.read(size)
-                for path in paths_of(name):
-                    with open(os.path.join(folder, path), "wb") as file:
-                        file.write(module)
-    # (another step may link what is kept, and then must find each file whole)
-    os.rename(whole + ".new", whole)
-
-
-def paths_of(module):
-    """The files in which a check looks for a module. Those of long names stand apart, by a sum of
-    their length and name; from which length on is between these two."""
-    name = module.encode()
-    if len(name) <= 128:
-        yield module + ".oantt"
-    if len(name) > 117:
-        size = len(name).to_bytes(8, "little")
-        yield os.path.join("long", hashlib.sha256(size + name).hexdigest() + ".oantt")
 
 
 @contextlib.contextmanager
@@ -119,14 +81,14 @@ def alone(rt, crate, edit):
         refused = by_function(rt, crate, edit, kept)
         if refused:
             return True, refused
-        verdict, text = rt.must_fail(crate, file, ["--jobs", "1"], kept)
-    return toolchain.is_refusal(rt, verdict), text.split(": ", 1)[-1]
+        well, text = toolchain.try_edit(rt, crate, file, kept)
+    return well, text.split(": ", 1)[-1]
 
 
 def by_laws(rt, crate, edit, kept):
     """What refuses an edit of definitions, of the crate's laws or of those that stand above it in a
     crate of their own, or nothing."""
-    texts, fault = rt.edited(edit.text(), crate.folder)
+    texts, fault = toolchain.edited(rt, edit.text(), crate.folder)
     if fault or not all(path.startswith("specs/") for path in texts):
         return ""
     laws = functions.laws_of(crate.name)
@@ -211,7 +173,7 @@ def at_functions(rt, crate, bodies, flags, kept, whole=False):
 def lines_of_check(rt, crate, texts, flags, kept):
     """The lines of a check with these texts: none where the prover refused nothing, or gave no
     verdict on what it was asked for, and nothing at all where it could not be asked so."""
-    ran = rt.checked(crate, texts, flags, kept)
+    ran = toolchain.check(rt, crate, texts, flags, kept)
     if ran.returncode == UNASKED:
         return None
     last = "only=" if "--only" in flags else "logic=not-proved"
@@ -221,14 +183,8 @@ def lines_of_check(rt, crate, texts, flags, kept):
 def refusing(rt, ran, last, texts):
     """The lines of a check that refused something, and whose last line begins so, or none."""
     lines = ran.stdout.rstrip("\n").split("\n")
-    told = ran.returncode == 1 and lines[-1].startswith(last) and is_read(rt, ran, lines, texts)
-    return lines if told else []
-
-
-def is_read(rt, ran, lines, changed):
-    """Whether the prover read what was changed, over libraries that it could use."""
-    return (not any(rt.unread(line, changed) for line in lines)
-            and not rt.rtlib.STALE.search(ran.stdout))
+    told = ran.returncode == 1 and lines[-1].startswith(last)
+    return lines if told and toolchain.was_read(rt, ran, texts) else []
 
 
 def refusal(told):
@@ -239,7 +195,7 @@ def refusal(told):
 def main():
     folder, name, kind, jobs, *names = sys.argv[1:]
     rt = toolchain.load()
-    os.environ.pop(rt.rtlib.ALLOW_C, None)
+    toolchain.forbid_c(rt)
     crate = toolchain.crates_of(rt, folder)[name]
     edits = [collection.named(crate.name, it) for it in names]
     if kind == "seed":

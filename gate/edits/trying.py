@@ -18,8 +18,9 @@ import time
 from gate import toolchain
 from gate.commands import fail, print_line
 from gate.edits import above, rounds
-from gate.edits.step import KEPT, NAMES_ALONE
+from gate.edits.step import NAMES_ALONE
 from gate.repository import TOP, below, copy_to, crates
+from gate.toolchain import KEPT
 
 # How long the proof of a crate may take, and the check of each edit, in seconds.
 PROOF_LIMIT, EDIT_LIMIT = 7200, 900
@@ -40,7 +41,8 @@ def try_edits(edits):
     began = time.monotonic()
     with tempfile.TemporaryDirectory(prefix="ocfl-scrub-edits-") as folder:
         copy_to(folder, below(above.crates_with({edit.crate for edit in edits})), kept=True)
-        wells, faults = count_refused(rt.in_lanes(tasks_of(rt, folder, edits)))
+        given = toolchain.share_out(rt, tasks_of(rt, folder, edits))
+        wells, faults = count_refused(given)
     print_line("the edits took %.1f minutes" % ((time.monotonic() - began) / 60))
     return wells, faults
 
@@ -59,11 +61,12 @@ class Steps:
         return self.put(key, waits, work, call)
 
     def put(self, key, waits, work, call):
-        self.tasks[key] = waits, work, self.rt.need(self.made[key[0]]), call
+        memory = toolchain.memory_of(self.rt, self.made[key[0]])
+        self.tasks[key] = waits, work, memory, call
         return key
 
     def lines(self, name):
-        return self.made[name].count(rb"\n")
+        return toolchain.lines_of(self.made[name])
 
     def try_over(self, name, kind, waits, shared, alone):
         """Tries edits over what a step of that kind keeps of a crate, and then sees that it is
@@ -120,7 +123,7 @@ def tasks_beside(rt, folder, edits, whole):
         if name in whole:
             steps.try_over(name, "base", [(name, "proof")], shared, alone)
             continue
-        waits = [(it.name, "proof") for it in crate.below()]
+        waits = [(it, "proof") for it in toolchain.names_below(crate)]
         if shared:
             seed = steps.add(name, "seed", waits, steps.lines(name), *shared.pop(0))
             waits = [*waits, seed]
@@ -131,12 +134,13 @@ def tasks_beside(rt, folder, edits, whole):
 def tasks_of(rt, folder, edits):
     """The steps over what may be out of date, which build the libraries below first."""
     steps, chosen = Steps(rt, folder), {edit.crate for edit in edits}
-    lower = {it.name for name in chosen for it in steps.made[name].below()}
+    lower = {it for name in chosen for it in toolchain.names_below(steps.made[name])}
     for name in below(chosen):
         if name not in steps.made:
             continue
-        waits, lines = [(it.name, "library", ()) for it in steps.made[name].below()
-                        if it.name in lower], steps.lines(name)
+        waits = [(it, "library", ()) for it in toolchain.names_below(steps.made[name])
+                 if it in lower]
+        lines = steps.lines(name)
         shared, alone = rounds.share(name, [it for it in edits if it.crate == name])
         if shared and not os.path.isdir(os.path.join(steps.made[name].folder, KEPT)):
             waits = waits + [steps.add(name, "seed", waits, lines, *shared.pop(0))]

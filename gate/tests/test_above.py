@@ -1,9 +1,9 @@
 """Tests how laws that stand above a crate are checked with edits of its definitions."""
 import os
 import tempfile
-import types
 import unittest
 
+from gate import toolchain
 from gate.edits import above, functions
 from gate.repository import crates
 
@@ -23,25 +23,13 @@ class Laws(unittest.TestCase):
             self.assertFalse([name for name in below if laws in below[name]])
             self.assertTrue(functions.laws_of(laws))
 
-    def test_the_crate_is_read_from_a_folder(self):
-        lower = types.SimpleNamespace(name="low", rlib="/low.rlib", of_kit=["std", "hex"],
-                                      deps=[types.SimpleNamespace(name="lowest")])
-        words = ["--crate-name", "laws", "--extern", "std=/kit/std.rlib", "--extern",
-                 "lowest=/lowest.rlib", "--extern", "low=/low.rlib", "--jobs", "1"]
-        laws = types.SimpleNamespace(words=lambda flags, keeps: words + flags)
-        self.assertEqual(
-            above.words_over(laws, lower, "/room", ["--only", "one"]),
-            words[:6] + ["--lib", "low:core,std,hex,lowest=/room/src/lib.rt"] + words[8:]
-            + ["--only", "one", "--extern", "core=/kit/core.rlib", "--extern",
-               "hex=/kit/hex.rlib"])
-
     def test_the_copy_has_the_texts(self):
         with tempfile.TemporaryDirectory() as room:
             for part in ("src", "specs", "edits"):
                 os.mkdir(os.path.join(room, part))
                 with open(os.path.join(room, part, "A"), "w") as file:
                     file.write("as it is")
-            crate = types.SimpleNamespace(folder=room)
+            crate = toolchain.Crate("low", room, None)
             with above.with_texts(crate, {"specs/A": "otherwise"}) as copy:
                 self.assertEqual(sorted(os.listdir(copy)), ["specs", "src"])
                 for part, text in [("src", "as it is"), ("specs", "otherwise")]:

@@ -2,12 +2,11 @@
 import collections
 import contextlib
 import io
-import json
 import os
-import re
 import tempfile
 import types
 import unittest
+from unittest import mock
 
 from gate import commands, repository, toolchain
 from gate.edits import proving, rounds, step, trying
@@ -49,21 +48,6 @@ class Rounds(unittest.TestCase):
         self.assertEqual(len(rounds.fewest(bodies)), 2)
 
 
-class Crate:
-    """What `rt` knows of a crate, as far as steps need it."""
-
-    def __init__(self, name, folder, known):
-        self.name, self.folder = name, os.path.join(folder, "crates", name)
-        self.rlib = os.path.join(self.folder, "out", "rlib", name + ".rlib")
-        self.known = known
-
-    def below(self):
-        return [self.known[it] for it in below([self.name]) if it in self.known and it != self.name]
-
-    def count(self, _):
-        return 1000
-
-
 class Rooms(unittest.TestCase):
     """Tests that have crates in a folder of their own, and may fail steps."""
 
@@ -75,9 +59,21 @@ class Rooms(unittest.TestCase):
         self.made = {}
         for name in below(["ocfl_digest", "ocfl_separators"]):
             if name.startswith("ocfl_"):
-                self.made[name] = Crate(name, self.room.name, self.made)
-        below_it = types.SimpleNamespace(crates_below=lambda folder: self.made.values())
-        self.rt = types.SimpleNamespace(need=lambda crate: 1, in_lanes=one_by_one, rtlib=below_it)
+                folder = os.path.join(self.room.name, "crates", name)
+                self.made[name] = toolchain.Crate(name, folder, None)
+        self.rt, self.ended = object(), []
+        self.stand_in(crates_of=lambda rt, top: self.made, names_below=self.names_below,
+                      lines_of=lambda crate: 1000, memory_of=lambda rt, crate: 1,
+                      put_into_queue=lambda rt, made, ended: self.ended.append((made, ended)))
+
+    def stand_in(self, **functions):
+        """Has these functions stand in for those of the toolchain."""
+        standing = mock.patch.multiple(toolchain, **functions)
+        standing.start()
+        self.addCleanup(standing.stop)
+
+    def names_below(self, crate):
+        return [it for it in below([crate.name]) if it in self.made and it != crate.name]
 
     def crate(self):
         return self.made["ocfl_digest"]
@@ -105,7 +101,6 @@ class Steps(Rooms):
         return {key[:2]: [it[:2] for it in tasks[key][0]] for key in tasks}
 
     def test_over_what_may_be_out_of_date(self):
-        os.makedirs(self.made["ocfl_tree"].rlib)
         steps = self.steps(trying.tasks_of, "ocfl_digest")
         self.assertEqual(steps["ocfl_tree", "library"], [])
         self.assertEqual(steps["ocfl_digest", "seed"], [("ocfl_tree", "library")])
@@ -141,8 +136,11 @@ class Steps(Rooms):
         self.addCleanup(os.chdir, was)
         os.chdir(self.room.name)
         os.makedirs(os.path.join(self.crate().folder, trying.KEPT))
+        (steps, ended), = self.ended
         with contextlib.redirect_stdout(io.StringIO()) as out:
-            self.rt.in_lanes(proofs)
+            tasks = steps()
+            given = one_by_one({**proofs, **tasks})
+            ended({key: given[key] for key in tasks})
         # (that nothing was changed holds all the same)
         self.assertIn("\nedits: 1 passed, %d failed\n" % (len(listed("ocfl_digest")) + 1),
                       out.getvalue())
@@ -188,76 +186,19 @@ class Bases(Rooms):
             self.assertEqual(os.stat(linked).st_nlink, 2)
         self.assertEqual(trying.listing(kept.place), kept.files)
 
-    def test_library_is_laid_out(self):
-        """The modules that a library carries become the files that a check would have kept, and
-        statements of modules do not."""
-        top = "out/rlib/ocfl_digest.rlib/"
-        self.write(top + "format", b"rattle rlib\nrattle-build antt-1/0/src-2.bid-3\ncrate it\n")
-        rows = [["Rattle-a.b", 4, 3], ["part/Rattle-a.c", 7, 2], ["sum/all", 9, 1]]
-        self.write(top + "toolchain/checked.json", "\n".join(map(json.dumps, rows)).encode())
-        self.write(top + "toolchain/checked.a", b"ar: onetws")
-        step.lay_out(self.crate())
-        folder = os.path.join(self.crate().folder, trying.KEPT, "antt-1_0_src-2.bid-3")
-        self.assertEqual(sorted(os.listdir(folder)), ["Rattle-a.b.oantt", "long"])
-        with open(os.path.join(folder, "Rattle-a.b.oantt"), "rb") as file:
-            self.assertEqual(file.read(), b"one")
-
-    def test_long_names_are_laid_out(self):
-        """A name of 129 bytes, and the file in which a check was seen to keep its module."""
-        name = ("Rattle-ocfl_report-proofs.reading.fn.split_once.position+FnMut.TheLinks."
-                "ocfl_report-reading-fn-split_once-position+FnMut-call_mut")
-        path = "long/8313e637bb46f2ac0a00b54c7c2ddf8dbab24cf106645cce3af962556bad7a49.oantt"
-        self.assertEqual(list(step.paths_of(name)), [path])
-        self.assertIn(name[:120] + ".oantt", step.paths_of(name[:120]))
-        self.assertEqual(len(list(step.paths_of(name[:120]))), 2)
-
     def test_library_without_proofs_is_proved(self):
         """Where nothing can be laid out, the check is one from nothing."""
-        self.rt.checked = lambda crate, texts, jobs, kept: types.SimpleNamespace(returncode=0)
+        self.stand_in(check=lambda *_: types.SimpleNamespace(returncode=0),
+                      lay_out=mock.Mock(side_effect=OSError))
         self.assertEqual(step.base(self.rt, self.crate(), []), (True, "proved"))
 
-    def test_libraries_are_built_whole(self):
-        class Built:
-            cuts_libraries = True
-
-            def __init__(self, name):
-                self.name = name
-
-            def ci(self, flags, tests):
-                return self.cuts_libraries
-
-        class Known:
-            def key(self, crate):
-                return "sum"
-
-        rt = types.SimpleNamespace(Crate=Built, Kept=Known)
-        toolchain.build_whole(rt, {"high"})
-        self.assertFalse(rt.Crate("high").ci([], False))
-        self.assertTrue(rt.Crate("low").ci([], False))
-        # (what an earlier run kept without its proofs has another name)
-        self.assertNotEqual(rt.Kept().key(rt.Crate("high")), "sum")
-        self.assertEqual(rt.Kept().key(rt.Crate("low")), "sum")
-
-    def test_libraries_are_built_whole_where_nothing_is_kept(self):
-        """Some kits keep no proofs for later runs."""
-        class Built:
-            name, cuts_libraries = "high", True
-
-            def ci(self, flags, tests):
-                return self.cuts_libraries
-
-        rt = types.SimpleNamespace(Crate=Built)
-        toolchain.build_whole(rt, {"high"})
-        self.assertFalse(rt.Crate().ci([], False))
-
     def test_libraries_with_few_above_are_built_whole(self):
-        low, *above = [types.SimpleNamespace(name="a%d" % at) for at in range(proving.FEW + 2)]
-        low.below = lambda: []
-        for crate in above:
-            crate.below = lambda: [low]
-        made = {crate.name: crate for crate in [low, *above]}
-        self.assertEqual(proving.built_whole(made), set(made) - {low.name})
-        above[0].below = lambda: []
+        made = {name: toolchain.Crate(name, "", None)
+                for name in ("a%d" % at for at in range(proving.FEW + 2))}
+        below_it = {name: ["a0"] for name in made if name != "a0"}
+        self.stand_in(names_below=lambda crate: below_it.get(crate.name, []))
+        self.assertEqual(proving.built_whole(made), set(made) - {"a0"})
+        del below_it["a1"]
         self.assertEqual(proving.built_whole(made), set(made))
 
 
@@ -270,13 +211,11 @@ class Prover(Rooms):
         self.known = rounds.functions.functions_of("ocfl_digest")
         edits = rounds.share("ocfl_digest", listed("ocfl_digest"))[0][0]
         self.bodies = step.body_edits_of(self.crate(), edits)
-        rtlib = types.SimpleNamespace(STALE=re.compile("stale"))
-        self.rt = types.SimpleNamespace(REFUSED="refused", AT_LIMIT="limit", rtlib=rtlib,
-                                        checked=self.checked, must_fail=self.must_fail,
-                                        edited=lambda text, folder: ({"src/lib.rt": ""}, None),
-                                        unread=lambda line, changed: "cannot be read" in line)
+        self.stand_in(check=self.checked, try_edit=self.try_edit,
+                      edited=lambda rt, text, folder: ({"src/lib.rt": ""}, ""),
+                      was_read=lambda rt, ran, changed: "cannot be read" not in ran.stdout)
 
-    def checked(self, crate, texts, flags, kept):
+    def checked(self, rt, crate, texts, flags, kept):
         self.flags.append(flags)
         asked = flags[1::2][1:] if "--only" in flags else [
             step.functions.path_of(it) for it in self.known]
@@ -284,10 +223,10 @@ class Prover(Rooms):
         last = "only=%d proved=0" % len(asked) if "--only" in flags else "logic=not-proved"
         return types.SimpleNamespace(returncode=self.status, stdout="\n".join([*lines, last, ""]))
 
-    def must_fail(self, crate, file, flags, kept):
+    def try_edit(self, rt, crate, file, kept):
         with open(file) as it:
             self.whole.append(it.read())
-        return "missed", "must-fail a/b: NOT REFUSED: the crate is still proved with this edit"
+        return False, "must-fail a/b: NOT REFUSED: the crate is still proved with this edit"
 
     def lines_of(self, path):
         """The prover's lines on a function: all are refused, but for some."""
@@ -355,12 +294,12 @@ class Prover(Rooms):
     def test_unknown_path_is_a_check_of_the_whole_crate(self):
         given = self.checked
 
-        def checked(crate, texts, flags, kept):
-            ran = given(crate, texts, flags, kept)
+        def checked(rt, crate, texts, flags, kept):
+            ran = given(rt, crate, texts, flags, kept)
             ran.returncode = 2 if "--only" in flags else 1
             return ran
 
-        self.rt.checked = checked
+        self.stand_in(check=checked)
         self.assertTrue(all(well for well, _ in self.tried()))
         self.assertEqual(["--only" in flags for flags in self.flags], [True, False])
 

@@ -22,7 +22,7 @@ from shared.pages import blocks_of_manual, blocks_of_markdown, commands_of
 from shared.states import tools
 
 PACKAGES = {"git": "git", "jq": "jq", "sqlite3": "sqlite3", "gzip": "gzip",
-            "perl": "perl", "cmp": "diffutils", "dpkg-deb": "dpkg", "readelf": "binutils"}
+            "perl": "perl", "cmp": "diffutils"}
 
 # How commands begin that are not run, and why not.
 NOT_RUN = {
@@ -39,7 +39,6 @@ NO_COMMANDS = {
     "[Unit]": "lines of a unit",
     "ocfl-scrub-reports statement --seal ": "needs keys, which trials/statements.py makes",
     "Subject: ": "a message, which docs/message makes",
-    "Fixity of ": "a page, which docs/message makes",
     "# The controller wrote ": "a file of known findings",
 }
 # Statuses of commands that may end otherwise than with 0: the sample has a damaged file.
@@ -169,9 +168,8 @@ def readme(folder):
 
 
 def written(folder):
-    """README's blocks that the programs write are those that they write now, but for times."""
-    shown = re.findall(r"(?s)<!-- (?:message|page) -->\n\n(.*?)\n<!-- end ",
-                       read(TOP + "/README.md"))
+    """README's message is that which the programs write now, but for times."""
+    shown = re.findall(r"(?s)<!-- message -->\n\n(.*?)\n<!-- end ", read(TOP + "/README.md"))
     status, got, said = ran([TOP + "/docs/message"], OCFL_SCRUB=PROGRAM, TMPDIR=folder)
     check("docs/message", (status, said), (0, ""))
     check("README has what docs/message prints", masked("\n".join(shown)), masked(got))

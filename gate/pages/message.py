@@ -1,5 +1,5 @@
-"""The two blocks of README that the programs write: a night's message as it comes by mail, and the
-beginning of the page on nights as text. The script `docs/message`."""
+"""The block of README that the programs write, a night's message as it comes by mail: the script
+`docs/message`. The page on nights of the same storage root is what README's picture shows."""
 from __future__ import annotations
 
 import hashlib
@@ -9,25 +9,21 @@ import shutil
 import subprocess
 import sys
 import tempfile
-from html.parser import HTMLParser
 
 from gate.repository import TOP
 
 PAGE = os.path.join(TOP, "README.md")
 NIGHTS = os.path.join(TOP, "nights")
-PLACES = {"message": ("<!-- message -->\n", "<!-- end of message -->\n"),
-          "page": ("<!-- page -->\n", "<!-- end of page -->\n")}
+BEGIN, END = "<!-- message -->\n", "<!-- end of message -->\n"
 # The objects of the storage root, each with its files, before the second night and after it.
 OBJECTS = {"letters": {"Brief an Müller.txt": b"Dear reader,\n", "later.txt": b"P.S.\n"},
            "minutes": {"2024-01.txt": b"Present: all\n"},
            "photographs": {"0001.tif": b"II*\0" * 300, "0002.tif": b"II*\0" * 400}}
 DAMAGED, GONE = "letters/v1/content/Brief an Müller.txt", "minutes"
-# As the blocks name the storage root and the state folder.
+# As the block names the storage root and the state folder.
 ROOT, STATE = "/srv/ocfl", "/var/lib/ocfl-scrub/archive"
 # So many digits of a digest are shown.
 DIGITS = 12
-# The sections of the page that are shown.
-SECTIONS = ("What is open",)
 
 
 class Failed(Exception):
@@ -87,72 +83,6 @@ def sample(folder: str) -> tuple[str, str]:
     return mail.replace(folder, ""), page.replace(folder, "")
 
 
-def made(folder: str) -> dict[str, str]:
-    """The two blocks."""
-    mail, page = sample(folder)
-    return {"message": "Subject: " + mail, "page": Shown(page).text()}
-
-
-class Shown(HTMLParser):
-    """The page as lines of text: its first lines and the sections of `SECTIONS`, without times. The
-    cells of a table are below each other."""
-
-    BREAKS = ("h1", "h2", "h3", "p", "li", "caption")
-
-    def __init__(self, page: str) -> None:
-        super().__init__()
-        self.lines: list[str] = [""]
-        self.titles: dict[int, str] = {}
-        self.inside: list[str] = []
-        self.rows: list[list[str]] = []
-        self.feed(page)
-        self.close()
-
-    def handle_starttag(self, tag: str, attrs: object) -> None:
-        if tag not in ("meta", "wbr", "br", "line", "rect"):
-            self.inside.append(tag)
-        if tag == "tr":
-            self.rows.append([])
-        if tag in ("td", "th"):
-            self.rows[-1].append("")
-
-    def handle_endtag(self, tag: str) -> None:
-        if self.inside and self.inside[-1] == tag:
-            self.inside.pop()
-        if tag == "table":
-            self.lines += [*aligned(self.rows), ""]
-            self.rows = []
-        if tag in ("h1", "h2"):
-            self.titles[len(self.lines) - 1] = self.lines[-1].strip()
-        if tag in self.BREAKS:
-            self.lines.append("")
-
-    def handle_data(self, data: str) -> None:
-        data = data.replace("\n", " ")
-        if {"style", "svg", "title"} & set(self.inside):
-            return
-        if {"td", "th"} & set(self.inside):
-            self.rows[-1][-1] += data
-        else:
-            self.lines[-1] += data
-
-    def text(self) -> str:
-        """What is shown: all before the first section, and the chosen ones."""
-        found, shows = [], True
-        for at, line in enumerate(self.lines):
-            if at in self.titles:
-                shows = at == min(self.titles) or self.titles[at] in SECTIONS
-            if shows and line.strip() and not line.strip().startswith("As of "):
-                found.append(line.strip())
-        return "".join(line + "\n" for line in found)
-
-
-def aligned(rows: list[list[str]]) -> list[str]:
-    """The rows of a table, with its columns below each other."""
-    widths = [max(map(len, column)) for column in zip(*rows)]
-    return ["  ".join(cell.ljust(width) for cell, width in zip(row, widths)) for row in rows]
-
-
 def block(text: str) -> str:
     """A text as a block of the page, with digests cut."""
     lines = [" ".join(cut(word) for word in line.split(" ")) for line in text.splitlines()]
@@ -165,20 +95,19 @@ def cut(word: str) -> str:
     return word[:DIGITS] + ".." if is_digest else word
 
 
-def put(text: str, name: str, made_block: str) -> str:
+def put(text: str, made: str) -> str:
     """A page with this block in its place.
 
     Raises ValueError if the page has no such place."""
-    begin, end = PLACES[name]
-    before, begun, rest = text.partition(begin)
-    _, ended, after = rest.partition(end)
+    before, begun, rest = text.partition(BEGIN)
+    _, ended, after = rest.partition(END)
     if not begun or not ended:
-        raise ValueError("there is no place for the " + name)
-    return "%s%s\n%s\n%s%s" % (before, begin, made_block, end, after)
+        raise ValueError("there is no place for the message")
+    return "%s%s\n%s\n%s%s" % (before, BEGIN, made, END, after)
 
 
 def main(words: list[str], usage: str) -> int:
-    """Prints the blocks, or puts them into README; gives the exit status."""
+    """Prints the block, or puts it into README; gives the exit status."""
     if words == ["--help"]:
         print(usage)
         return 0
@@ -187,17 +116,16 @@ def main(words: list[str], usage: str) -> int:
         return 2
     try:
         with tempfile.TemporaryDirectory() as folder:
-            blocks = {name: block(text) for name, text in made(os.path.realpath(folder)).items()}
+            mail, _ = sample(os.path.realpath(folder))
     except (Failed, OSError) as error:
         print("docs/message: %s" % error, file=sys.stderr)
         return 3
+    made = block("Subject: " + mail)
     if not words:
-        print("\n".join(blocks.values()), end="")
+        print(made, end="")
         return 0
     with open(PAGE, encoding="utf-8") as file:
-        text = file.read()
-    for name, made_block in blocks.items():
-        text = put(text, name, made_block)
+        text = put(file.read(), made)
     with open(PAGE, "w", encoding="utf-8") as file:
         file.write(text)
     return 0

@@ -44,6 +44,7 @@ share/doc/ocfl-scrub/docs/DECISIONS.md 644
 share/doc/ocfl-scrub/docs/GALLERY.md 644
 share/doc/ocfl-scrub/docs/MAP.md 644
 share/doc/ocfl-scrub/docs/NIGHTS.md 644
+share/doc/ocfl-scrub/docs/PROMISES.md 644
 share/doc/ocfl-scrub/docs/RECIPES.md 644
 share/doc/ocfl-scrub/docs/RULES.md 644
 share/doc/ocfl-scrub/docs/TOOLCHAIN.md 644

@@ -27,9 +27,8 @@ from gate.edits.edit_files import Edit
 from gate.pages import lists
 from gate.repository import crates, folder_of
 
-# What the page says of them: how many no edit changes, and how many there are.
+# What the page with the case says of them: how many no edit changes, and how many there are.
 SAID = re.compile(r"no edit changes ([\d,]+) of the ([\d,]+) definitions of the reading list")
-PAGE = "docs/ASSURANCE.md"
 DEFINITION = re.compile(r"(?m)^(?:pub )?(?:abbrev|record|data|unfoldable) (?:pub )?(\w+)")
 
 
@@ -55,12 +54,12 @@ def print_tried(*chosen: str) -> None:
 def looked_at() -> tuple[int, int]:
     """Says whether the page counts the definitions of its reading list otherwise, as one check."""
     said = [tuple(int(it.replace(",", "")) for it in found)
-            for found in SAID.findall(lists.text_of(PAGE))]
-    true = counts(lists.listed(PAGE), collection.every_edit())
+            for found in SAID.findall(lists.text_of(lists.CASE))]
+    true = counts(lists.listed(lists.PROMISES), collection.every_edit())
     if said == [true]:
         return 1, 0
     return fail("%s: it is to say once that no edit changes %s of the %s definitions of the "
-                "reading list" % (PAGE, *(format(it, ",") for it in true)))
+                "reading list" % (lists.CASE, *(format(it, ",") for it in true)))
 
 
 def counts(listed: set[tuple[str, str]], edits: list[Edit]) -> tuple[int, int]:

@@ -1,4 +1,4 @@
-"""The table of crates in `docs/ASSURANCE.md`, made from the heads of the crates: what each is for,
+"""The table of crates in `docs/PROMISES.md`, made from the heads of the crates: what each is for,
 and what of it is proved. A crate that is new in `crates.txt` gets its row by `docs/registers table
 --write`."""
 from __future__ import annotations
@@ -9,7 +9,7 @@ import re
 from gate.pages import registers
 from gate.repository import TESTS, TOP, crates
 
-PAGE = os.path.join(TOP, "docs", "ASSURANCE.md")
+PAGE = os.path.join(TOP, "docs", "PROMISES.md")
 BEGIN, END = "<!-- crates -->\n", "<!-- end of crates -->\n"
 HEAD = "| crate | what it is | proved |\n|---|---|---|\n"
 
@@ -65,8 +65,8 @@ def faults() -> list[str]:
         if put(text, table()) == text:
             return []
     except ValueError as error:
-        return ["docs/ASSURANCE.md: %s" % error]
-    return ["docs/ASSURANCE.md: its table of crates is not that of their heads; "
+        return ["docs/PROMISES.md: %s" % error]
+    return ["docs/PROMISES.md: its table of crates is not that of their heads; "
             "docs/registers table --write fixes it"]
 
 

@@ -8,6 +8,8 @@ from gate.commands import fail
 from gate.pages import crate_table, definitions, layers
 from gate.repository import TESTS, TOP, crates, folder_of
 
+# The page with all promises and the definitions to believe, and that with the case.
+PROMISES, CASE = "docs/PROMISES.md", "docs/ASSURANCE.md"
 # The names in a cell of a table, without the modules before them.
 NAMED = re.compile(r"`(?:\w+::)*(\w+)`")
 # A crate, and files of its definitions.
@@ -29,7 +31,7 @@ CITED = re.compile(r"`(?:\w+::)*([A-Za-z]\w*(?:[a-z][A-Z]|_)\w+)`")
 
 def looked_at():
     """Says which lists differ from the tree, as one check."""
-    faults = [*of_crates(), *of_definitions(), *of_names(), *of_recipes()]
+    faults = [*of_crates(), *of_definitions(), *of_case(), *of_names(), *of_recipes()]
     for fault in faults:
         fail(fault)
     return int(not faults), len(faults)
@@ -49,29 +51,36 @@ def of_crates():
     stands_on = {word for line in lines for word in line.split(":")[1].split()}
     trials = {os.path.basename(it) for it in glob.glob(os.path.join(TOP, "trials", "*.py"))}
     named = re.findall(r"`(\w+\.py)`", " ".join(row[1] for row in rows("docs/TRIED.md", "Trials")))
-    page = "docs/ASSURANCE.md"
-    trust = text_of(page).split("**Trusted**")[1].split(":")[1].split(".")[0]
+    trust = text_of(CASE).split("**Trusted**")[1].split(":")[1].split(".")[0]
     shown = {name: line for name, line in crates().items() if name != TESTS}
     return (crate_table.faults() + list(layers.faults(text_of(layers.PAGE), shown))
             + differing("trial", "docs/TRIED.md", named, trials - {"common.py"})
-            + differing("library", page, NAMED.findall(trust), stands_on - set(crates())))
+            + differing("library", CASE, NAMED.findall(trust), stands_on - set(crates())))
 
 
 def of_definitions():
     """The definitions to believe, and those of the tables of definitions."""
-    page, faults = "docs/ASSURANCE.md", []
-    columns = [{"%s %s" % it for it in column} for column in reading_list(page)]
-    of_cycle, of_nights, others = to_read(contracts_of(rows(page, "Promises")))
+    faults = []
+    columns = [{"%s %s" % it for it in column} for column in reading_list(PROMISES)]
+    of_cycle, of_nights, others = to_read(contracts_of(all_rows(PROMISES, "All promises")))
     for what, listed, cited in [
             ("that `cycle` cites", columns[0], of_cycle),
             ("that `night` and the laws of nights cite, and `cycle` does not", columns[1],
              of_nights),
             ("that only other contracts of its promises cite", columns[2], others)]:
-        faults += differing("definitions " + what, page, listed, cited)
+        faults += differing("definitions " + what, PROMISES, listed, cited)
     for crate, files in FILES.findall(text_of("docs/MAP.md")):
         faults += ["%s %s: docs/MAP.md names it, and there is no such file" % (crate, file)
                    for file in NAMED.findall(files) if not os.path.exists(specs_of(crate, file))]
     return faults
+
+
+def of_case():
+    """The contracts that the promises of the case name, and that none of all promises does."""
+    promised = set(contracts_of(all_rows(PROMISES, "All promises")))
+    named = contracts_of(rows(CASE, "Promises"))
+    return ["%s: %s names it, and no promise of %s does"
+            % (" ".join(filter(None, it)), CASE, PROMISES) for it in named if it not in promised]
 
 
 def reading_list(page):
@@ -131,7 +140,7 @@ def of_names():
         os.path.join(TOP, "crates", "*", kind, "**", "*.*"), recursive=True)]
     known = {word for file in ["crates.txt", *files] for word in re.findall(r"\w+", text_of(file))}
     return ["%s: %s names it, and no source has it" % (name, page)
-            for page in ("README.md", "docs/ASSURANCE.md", "docs/MAP.md", "docs/NIGHTS.md")
+            for page in ("README.md", CASE, PROMISES, "docs/MAP.md", "docs/NIGHTS.md")
             for name in sorted(set(CITED.findall(text_of(page))) - known)]
 
 
@@ -157,10 +166,21 @@ def sources_in(line):
 
 def rows(page, title):
     """The rows of the first table below a title, each as its cells."""
-    found, body = [], re.split(r"(?m)^#+ %s\n" % re.escape(title), text_of(page))[1]
-    for line in body.split("\n#")[0].split("\n"):
-        if line.startswith("|") and not set(line) <= set("|- "):
-            found.append([cell.strip() for cell in line.strip("|").split("|")])
+    body = re.split(r"(?m)^#+ %s\n" % re.escape(title), text_of(page))[1]
+    return rows_of(body.split("\n#")[0])
+
+
+def all_rows(page, title):
+    """The rows of the first table below each of the titles that stand below one of a page."""
+    body = re.split(r"(?m)^## %s\n" % re.escape(title), text_of(page))[1]
+    return [row for part in re.split(r"(?m)^### ", body.split("\n## ")[0])[1:]
+            for row in rows_of(part)]
+
+
+def rows_of(text):
+    """The rows of a text with one table, each as its cells."""
+    found = [[cell.strip() for cell in line.strip("|").split("|")] for line in text.split("\n")
+             if line.startswith("|") and not set(line) <= set("|- ")]
     return found[1:]
 
 

@@ -1,4 +1,4 @@
-"""Tests the table of crates of ASSURANCE."""
+"""Tests the table of crates of PROMISES."""
 import unittest
 
 from gate.pages import crate_table

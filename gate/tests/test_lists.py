@@ -1,5 +1,6 @@
 """Tests what is read as a name in pages."""
 import unittest
+from unittest import mock
 
 from gate.pages import layers, lists
 
@@ -23,6 +24,32 @@ class Lists(unittest.TestCase):
             "crates/ocfl_report/src/code.rt", "crates/ocfl_report/specs/Text.antt",
             "crates/ocfl_arguments/src/task.rt"])
         self.assertEqual(lists.sources_in("`src/a.rt`, `no/src/a.rt`"), ["crates/ocfl_no/src/a.rt"])
+
+
+class Promises(unittest.TestCase):
+    PAGES = {
+        lists.PROMISES: "# A\n\n## All promises\n\n### One\n\n| promise | by |\n|---|---|\n"
+                        "| a | `ocfl_scrub`: `cycle` |\n| b | `ocfl_digest`: `hash_open` |\n\n"
+                        "### Two\n\n| promise | by |\n|---|---|\n| c | law `nights_are_sound` |\n"
+                        "\n## More\n\n### Three\n\n| no | promise |\n|---|---|\n| d | `run` |\n",
+        lists.CASE: "## Promises\n\n| promise | by |\n|---|---|\n| a | `ocfl_scrub`: `cycle` |\n",
+    }
+
+    def test_rows_of_all_tables_below_a_title(self) -> None:
+        with mock.patch.object(lists, "text_of", self.PAGES.get):
+            self.assertEqual(lists.all_rows(lists.PROMISES, "All promises"), [
+                ["a", "`ocfl_scrub`: `cycle`"], ["b", "`ocfl_digest`: `hash_open`"],
+                ["c", "law `nights_are_sound`"]])
+            self.assertEqual(lists.rows(lists.CASE, "Promises"), [["a", "`ocfl_scrub`: `cycle`"]])
+
+    def test_the_case_names_what_is_promised(self) -> None:
+        with mock.patch.object(lists, "text_of", self.PAGES.get):
+            self.assertEqual(lists.of_case(), [])
+        more = {**self.PAGES, lists.CASE: self.PAGES[lists.CASE] + "| e | `ocfl_walk`: `Walk` |\n"}
+        with mock.patch.object(lists, "text_of", more.get):
+            self.assertEqual(lists.of_case(), [
+                "ocfl_walk walk: docs/ASSURANCE.md names it, and no promise of docs/PROMISES.md "
+                "does"])
 
 
 class Layers(unittest.TestCase):

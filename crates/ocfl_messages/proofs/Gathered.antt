@@ -9,7 +9,7 @@ use Rattle.ocfl_codes.specs.{Kinds.{tells_file}, Weight.{weight_of}}
 use Rattle.ocfl_codes.proofs.Weights.{weighed}
 use Rattle.ocfl_codes.specs.declared.weight.Weight.{Weight}
 use Rattle.ocfl_messages.specs.Finding.{Finding, Section, counted, ended_with, filled, found_in, is_other, is_within, lines_within, section_at, section_with}
-use Rattle.ocfl_messages.specs.{Gathering.{AreRightIn, IsGathered, section_on, told}, Gravest.{IsOf, of_weight}, Tally.{IsCount, IsPlaces, is_right, is_wrong, places_of, right_in}}
+use Rattle.ocfl_messages.specs.{Gathering.{AreRightIn, IsGathered, section_on, said}, Gravest.{IsOf, of_weight}, Tally.{IsCount, IsPlaces, is_right, is_wrong, places_of, right_in}}
 use Rattle.ocfl_messages.specs.declared.{finding.FileCounts.{FileCounts}, gathering.Gathering.{Gathering}, gravest.Gravest.{Gravest}}
 use Rattle.ocfl_messages.proofs.Heaps.{filter_more, filter_same, none_more}
 
@@ -29,16 +29,16 @@ filter_filled p c (f ∷ fs) same =
 pub of_filled : (w : Weight) (c : FileCounts) (fs : List Finding) → of_weight w (map (filled c) fs) ≡ map (filled c) (of_weight w fs)
 of_filled w c fs = filter_filled _ c fs (λ f. refl)
 
-told_filled : (p : Line → Bool) (c : FileCounts) (fs : List Finding) → told p (map (filled c) fs) ≡ map (filled c) (told p fs)
-told_filled p c fs = filter_filled _ c fs (λ f. refl)
+said_filled : (p : Line → Bool) (c : FileCounts) (fs : List Finding) → said p (map (filled c) fs) ≡ map (filled c) (said p fs)
+said_filled p c fs = filter_filled _ c fs (λ f. refl)
 
 filled_twice : (d c : FileCounts) (fs : List Finding) → map (filled d) (map (filled c) fs) ≡ map (filled c) fs
 filled_twice d c [] = refl
 filled_twice d c (f ∷ fs) = ap (λ gs. filled c f ∷ gs) (filled_twice d c fs)
 
 -- those of the section are counted, and those before it were
-pub all_filled : (p : Line → Bool) (c : FileCounts) (fs gs : List Finding) → map (filled c) fs ≡ fs → map (filled c) (told p (fs ++ gs)) ≡ told p (fs ++ map (filled c) gs)
-all_filled p c fs gs e = sym (told_filled p c (fs ++ gs)) ∙ ap (told p) (map-append (filled c) fs gs ∙ ap (λ hs. hs ++ map (filled c) gs) e)
+pub all_filled : (p : Line → Bool) (c : FileCounts) (fs gs : List Finding) → map (filled c) fs ≡ fs → map (filled c) (said p (fs ++ gs)) ≡ said p (fs ++ map (filled c) gs)
+all_filled p c fs gs e = sym (said_filled p c (fs ++ gs)) ∙ ap (said p) (map-append (filled c) fs gs ∙ ap (λ hs. hs ++ map (filled c) gs) e)
 
 -- ---- one more line
 
@@ -52,13 +52,13 @@ found_more : (head : Option Place) (fs : List Finding) (ls : List Line) (l : Lin
 found_more head fs ls l =
     ap (λ gs. fs ++ gs) (map-append (found_in head) ls (l ∷ [])) ∙ sym (append_assoc fs (map (found_in head) ls) (found_in head l ∷ []))
 
-pub told_more : (p : Line → Bool) (head : Option Place) (fs : List Finding) (ls : List Line) (l : Line) → p l ≡ true
-    → told p (fs ++ map (found_in head) (ls ++ l ∷ [])) ≡ told p (fs ++ map (found_in head) ls) ++ found_in head l ∷ []
-told_more p head fs ls l e = ap (told p) (found_more head fs ls l) ∙ filter_more (λ f. p f.line) (fs ++ map (found_in head) ls) (found_in head l) e
+pub said_more : (p : Line → Bool) (head : Option Place) (fs : List Finding) (ls : List Line) (l : Line) → p l ≡ true
+    → said p (fs ++ map (found_in head) (ls ++ l ∷ [])) ≡ said p (fs ++ map (found_in head) ls) ++ found_in head l ∷ []
+said_more p head fs ls l e = ap (said p) (found_more head fs ls l) ∙ filter_more (λ f. p f.line) (fs ++ map (found_in head) ls) (found_in head l) e
 
-pub told_same : (p : Line → Bool) (head : Option Place) (fs : List Finding) (ls : List Line) (l : Line) → p l ≡ false
-    → told p (fs ++ map (found_in head) (ls ++ l ∷ [])) ≡ told p (fs ++ map (found_in head) ls)
-told_same p head fs ls l e = ap (told p) (found_more head fs ls l) ∙ filter_same (λ f. p f.line) (fs ++ map (found_in head) ls) (found_in head l) e
+pub said_same : (p : Line → Bool) (head : Option Place) (fs : List Finding) (ls : List Line) (l : Line) → p l ≡ false
+    → said p (fs ++ map (found_in head) (ls ++ l ∷ [])) ≡ said p (fs ++ map (found_in head) ls)
+said_same p head fs ls l e = ap (said p) (found_more head fs ls l) ∙ filter_same (λ f. p f.line) (fs ++ map (found_in head) ls) (found_in head l) e
 
 -- a line that is not of another object's head
 pub goes_on : (p : Line → Bool) (g : Gathering) (fs : List Finding) (s : Section) (l : Line) → is_other s.head l ≡ false → IsGathered p g fs s
@@ -67,14 +67,14 @@ goes_on p g fs s l e h = rw e (subst (λ gs. IsGathered p g gs s) (sym (append-n
 
 -- and one that is
 pub begins_anew : (p : Line → Bool) (old new : Gathering) (fs : List Finding) (s : Section) (l : Line) → is_other s.head l ≡ true → IsGathered p old fs s
-    → IsOf new.found (told p (fs ++ counted true s)) → new.heads.last ≡ Some l.place → new.is_begun ≡ true → new.right ≡ 0 → IsPlaces new.wrong []
+    → IsOf new.found (said p (fs ++ counted true s)) → new.heads.last ≡ Some l.place → new.is_begun ≡ true → new.right ≡ 0 → IsPlaces new.wrong []
     → IsGathered p new (fs ++ ended_with s l) (section_at s l)
 begins_anew p old new fs s l e h found head begun right wrong =
     let G = counted true s in
     rw e (
     record {
       are_counted = λ c. map-append (filled c) fs G ∙ ap (λ gs. gs ++ map (filled c) G) (h.are_counted c) ∙ ap (λ gs. fs ++ gs) (filled_twice c _ (map (found_in s.head) s.lines));
-      found = subst (λ gs. IsOf new.found (told p gs)) (sym (append-nil (fs ++ G))) found;
+      found = subst (λ gs. IsOf new.found (said p gs)) (sym (append-nil (fs ++ G))) found;
       head = head;
       begun = begun;
       right = right;
@@ -86,15 +86,15 @@ begins_anew p old new fs s l e h found head begun right wrong =
 pub line_gathered : (p : Line → Bool) (old new : Gathering) (fs : List Finding) (s : Section) (l : Line) → IsGathered p old fs (section_at s l)
     → ((ls : List Line) → IsCount old.right (right_in (lines_within old.heads.last ls)) → IsCount new.right (right_in (lines_within old.heads.last (ls ++ l ∷ []))))
     → ((ls : List Line) → IsPlaces old.wrong (places_of is_wrong (lines_within old.heads.last ls)) → IsPlaces new.wrong (places_of is_wrong (lines_within old.heads.last (ls ++ l ∷ []))))
-    → ((gs : List Finding) (ls : List Line) → IsOf old.found (told p (gs ++ map (found_in old.heads.last) ls))
-    → IsOf new.found (told p (gs ++ map (found_in old.heads.last) (ls ++ l ∷ []))))
+    → ((gs : List Finding) (ls : List Line) → IsOf old.found (said p (gs ++ map (found_in old.heads.last) ls))
+    → IsOf new.found (said p (gs ++ map (found_in old.heads.last) (ls ++ l ∷ []))))
     → new.heads ≡ old.heads → new.is_begun ≡ old.is_begun → IsGathered p new fs (section_with s l)
 line_gathered p old new fs s l h rights wrongs keeps heads begun =
     let t = section_at s l in
     record {
       are_counted = h.are_counted;
-      found = subst (λ o. IsOf new.found (told p (fs ++ map (found_in o) (t.lines ++ l ∷ [])))) h.head
-          (keeps fs t.lines (subst (λ o. IsOf old.found (told p (fs ++ map (found_in o) t.lines))) (sym h.head) h.found));
+      found = subst (λ o. IsOf new.found (said p (fs ++ map (found_in o) (t.lines ++ l ∷ [])))) h.head
+          (keeps fs t.lines (subst (λ o. IsOf old.found (said p (fs ++ map (found_in o) t.lines))) (sym h.head) h.found));
       head = ap (λ x. x.last) heads ∙ h.head;
       begun = begun ∙ h.begun;
       right = subst (λ o. IsCount new.right (right_in (lines_within o (t.lines ++ l ∷ [])))) h.head
@@ -169,12 +169,12 @@ right_on p old new fs s ls are h adds found wrong heads begun =
     let wrongs : places_of is_wrong (lines_within s.head (s.lines ++ ls)) ≡ places_of is_wrong L =
     ap (places_of is_wrong) all
     ∙ ap (map (λ l. l.place)) (filter-append is_wrong L ls ∙ ap (λ ms. filter is_wrong L ++ ms) (filter_none is_wrong ls (none_wrong ls are.right)) ∙ append-nil (filter is_wrong L)) in
-    let tells : told p (fs ++ G (s.lines ++ ls)) ≡ told p (fs ++ G s.lines) ++ told p (G ls) =
-    ap (told p) (ap (λ gs. fs ++ gs) (map-append (found_in s.head) s.lines ls) ∙ sym (append_assoc fs (G s.lines) (G ls))) ∙ filter-append (λ f. p f.line) (fs ++ G s.lines) (G ls) in
+    let says : said p (fs ++ G (s.lines ++ ls)) ≡ said p (fs ++ G s.lines) ++ said p (G ls) =
+    ap (said p) (ap (λ gs. fs ++ gs) (map-append (found_in s.head) s.lines ls) ∙ sym (append_assoc fs (G s.lines) (G ls))) ∙ filter-append (λ f. p f.line) (fs ++ G s.lines) (G ls) in
     record {
       are_counted = h.are_counted;
-      found = subst (IsOf new.found) (sym tells) (subst (λ g. IsOf g (told p (fs ++ G s.lines) ++ told p (G ls))) (sym found)
-          (none_kept old.found (told p (fs ++ G s.lines)) (told p (G ls))
+      found = subst (IsOf new.found) (sym says) (subst (λ g. IsOf g (said p (fs ++ G s.lines) ++ said p (G ls))) (sym found)
+          (none_kept old.found (said p (fs ++ G s.lines)) (said p (G ls))
           (All-filter (λ f. p f.line) (λ f. weight_of f.line.code ≡ None) (G ls) (none_weighed s.head ls are.right)) h.found));
       head = ap (λ x. x.last) heads ∙ h.head;
       begun = begun ∙ h.begun;

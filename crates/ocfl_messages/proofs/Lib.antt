@@ -10,7 +10,7 @@ mod Closings
 mod Lists
 mod Knowns
 mod LogRows
-mod Placing
+pub mod Placing
 mod Spaces
 mod Groups
 mod Tallies

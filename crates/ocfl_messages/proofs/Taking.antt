@@ -48,6 +48,21 @@ take_again (suc n) zero xs l = absurd (omega (arith, l))
 take_again (suc n) (suc m) [] l = refl
 take_again (suc n) (suc m) (x ∷ xs) l = ap (λ ys. x ∷ ys) (take_again n m xs (omega (arith, l)))
 
+-- the first of two lists, by the first of each
+take_both : {X : Type 0} (n : ℕ) (xs ys : List X) → take n (take n xs ++ take n ys) ≡ take n (xs ++ ys)
+take_both n xs ys =
+    let e = take_again n n xs (omega arith) in
+    take_parts n n (take n xs) (take n ys) (omega arith)
+    ∙ (λ i. take n (e i) ++ take (n - length (e i)) (take n ys))
+    ∙ ap (λ t. take n (take n xs) ++ t) (take_again (n - length (take n xs)) n ys (omega arith))
+    ∙ sym (take_parts n n xs ys (omega arith))
+
+pub first_both : (xs ys zs : List MadeFinding) (fs gs : List Finding) → zs ≡ take most_kept (xs ++ ys) → map finding_of xs ≡ take most_kept fs → map finding_of ys ≡ take most_kept gs
+    → map finding_of zs ≡ take most_kept (fs ++ gs)
+first_both xs ys zs fs gs e f g =
+    ap (map finding_of) e ∙ sym (take-map finding_of most_kept (xs ++ ys)) ∙ ap (take most_kept) (map-append finding_of xs ys)
+    ∙ (λ i. take most_kept (f i ++ g i)) ∙ take_both most_kept fs gs
+
 step : (n m : ℕ) (xs ys X : List Finding) → n ≤ m → X ≡ take m xs → take n (xs ++ ys) ≡ take n X ++ take (n - length X) ys
 step n m xs ys X l e = subst (λ Z. take n (xs ++ ys) ≡ take n Z ++ take (n - length Z) ys) (sym e) (take_parts n m xs ys l)
 

@@ -5,14 +5,14 @@ use Rattle.ocfl_report.specs.Line.{Line}
 use Rattle.ocfl_messages.specs.{Finding.{Finding, Section, filled, found_in, is_within, lines_within}, Gravest.{IsOf}, Tally.{IsCount, IsPlaces, is_right, is_wrong, places_of, right_in}}
 use Rattle.ocfl_messages.specs.declared.{finding.FileCounts.{FileCounts}, gathering.Gathering.{Gathering}}
 
-abbrev pub told : (Line → Bool) → List Finding → List Finding
-told is_told fs = filter (λ f. is_told f.line) fs
+abbrev pub said : (Line → Bool) → List Finding → List Finding
+said is_said fs = filter (λ f. is_said f.line) fs
 
--- kept are those to be told of these findings, whose files are all counted, and of the section behind
+-- kept are those to be said of these findings, whose files are all counted, and of the section behind
 -- them, with what its lines count
-pub record IsGathered (is_told : Line → Bool) (g : Gathering) (fs : List Finding) (s : Section) : Type 0 where
+pub record IsGathered (is_said : Line → Bool) (g : Gathering) (fs : List Finding) (s : Section) : Type 0 where
   pub are_counted : (c : FileCounts) → map (filled c) fs ≡ fs
-  pub found : IsOf g.found (told is_told (fs ++ map (found_in s.head) s.lines))
+  pub found : IsOf g.found (said is_said (fs ++ map (found_in s.head) s.lines))
   pub head : g.heads.last ≡ s.head
   pub begun : g.is_begun ≡ s.is_begun
   pub right : IsCount g.right (right_in (lines_within s.head s.lines))

@@ -82,8 +82,8 @@ impl Found {
             (fs ++ ended_with s (line_of line)) (section_with s (line_of line))) }
         ensures rest { self.new.rest ≡ self.old.rest }
     {
-        let is_told = !known.names(&line);
-        self.gathering.take(line, is_told)
+        let is_said = !known.names(&line);
+        self.gathering.take(line, is_said)
     }
 
     /// Takes a line, which was read from the next bytes, where no line was cut before it. It leaves

@@ -2,7 +2,7 @@
 ghost use Rattle.std.specs.Prelude.{◌≡◌, ◌++◌, ◌∷◌, [], Bool, List, OnOk, false, length, map};
 ghost use Rattle.ocfl_report.specs.Line.{Line as ModelLine, line_of};
 ghost use Rattle.ocfl_messages.specs.Finding.{Finding as ModelFinding, Section, counted, counts_in, ended_with, first_section, found_in, lines_within, section_at, section_with};
-ghost use Rattle.ocfl_messages.specs.{Gathering.{told}, Gravest.{IsOf}, Tally.{IsCount, IsPlaces, is_wrong as is_wrong_line, places_of, right_in}};
+ghost use Rattle.ocfl_messages.specs.{Gathering.{said}, Gravest.{IsOf}, Tally.{IsCount, IsPlaces, is_wrong as is_wrong_line, places_of, right_in}};
 
 use crate::finding::{FileCounts, Heads};
 use crate::gravest::Gravest;
@@ -44,8 +44,8 @@ impl Gathering {
 
     /// Nothing, of no lines, before which these heads came.
     pub fn new(alloc: Global, before: Heads) -> Gathering
-        ensures { (is_told : ModelLine → Bool)
-            → IsGathered is_told result [] (first_section before.last) }
+        ensures { (is_said : ModelLine → Bool)
+            → IsGathered is_said result [] (first_section before.last) }
     {
         Gathering {
             found: Gravest::new(alloc),
@@ -56,25 +56,25 @@ impl Gathering {
         }
     }
 
-    /// Takes the next line. Its file is counted; the line is kept as a finding if it is to be told.
+    /// Takes the next line. Its file is counted; the line is kept as a finding if it is to be said.
     /// It is not used again if memory runs out.
-    pub fn take(&mut self, line: Line, is_told: bool) -> Result<(), AllocError>
-        ensures { OnOk result ((tells : ModelLine → Bool) (fs : List ModelFinding) (s : Section)
-            → tells (line_of line) ≡ is_told → IsGathered tells self.old fs s
-            → IsGathered tells self.new (fs ++ ended_with s (line_of line))
+    pub fn take(&mut self, line: Line, is_said: bool) -> Result<(), AllocError>
+        ensures { OnOk result ((says : ModelLine → Bool) (fs : List ModelFinding) (s : Section)
+            → says (line_of line) ≡ is_said → IsGathered says self.old fs s
+            → IsGathered says self.new (fs ++ ended_with s (line_of line))
             (section_with s (line_of line))) }
     {
         self.begin(&line)?;
         count(&mut self.right, &mut self.wrong, &self.heads, &line)?;
-        keep_told(&mut self.found, &self.heads, line, is_told)
+        keep_said(&mut self.found, &self.heads, line, is_said)
     }
 
-    /// Takes the next line, which is not to be told: its file is counted. It is not used again if
+    /// Takes the next line, which is not to be said: its file is counted. It is not used again if
     /// memory runs out.
     pub fn pass(&mut self, line: &Line) -> Result<(), AllocError>
-        ensures { OnOk result ((tells : ModelLine → Bool) (fs : List ModelFinding) (s : Section)
-            → tells (line_of line.now) ≡ false → IsGathered tells self.old fs s
-            → IsGathered tells self.new (fs ++ ended_with s (line_of line.now))
+        ensures { OnOk result ((says : ModelLine → Bool) (fs : List ModelFinding) (s : Section)
+            → says (line_of line.now) ≡ false → IsGathered says self.old fs s
+            → IsGathered says self.new (fs ++ ended_with s (line_of line.now))
             (section_with s (line_of line.now))) }
     {
         self.begin(line)?;
@@ -84,9 +84,9 @@ impl Gathering {
 
     /// Ends the object whose lines came, if this is a line of another one's head.
     fn begin(&mut self, line: &Line) -> Result<(), AllocError>
-        ensures { OnOk result ((tells : ModelLine → Bool) (fs : List ModelFinding) (s : Section)
-            → IsGathered tells self.old fs s
-            → IsGathered tells self.new (fs ++ ended_with s (line_of line.now))
+        ensures { OnOk result ((says : ModelLine → Bool) (fs : List ModelFinding) (s : Section)
+            → IsGathered says self.old fs s
+            → IsGathered says self.new (fs ++ ended_with s (line_of line.now))
             (section_at s (line_of line.now))) }
     {
         if !self.heads.is_other(line) {
@@ -103,10 +103,10 @@ impl Gathering {
     /// Takes so many lines of files that are right, in the object whose head came last. It is the
     /// same as taking them one by one, and needs no memory.
     pub fn take_right(&mut self, count: u64)
-        ensures taken { (tells : ModelLine → Bool) (fs : List ModelFinding) (s : Section)
+        ensures taken { (says : ModelLine → Bool) (fs : List ModelFinding) (s : Section)
             (ls : List ModelLine) → IsCount count (length ls)
             → AreRightIn s.head ls
-            → IsGathered tells self.old fs s → IsGathered tells self.new fs (section_on s ls) }
+            → IsGathered says self.old fs s → IsGathered says self.new fs (section_on s ls) }
         ensures heads { self.new.heads ≡ self.old.heads }
     {
         self.right = add_count(self.right, count);
@@ -114,8 +114,8 @@ impl Gathering {
 
     /// How many files of the object are right.
     fn files(&self, is_over: bool) -> FileCounts
-        ensures { (tells : ModelLine → Bool) (fs : List ModelFinding) (s : Section)
-            → IsGathered tells self.now fs s → result ≡ counts_in is_over s }
+        ensures { (says : ModelLine → Bool) (fs : List ModelFinding) (s : Section)
+            → IsGathered says self.now fs s → result ≡ counts_in is_over s }
     {
         FileCounts {
             right: self.right,
@@ -126,9 +126,9 @@ impl Gathering {
 
     /// Gives its findings how many that are, behind which no lines of it come if it is over.
     fn fill(&mut self, is_over: bool)
-        ensures found { (tells : ModelLine → Bool) (fs : List ModelFinding) (s : Section)
-            → IsGathered tells self.old fs s
-            → IsOf self.new.found (told tells (fs ++ counted is_over s)) }
+        ensures found { (says : ModelLine → Bool) (fs : List ModelFinding) (s : Section)
+            → IsGathered says self.old fs s
+            → IsOf self.new.found (said says (fs ++ counted is_over s)) }
         ensures heads { self.new.heads ≡ self.old.heads }
     {
         let files = self.files(is_over);
@@ -138,9 +138,9 @@ impl Gathering {
     /// The findings of all the lines, and the object whose head came last. No more lines of it come
     /// if the report is over.
     pub fn end(self, is_over: bool) -> (Gravest, Heads)
-        ensures found { (tells : ModelLine → Bool) (fs : List ModelFinding) (s : Section)
-            → IsGathered tells self fs s
-            → IsOf result.0 (told tells (fs ++ counted is_over s)) }
+        ensures found { (says : ModelLine → Bool) (fs : List ModelFinding) (s : Section)
+            → IsGathered says self fs s
+            → IsOf result.0 (said says (fs ++ counted is_over s)) }
         ensures heads { result.1 ≡ self.heads }
     {
         let mut gathering = self;
@@ -183,20 +183,20 @@ fn count(right: &mut u64, wrong: &mut Places, heads: &Heads, line: &Line) -> Res
     Ok(())
 }
 
-/// Keeps a line of the object of these heads as a finding, if it is to be told.
-fn keep_told(
+/// Keeps a line of the object of these heads as a finding, if it is to be said.
+fn keep_said(
     found: &mut Gravest,
     heads: &Heads,
     line: Line,
-    is_told: bool,
+    is_said: bool,
 ) -> Result<(), AllocError>
-    ensures { OnOk result ((tells : ModelLine → Bool) (fs : List ModelFinding)
-        (ls : List ModelLine) → tells (line_of line) ≡ is_told
-        → IsOf found.old (told tells (fs ++ map (found_in heads.now.last) ls))
+    ensures { OnOk result ((says : ModelLine → Bool) (fs : List ModelFinding)
+        (ls : List ModelLine) → says (line_of line) ≡ is_said
+        → IsOf found.old (said says (fs ++ map (found_in heads.now.last) ls))
         → IsOf found.new
-        (told tells (fs ++ map (found_in heads.now.last) (ls ++ line_of line ∷ [])))) }
+        (said says (fs ++ map (found_in heads.now.last) (ls ++ line_of line ∷ [])))) }
 {
-    if is_told {
+    if is_said {
         return keep(found, heads, line);
     }
     Ok(())

@@ -44,6 +44,17 @@ impl Kept {
         Ok(())
     }
 
+    /// Takes others too, which come after these. It is not used again if memory runs out.
+    fn join(&mut self, other: &mut Kept) -> Result<(), AllocError>
+        ensures { OnOk result ((fs gs : List ModelFinding)
+            → IsFirst self.old fs → IsFirst other.old gs → IsFirst self.new (fs ++ gs)) }
+    {
+        self.first.append(&mut other.first)?;
+        self.first.truncate(KEPT);
+        self.count = self.count.saturating_add(other.count);
+        Ok(())
+    }
+
     /// Gives each of those that have none how many files of its object are right.
     fn fill(&mut self, files: FileCounts)
         ensures { (fs : List ModelFinding) → IsFirst self.old fs
@@ -131,6 +142,18 @@ impl Gravest {
             Some(Weight::Record) => self.records.add(finding),
             Some(Weight::Position) => self.positions.add(finding),
         }
+    }
+
+    /// Takes the findings of another reading too, which come after these. It is not used again if
+    /// memory runs out.
+    pub fn join(&mut self, other: &mut Gravest) -> Result<(), AllocError>
+        ensures { OnOk result ((fs gs : List ModelFinding)
+            → IsOf self.old fs → IsOf other.old gs → IsOf self.new (fs ++ gs)) }
+    {
+        self.bytes.join(&mut other.bytes)?;
+        self.objects.join(&mut other.objects)?;
+        self.records.join(&mut other.records)?;
+        self.positions.join(&mut other.positions)
     }
 
     /// Gives each of those that have none how many files of its object are right.

@@ -84,27 +84,27 @@ fn reason(
         ≡ reason_text refusal.entry root.entry.0.now state.entry.0.now) }
 {
     match refusal {
-        RefusalMessage::NoCheckpoint => told_of(alloc, state, NO_CHECKPOINT),
-        RefusalMessage::HasReports => told_of(alloc, state, HAS_REPORTS),
-        RefusalMessage::NotCheckpoint => told_of(alloc, state, "/checkpoint is not a checkpoint."),
-        RefusalMessage::Version => told_of(alloc, state, "/checkpoint is of another version."),
-        RefusalMessage::Damaged => told_of(alloc, state, "/checkpoint is damaged."),
-        RefusalMessage::Malformed => told_of(alloc, state, "/checkpoint is malformed."),
-        RefusalMessage::OfScripts => told_of(alloc, state, OF_SCRIPTS),
-        RefusalMessage::NoRoot => told_of(alloc, root, NO_ROOT),
+        RefusalMessage::NoCheckpoint => said_of(alloc, state, NO_CHECKPOINT),
+        RefusalMessage::HasReports => said_of(alloc, state, HAS_REPORTS),
+        RefusalMessage::NotCheckpoint => said_of(alloc, state, "/checkpoint is not a checkpoint."),
+        RefusalMessage::Version => said_of(alloc, state, "/checkpoint is of another version."),
+        RefusalMessage::Damaged => said_of(alloc, state, "/checkpoint is damaged."),
+        RefusalMessage::Malformed => said_of(alloc, state, "/checkpoint is malformed."),
+        RefusalMessage::OfScripts => said_of(alloc, state, OF_SCRIPTS),
+        RefusalMessage::NoRoot => said_of(alloc, root, NO_ROOT),
         RefusalMessage::OtherRoot(bound) => other_root(alloc, bound, root, state),
         RefusalMessage::OtherDeclaration => other_declaration(alloc, root, state),
         RefusalMessage::OtherPart => other_part(alloc, root, state),
-        RefusalMessage::OtherAudit(further) => told_of(alloc, state, other_audit(further)),
+        RefusalMessage::OtherAudit(further) => said_of(alloc, state, other_audit(further)),
         RefusalMessage::NamesGone { gone, before } => names_gone(alloc, gone, before, root),
         RefusalMessage::Older { cycle } => older(alloc, cycle, state),
-        RefusalMessage::RootChanged => told_of(alloc, root, ROOT_CHANGED),
+        RefusalMessage::RootChanged => said_of(alloc, root, ROOT_CHANGED),
         RefusalMessage::Worn => worn(alloc, state),
     }
 }
 
 /// A path, and what is said of it.
-fn told_of(alloc: Global, path: Shown<'_>, words: &str) -> Result<String, AllocError>
+fn said_of(alloc: Global, path: Shown<'_>, words: &str) -> Result<String, AllocError>
     ensures { IfOk result (λ text. string_bytes text ≡ escape path.entry.0.now ++ words.now) }
 {
     format!(in alloc; "{path}{words}")

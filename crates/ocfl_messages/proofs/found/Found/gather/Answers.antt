@@ -5,4 +5,4 @@ use Rattle.ocfl_messages.proofs.found.Found.gather.Goals as goal
 
 pub returns-clause-gathered : goal.returns-clause-gathered
 returns-clause-gathered c =
-    on_ok_weaker c.take.result (λ takes fs s h. takes (is_unknown c.args.known.now) fs s (ap not (sym c.names-is_told.ensures)) h) c.take.ensures
+    on_ok_weaker c.take.result (λ takes fs s h. takes (is_unknown c.args.known.now) fs s (ap not (sym c.names-is_said.ensures)) h) c.take.ensures

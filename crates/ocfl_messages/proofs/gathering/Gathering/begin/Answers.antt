@@ -5,7 +5,7 @@ use Rattle.ocfl_messages.proofs.Gathered.{begins_anew}
 use Rattle.ocfl_messages.proofs.gathering.Gathering.begin.Goals as goal
 
 pub returns : goal.returns
-returns c = λ tells fs s h.
+returns c = λ says fs s h.
     let l = line_of c.args.line.now in
     let other : is_other s.head l ≡ true = ap (λ o. is_other o l) (sym h.head) ∙ sym c.is_other.ensures ∙ c.if-not-is_other.false in
-    begins_anew tells c.args.self.now _ fs s l other h (c.fill.ensures.found tells fs s h) (ap Some c.in_ok-try_clone.ensures) refl refl c.new.ensures
+    begins_anew says c.args.self.now _ fs s l other h (c.fill.ensures.found says fs s h) (ap Some c.in_ok-try_clone.ensures) refl refl c.new.ensures

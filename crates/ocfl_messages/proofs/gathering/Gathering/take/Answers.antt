@@ -5,7 +5,7 @@ use Rattle.ocfl_messages.proofs.gathering.Gathering.take.Goals as goal
 
 pub returns : goal.returns
 returns c =
-    on_ok_weaker c.keep_told.result
-    (λ keeps tells fs s e h.
-    line_gathered tells c.begin.new.self _ _ s (line_of c.args.line) (c.in_ok-begin.ensures tells fs s h) c.in_ok-count.ensures.right c.in_ok-count.ensures.wrong (λ gs ls. keeps tells gs ls e) refl refl)
-    c.keep_told.ensures
+    on_ok_weaker c.keep_said.result
+    (λ keeps says fs s e h.
+    line_gathered says c.begin.new.self _ _ s (line_of c.args.line) (c.in_ok-begin.ensures says fs s h) c.in_ok-count.ensures.right c.in_ok-count.ensures.wrong (λ gs ls. keeps says gs ls e) refl refl)
+    c.keep_said.ensures

@@ -1,14 +1,14 @@
 -- Which objects are back, by two searches.
-use Rattle.std.proofs.Common.{◌≡◌, ℕ, ◌≤◌, List, [], ◌∷◌, ◌++◌, Bool, true, false, ◌&&◌, cond, Option, Some, None, Result, Ok, Err, OnOk, IfOk, IfSome, Vec, Global, All, map, take, refl, sym, ap, subst, ◌∙◌, arith}
+use Rattle.std.proofs.Common.{◌≡◌, ℕ, ◌≤◌, List, [], ◌∷◌, ◌++◌, Bool, true, false, ◌&&◌, cond, Option, Some, Result, Ok, Err, IfOk, IfSome, Vec, Global, map, refl, sym, ap, subst, ◌∙◌, arith}
 use Rattle.std.specs.{Prelude.{◌==◌, filter, length, not}, List.{list_any}}
 use Rattle.std.proofs.lemmas.{Bool.{eqb-true, false≢true}, List.{nil_from_length}, List.Elements.{All-weaker, filter_agree}}
-use Rattle.ocfl_tree.specs.{Place.{Text, Place, place_cmp}, Ascending.{ascending, IsAmong}}
+use Rattle.ocfl_tree.specs.{Place.{Text, Place, place_cmp}, Ascending.{ascending}}
 use Rattle.ocfl_tree.proofs.Orders.{among_ascending, ascending_unique, ascends_ascending, ascends_filter, place_cmp_exact, place_cmp_total}
-use Rattle.ocfl_report.specs.{Line.{Line}, Text.{IsLine, lines_text}}
+use Rattle.ocfl_report.specs.{Line.{Line}, Text.{IsLine}}
 use Rattle.ocfl_report.proofs.{Bytes.{utf8_bytes}, LineTexts.{lines_text_determines}}
 use Rattle.ocfl_separators.specs.Splits.{HasText}
 use Rattle.ocfl_codes.specs.Kinds.{is_empty, tells_object}
-use Rattle.ocfl_compare.specs.{Changes.{is_left, lines_at}, Compared.{IsReport}, Expected.{IsSearched, is_missing, missing, missing_objects}, Seen.{Seen, changes_in, changes_seen}}
+use Rattle.ocfl_compare.specs.{Changes.{is_left, lines_at}, Compared.{IsReport}, Expected.{IsSearched, is_missing, missing, missing_objects}, Seen.{changes_seen}}
 use Rattle.ocfl_accounts.specs.{Causes.{HasCause}, Cycle.{Cycle}, Kept.{Kept}, declared.pair.Pair.{Pair}}
 use Rattle.ocfl_accounts.specs.declared.closings.ClosingStop.{ClosingStop}
 use Rattle.ocfl_accounts.specs.declared.closings.ClosingStop.TheVariants.{Failed, Output, Memory}

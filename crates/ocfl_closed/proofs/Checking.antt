@@ -1,7 +1,7 @@
 -- Reading on in a closed report that is checked.
-use Rattle.std.proofs.Common.{◌≡◌, ℕ, ◌+◌, ◌-◌, ◌<◌, ◌≤◌, ◌^◌, [], ◌∷◌, ◌++◌, Bool, true, false, IsTrue, Result, Ok, Err, IfOk, OnOk, length, take, drop, refl, sym, ap, subst, ◌∙◌, arith, ⊎_elim, eq-zero-or-pos, append_assoc, length-append}
+use Rattle.std.proofs.Common.{◌≡◌, ℕ, ◌+◌, ◌-◌, ◌<◌, ◌≤◌, ◌^◌, [], ◌++◌, Bool, true, false, IsTrue, Result, Ok, Err, IfOk, OnOk, length, take, drop, refl, sym, ap, subst, ◌∙◌, arith, ⊎_elim, eq-zero-or-pos, append_assoc, length-append}
 use Rattle.std.proofs.{Math.Bool.{Bool-set}, Math.Logic.{∥∥₁_elim, ∥∥₁_map}}
-use Rattle.std.proofs.lemmas.{Bool.{false≢true}, List.{drop-drop, length-drop, length-take, take-append-drop, take_all}}
+use Rattle.std.proofs.lemmas.{List.{drop-drop, length-drop, length-take, take-append-drop, take_all}}
 use Rattle.std.specs.Io.{KnownBytes.{Consumes, IsAtEnd, ReadConsumes}, ReadsAtMost}
 use Rattle.ocfl_tree.specs.Place.{Text}
 use Rattle.ocfl_state.specs.Calls.{IsReadOf}

@@ -13,3 +13,5 @@ mod Opened
 mod Lost
 mod Backing
 mod Partings
+mod ByPlaces
+mod HeldIn

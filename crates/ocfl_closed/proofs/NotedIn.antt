@@ -106,7 +106,7 @@ with_other q code kept l apart none = by (is_finding_code l.code)
     by true = kept_one (first_at l.place l.code kept)
 
 -- with all of these
-abbrev kept_lines : List Line → List Line → List Line
+abbrev pub kept_lines : List Line → List Line → List Line
 kept_lines kept [] = kept
 kept_lines kept (l ∷ ls) = kept_lines (kept_with kept l) ls
 
@@ -126,20 +126,24 @@ other_after q code kept (l ∷ ls) apart none =
 
 -- ---- along what is seen
 
-abbrev lines_of : Side → List Line → List Seen
+abbrev pub lines_of : Side → List Line → List Seen
 lines_of side ls = flat_map (λ l. line side l ∷ []) ls
 
-abbrev said_in : List Place → List Line → List Line → Place → List Change
+abbrev pub said_in : List Place → List Line → List Line → Place → List Change
 said_in left before now p = if is_left left p then [] else changes_at (is_in_shut before now p) (has_below p now) (lines_at p before) (lines_at p now)
 
+-- of a place the lines of both reports, and then some changes
+abbrev pub block : (Place → List Change) → List Line → List Line → Place → List Seen
+block says before now p = lines_of Before (lines_at p before) ++ (lines_of Now (lines_at p now) ++ shown p (says p))
+
 abbrev seen_in : List Place → List Line → List Line → Place → List Seen
-seen_in left before now p = lines_of Before (lines_at p before) ++ (lines_of Now (lines_at p now) ++ shown p (said_in left before now p))
+seen_in left before now p = block (said_in left before now) before now p
 
 -- all that is seen of two reports that are compared
 abbrev pub all_compared : List Place → List Line → List Line → List Seen
 all_compared left before now = flat_map (seen_in left before now) (places_of before now)
 
-abbrev kept_of : List Line → List Line → Kept
+abbrev pub kept_of : List Line → List Line → Kept
 kept_of b n = record { before = b; now = n }
 
 noted_before : (known : List KnownEntry) (b n ls : List Line) (rest : List Seen) → noted_from known (kept_of b n) (lines_of Before ls ++ rest) ≡ noted_from known (kept_of (kept_lines b ls) n) rest
@@ -150,7 +154,7 @@ noted_now : (known : List KnownEntry) (b n ls : List Line) (rest : List Seen) �
 noted_now known b n [] rest = refl
 noted_now known b n (l ∷ ls) rest = noted_now known b (kept_with n l) ls rest
 
-abbrev noted_at : List KnownEntry → List Line → List Line → Place → List Change → List Noted
+abbrev pub noted_at : List KnownEntry → List Line → List Line → Place → List Change → List Noted
 noted_at known b n p cs = map (λ c. noted_in known b n (change_at p c)) cs
 
 noted_shown : (known : List KnownEntry) (b n : List Line) (p : Place) (cs : List Change) (rest : List Seen)
@@ -203,24 +207,24 @@ still_fresh : (p : Place) (ps : List Place) (kept ls : List Line) → IsAscendin
 still_fresh p ps kept ls ascends fresh q among code =
     other_after q code kept (lines_at p ls) (apart_all p q ls (before_each place_cmp p ps ascends.0 q among)) (fresh q (inr among) code)
 
+pub noted_block : (known : List KnownEntry) (says : Place → List Change) (before now : List Line) (p : Place) (b n : List Line) (rest : List Seen)
+    → noted_from known (kept_of b n) (block says before now p ++ rest)
+    ≡ noted_at known (kept_lines b (lines_at p before)) (kept_lines n (lines_at p now)) p (says p)
+    ++ noted_from known (kept_of (kept_lines b (lines_at p before)) (kept_lines n (lines_at p now))) rest
+noted_block known says before now p b n rest =
+    let was = lines_of Before (lines_at p before) in
+    let is = lines_of Now (lines_at p now) in
+    ap (noted_from known (kept_of b n)) (append_assoc was (is ++ shown p (says p)) rest ∙ ap (λ s. was ++ s) (append_assoc is (shown p (says p)) rest))
+    ∙ noted_before known b n (lines_at p before) (is ++ (shown p (says p) ++ rest))
+    ∙ noted_now known (kept_lines b (lines_at p before)) n (lines_at p now) (shown p (says p) ++ rest)
+    ∙ noted_shown known (kept_lines b (lines_at p before)) (kept_lines n (lines_at p now)) p (says p) rest
+
 module _ (known : List KnownEntry) (left : List Place) (before now : List Line) where
   abbrev said : Place → List Change
   said p = said_in left before now p
 
   abbrev sights : List Place → List Seen
   sights ps = flat_map (seen_in left before now) ps
-
-  at_one : (p : Place) (b n : List Line) (rest : List Seen)
-      → noted_from known (kept_of b n) (seen_in left before now p ++ rest)
-      ≡ noted_at known (kept_lines b (lines_at p before)) (kept_lines n (lines_at p now)) p (said p)
-      ++ noted_from known (kept_of (kept_lines b (lines_at p before)) (kept_lines n (lines_at p now))) rest
-  at_one p b n rest =
-      let was = lines_of Before (lines_at p before) in
-      let is = lines_of Now (lines_at p now) in
-      ap (noted_from known (kept_of b n)) (append_assoc was (is ++ shown p (said p)) rest ∙ ap (λ s. was ++ s) (append_assoc is (shown p (said p)) rest))
-      ∙ noted_before known b n (lines_at p before) (is ++ (shown p (said p) ++ rest))
-      ∙ noted_now known (kept_lines b (lines_at p before)) n (lines_at p now) (shown p (said p) ++ rest)
-      ∙ noted_shown known (kept_lines b (lines_at p before)) (kept_lines n (lines_at p now)) p (said p) rest
 
   all_noted : (ps : List Place) (b n : List Line) → IsAscending place_cmp ps → AreFresh ps b → AreFresh ps n
       → noted_from known (kept_of b n) (sights ps) ≡ map (noted_in known before now) (flat_map (λ p. placed p (said p)) ps)
@@ -231,7 +235,7 @@ module _ (known : List KnownEntry) (left : List Place) (before now : List Line) 
       let own : noted_at known c m p (said p) ≡ map (noted_in known before now) (placed p (said p)) =
       same_noted known c m before now p (own_kept p ps b before was) (own_kept p ps n now is) (said p) ∙ noted_placed known before now p (said p) in
       let rest = all_noted ps c m ascends.1 (still_fresh p ps b before ascends was) (still_fresh p ps n now ascends is) in
-      at_one p b n (sights ps) ∙ (λ i. own i ++ rest i) ∙ sym (map-append (noted_in known before now) (placed p (said p)) (flat_map (λ q. placed q (said q)) ps))
+      noted_block known said before now p b n (sights ps) ∙ (λ i. own i ++ rest i) ∙ sym (map-append (noted_in known before now) (placed p (said p)) (flat_map (λ q. placed q (said q)) ps))
 
   -- by all lines of both reports
   pub noted_whole : noted_from known none_kept (all_compared left before now) ≡ map (noted_in known before now) (comparison left before now)

@@ -1,7 +1,7 @@
 -- Places without some of them.
 use Rattle.std.proofs.Common.{◌≡◌, ◌≢◌, List, [], ◌∷◌, ◌++◌, Bool, true, false, cond, All, refl, sym, ap, subst, ◌∙◌, append-nil}
 use Rattle.std.specs.Prelude.{filter, not}
-use Rattle.std.proofs.lemmas.{Bool.{false≢true}, List.Elements.{All-head, filter-append, filter_passes}}
+use Rattle.std.proofs.lemmas.{List.Elements.{All-head, filter-append, filter_passes}}
 use Rattle.ocfl_tree.specs.Place.{Place}
 
 -- how far they are gone through: the others that are left are those of the places that are left

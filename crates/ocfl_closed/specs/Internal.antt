@@ -2,7 +2,7 @@
 use Rattle.std.specs.{Prelude.{◌≡◌, ℕ, ◌+◌, ◌≤◌, ◌||◌, List, length, take}, List.{list_any}, Io.KnownBytes.{Appends}}
 use Rattle.ocfl_tree.specs.Place.{Text}
 use Rattle.ocfl_compare.specs.{Gone.{gone_text}, Seen.{Seen}}
-use Rattle.ocfl_words.specs.{Counted.{AreCounted, counted, is_news}, Noted.{changes_of}}
+use Rattle.ocfl_words.specs.{Counted.{AreCounted, counted, is_news}, News.{AreNews}, Noted.{changes_of}}
 use Rattle.ocfl_closed.specs.{Taken.{Stand}, Words.{Parts, all_of}}
 use Rattle.ocfl_state.specs.{Pieces.{Carries}, declared.pieces.ReportDigests.{ReportDigests}}
 pub mod Backs
@@ -26,7 +26,9 @@ pub record AllTaken (Are : Parts → Type 0) (old new : Stand) : Type 0 where
   pub parts : Parts
   pub are : Are parts
   pub list : Appends old.list new.list (gone_text (changes_of (all_of parts)))
-  pub since : AreCounted new.since (counted parts.since)
-  pub whole : AreCounted new.whole (counted parts.whole)
+  pub since : AreCounted new.since.changes (counted parts.since)
+  pub found : AreNews old.said parts.since parts.lines new.since.found
+  pub whole : AreCounted new.whole.changes (counted parts.whole)
+  pub again : AreNews old.said parts.whole parts.again new.whole.found
   pub missing : AreCounted new.noting (counted parts.missing)
   pub grave : new.is_grave ≡ (old.is_grave || list_any is_news (all_of parts))

@@ -1,7 +1,10 @@
 //! What was found of a closed cycle, and what is said of it.
-ghost use Rattle.std.specs.Prelude.{◌≡◌, ◌||◌, None, true, IfOk, length, string_bytes};
+ghost use Rattle.std.specs.Prelude.{◌≡◌, ◌||◌, List, None, false, true, IfOk, length, string_bytes};
+ghost use Rattle.ocfl_report.specs.Line.{Line as ModelLine};
+ghost use Rattle.ocfl_messages.specs.Tally.{IsTally};
 ghost use Rattle.ocfl_words.specs.Counted.{AreCounted, Counted, shown_of};
-ghost use Rattle.ocfl_closed.specs.Words.{HasText, IsClosing, beside_of, is_alone as is_alone_by};
+ghost use Rattle.ocfl_closed.specs.Words.{AreCountsOf, AreIn, HasText, IsClosing, News, beside_of};
+ghost use Rattle.ocfl_closed.specs.Words.{is_alone as is_alone_by};
 ghost use Rattle.ocfl_closed.specs.Words.{gone_report_text, missing_text as missing_words, number_of};
 ghost use Rattle.ocfl_closed.specs.Words.{replaced_report_text};
 ghost use Rattle.ocfl_closed.specs.Words.{whole_missing_text as whole_missing_words, why_text};
@@ -132,7 +135,9 @@ pub fn compared_whole(pair: &Pair) -> u64
 
 /// What the report counts. That of a part is not said, and that of lost lines is not known.
 fn counts_of(pair: &Pair, is_part: bool, findings: &Findings) -> Option<Counts>
-    ensures { (pair.now.closed.lost || is_part) ≡ true → result ≡ None }
+    ensures none { (pair.now.closed.lost || is_part) ≡ true → result ≡ None }
+    ensures counts { (ls : List ModelLine) → (pair.now.closed.lost || is_part) ≡ false
+        → IsTally findings.now.tally ls → AreCountsOf result ls }
 {
     if pair.closed.is_lost() || is_part {
         return None;
@@ -149,11 +154,11 @@ pub fn count_of(places: &[Place]) -> u64
 
 /// What a closing has of a closed cycle of which this was found.
 fn closing_of<'a>(with: &SaidWith<'a>, pair: &Pair, account: &'a Account) -> Closing<'a>
-    ensures { (w : Counted) → AreCounted account.now.changes w
-        → account.now.gone.items ≡ shown_of w
+    ensures { (w : Counted) (n : News) → AreCounted account.now.changes w
+        → account.now.gone.items ≡ shown_of w → AreIn account.now.findings n
         → string_bytes account.now.why ≡ why_text with.entry.now.state.now pair.now
         → IsClosing (beside_of with.entry.now account.now.made.runs account.now.back.items)
-        pair.now w result }
+        pair.now w n result }
 {
     let changes = &account.changes;
     Closing {
@@ -188,11 +193,12 @@ pub(crate) fn text_of(
     pair: &Pair,
     account: &Account,
 ) -> Result<Vec<u8>, AllocError>
-    ensures { (w : Counted) → AreCounted account.now.changes w
-        → account.now.gone.items ≡ shown_of w
+    ensures { (w : Counted) (n : News) → AreCounted account.now.changes w
+        → account.now.gone.items ≡ shown_of w → AreIn account.now.findings n
         → string_bytes account.now.why ≡ why_text with.now.state.now pair.now
         → IfOk result (λ text. HasText
-        (beside_of with.now account.now.made.runs account.now.back.items) pair.now w text.items) }
+        (beside_of with.now account.now.made.runs account.now.back.items)
+        pair.now w n text.items) }
 {
     let closing = closing_of(with, pair, account);
     let text = closing_text(alloc, &closing)?;

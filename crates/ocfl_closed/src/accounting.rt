@@ -3,21 +3,20 @@ ghost use Rattle.std.specs.Prelude.{◌≡◌, IsTrue, IfOk, OnOk, string_bytes}
 ghost use Rattle.ocfl_accounts.specs.Causes.{HasCause};
 ghost use Rattle.ocfl_words.specs.Counted.{AreCounted, Counted, joined, shown_of};
 ghost use Rattle.ocfl_closed.specs.{Back.{AreBack}, Cut.{Still}, Files.{kept_of}};
-ghost use Rattle.ocfl_closed.specs.Words.{runs_in, why_text};
+ghost use Rattle.ocfl_closed.specs.Words.{AreIn, AreNewsOf, News, runs_in, why_text};
 
 use crate::account::{Account, CycleMade, why_not};
 use crate::back::find_back;
 use crate::disk::ClosedDisk;
 use crate::looking::read_kept;
-use crate::opening::open_reader;
-use crate::words::{SaidWith, Words};
+use crate::words::{SaidWith, Words, part_of};
 use ocfl_accounts::{ClosingStop, Pair};
 use ocfl_tree::Place;
-use ocfl_words::{ChangedLines, Changes, Findings, Noting, Part, find_lines, named_in};
+use ocfl_words::Part;
 use std::alloc::{AllocError, Global};
 
-/// All that was found of a closed cycle by these words. Of one whose report lost lines no finding is
-/// counted, and no object looked for.
+/// All that was found of a closed cycle by these words. Of one whose report lost lines no object is
+/// looked for.
 pub(crate) fn account_of<D: ClosedDisk>(
     alloc: Global,
     disk: &mut D,
@@ -28,6 +27,8 @@ pub(crate) fn account_of<D: ClosedDisk>(
     ensures changes { (v w x : Counted) → AreCounted words.entry.since.changes v
         → AreCounted words.entry.noting.changes w → AreCounted words.entry.whole.changes x
         → IfOk result (λ a. AreCounted a.changes (joined (joined v w) x)) }
+    ensures found { (n : News) → AreNewsOf words.entry.since.found words.entry.whole.found n
+        → IfOk result (λ a. AreIn a.findings n) }
     ensures gone { IfOk result (λ a. (w : Counted) → AreCounted a.changes w
         → a.gone.items ≡ shown_of w) }
     ensures why { IfOk result (λ a. string_bytes a.why ≡ why_text with.now.state.now pair.now) }
@@ -50,9 +51,8 @@ pub(crate) fn account_of<D: ClosedDisk>(
         whole,
         listed,
     } = words;
-    let last = noting.take_part();
-    let findings = find_new(alloc, disk, pair, noting, &since.lines, &whole.lines)?;
-    let Ok(changes) = changes_in(since, last, whole) else {
+    let last = part_of(&mut noting)?;
+    let Ok(Part { changes, found }) = join_parts(since, last, whole) else {
         return Err(ClosingStop::Memory);
     };
     let Ok(gone) = changes.gone(alloc) else {
@@ -64,80 +64,37 @@ pub(crate) fn account_of<D: ClosedDisk>(
         made: CycleMade::by(&kept),
         changes,
         gone,
-        findings,
+        findings: found,
         back,
         listed,
         paths,
     })
 }
 
-/// All changes of three comparisons of one report.
-fn changes_in(since: Part, listed: Part, whole: Part) -> Result<Changes, AllocError>
-    ensures { (v w x : Counted) → AreCounted since.changes v → AreCounted listed.changes w
+/// All changes of three comparisons of one report, and what is found of it in those with others.
+fn join_parts(since: Part, listed: Part, whole: Part) -> Result<Part, AllocError>
+    ensures changes { (v w x : Counted) → AreCounted since.changes v → AreCounted listed.changes w
         → AreCounted whole.changes x
-        → IfOk result (λ changes. AreCounted changes (joined (joined v w) x)) }
+        → IfOk result (λ all. AreCounted all.changes (joined (joined v w) x)) }
+    ensures found { (n : News) → AreNewsOf since.found whole.found n
+        → IfOk result (λ all. AreIn all.found n) }
 {
-    let Part { mut changes, .. } = since;
+    let Part {
+        mut changes,
+        mut found,
+    } = since;
     let Part {
         changes: mut missing,
         ..
     } = listed;
     let Part {
         changes: mut again,
-        ..
+        found: mut more,
     } = whole;
     changes.join(&mut missing)?;
     changes.join(&mut again)?;
-    Ok(changes)
-}
-
-/// What the report has of findings that are new; nothing if lines of it were lost. The report is read
-/// for that unless its lines were counted while it was compared.
-fn find_new<D: ClosedDisk>(
-    alloc: Global,
-    disk: &mut D,
-    pair: &Pair,
-    noting: Noting<'_>,
-    since: &ChangedLines,
-    whole: &ChangedLines,
-) -> Result<Findings, ClosingStop>
-    ensures still { IsTrue D.told → Still (D.state disk.old) (D.state disk.new) }
-    ensures cause { IsTrue D.told
-        → HasCause (D.state disk.old).faults (D.state disk.new).faults result }
-{
-    if pair.closed.is_lost() {
-        return Ok(Findings::new(alloc));
-    }
-    let mut noting = noting;
-    match noting.take_found() {
-        Ok(Some(found)) => Ok(found),
-        Ok(None) => find_again(alloc, disk, pair, &noting, since, whole),
-        Err(_) => Err(ClosingStop::Memory),
-    }
-}
-
-/// The same by another reading of the report.
-fn find_again<D: ClosedDisk>(
-    alloc: Global,
-    disk: &mut D,
-    pair: &Pair,
-    noting: &Noting<'_>,
-    since: &ChangedLines,
-    whole: &ChangedLines,
-) -> Result<Findings, ClosingStop>
-    ensures still { IsTrue D.told → Still (D.state disk.old) (D.state disk.new) }
-    ensures cause { IsTrue D.told
-        → HasCause (D.state disk.old).faults (D.state disk.new).faults result }
-{
-    let cycle = pair.closed.cycle();
-    let Ok(named) = named_in(alloc, since, whole) else {
-        return Err(ClosingStop::Memory);
-    };
-    let mut report = open_reader(alloc, disk, cycle)?;
-    match find_lines(alloc, &mut report, &named, noting.known(), noting.said()) {
-        Ok(found) => Ok(found),
-        Err(error) => Err(disk.refuse_lines(cycle, error)),
-    }
+    found.join(&mut more)?;
+    Ok(Part { changes, found })
 }
 
 /// The objects that are back; none of a cycle whose report lost lines.

@@ -130,8 +130,14 @@ pub trait ClosedDisk {
         ensures still { IsTrue told → Still (state self.old) (state self.new) }
         ensures cause { IsTrue told → IsCause (state self.old).faults (state self.new).faults result };
 
-    /// Keeps why the lines of the report of a cycle were not counted.
-    fn refuse_lines(&mut self, cycle: u64, error: io::Error) -> ClosingStop
+    /// Keeps why the lines of the report of a cycle were not counted, which is compared with none;
+    /// and why a read of it failed, if that is why.
+    fn refuse_lines(
+        &mut self,
+        cycle: u64,
+        stop: CompareStop,
+        error: Option<io::Error>,
+    ) -> ClosingStop
         ensures still { IsTrue told → Still (state self.old) (state self.new) }
         ensures cause { IsTrue told → IsCause (state self.old).faults (state self.new).faults result };
 

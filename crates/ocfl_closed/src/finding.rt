@@ -1,17 +1,18 @@
 //! What changed in a closed cycle, and the list of what is gone.
-ghost use Rattle.std.specs.Prelude.{◌≡◌, ◌++◌, [], true, IsTrue, IfOk, IsOkUnless, OnOk, Some};
+ghost use Rattle.std.specs.Prelude.{◌≡◌, ◌++◌, [], true, IsTrue, IfOk, IsOkUnless, None, OnOk, Some};
 ghost use Rattle.ocfl_tree.specs.Place.{Text};
 ghost use Rattle.ocfl_compare.specs.{Compared.{IsCompared}, Expected.{IsSearched}};
 ghost use Rattle.ocfl_accounts.specs.Causes.{HasCause, IsCause};
 ghost use Rattle.ocfl_accounts.specs.Changes.{Finds};
 ghost use Rattle.ocfl_words.specs.Counted.{AreCounted, Counted, counted, joined};
-ghost use Rattle.ocfl_words.specs.Kept.{kept_by, none_kept};
+ghost use Rattle.ocfl_words.specs.{Held.{HasFound, AreHeld, none_held}, Kept.{kept_by, none_kept}};
 ghost use Rattle.ocfl_closed.specs.{Back.{AreBack}, Cut.{Calm, Still}, Files.{kept_of}};
 ghost use Rattle.ocfl_closed.specs.Taken.{HasTaken};
 ghost use Rattle.ocfl_closed.specs.Unchanged.{AreAllUnchanged, AreUnchanged, IsBeforeUnchanged};
 ghost use Rattle.ocfl_closed.specs.Unchanged.{IsUnchangedSince, IsWholeUnchanged};
 ghost use Rattle.ocfl_closed.specs.Unchanged.{is_unchanged};
-ghost use Rattle.ocfl_closed.specs.Words.{AreOf, AreParts, HasText, beside_of, runs_in};
+ghost use Rattle.ocfl_closed.specs.Words.{AreNewsOf, AreOf, AreParts, HasText, News, beside_of};
+ghost use Rattle.ocfl_closed.specs.Words.{runs_in};
 ghost use Rattle.ocfl_closed.specs.{Words.{said_beside}, Internal.{Took, AllTaken}};
 ghost use Rattle.ocfl_closed.specs.Internal.SeenOf.{IsSeenMissing, IsSeenSince, IsSeenSinceWhole};
 ghost use Rattle.ocfl_closed.specs.Internal.Stands.{stand_of};
@@ -63,7 +64,7 @@ pub fn find_changes<D: ClosedDisk>(
     let list = disk.make_list(pair.closed.cycle())?;
     let taking = Taking {
         list: GoneList::new(alloc, list),
-        words: Words::new(alloc, with, pair),
+        words: Words::new(alloc, with),
         is_grave: false,
     };
     let taking = take_changes(alloc, disk, pair, taking)?;
@@ -81,11 +82,12 @@ fn end_changes<D: ClosedDisk>(
 ) -> Result<Told, ClosingStop>
     ensures list { IsTrue D.told → OnOk result ((bytes : Text)
         → D.List.contents taking.entry.list.out ≡ Some bytes → (D.state disk.new).beside ≡ bytes) }
-    ensures text { IsTrue D.told → IfOk result (λ it. (v w x : Counted)
+    ensures text { IsTrue D.told → IfOk result (λ it. (v w x : Counted) (n : News)
         → AreCounted taking.entry.words.since.changes v → AreCounted taking.entry.words.noting.changes w
-        → AreCounted taking.entry.words.whole.changes x → HasText
+        → AreCounted taking.entry.words.whole.changes x
+        → AreNewsOf taking.entry.words.since.found taking.entry.words.whole.found n → HasText
         (beside_of with.now (runs_in (D.state disk.old).files pair.now) it.account.back.items)
-        pair.now (joined (joined v w) x) it.found.text.items) }
+        pair.now (joined (joined v w) x) n it.found.text.items) }
     ensures back { IsTrue D.told → IfOk result (λ it.
         AreBack (kept_of (D.state disk.old).files) pair.now it.account.back.items) }
     ensures grave { IfOk result (λ it. it.found.is_grave ≡ taking.entry.is_grave) }
@@ -110,7 +112,6 @@ fn end_changes<D: ClosedDisk>(
 }
 
 /// Takes the changes of a closed cycle; none of one whose report lost lines.
-#[tactic(auto, using(crate::proofs::Findings::taken_of_kept))]
 fn take_changes<'n, D: ClosedDisk>(
     alloc: Global,
     disk: &mut D,
@@ -118,8 +119,11 @@ fn take_changes<'n, D: ClosedDisk>(
     taking: Taking<'n, D::List>,
 ) -> Result<Taking<'n, D::List>, ClosingStop>
     requires since { AreCounted taking.words.since.changes (counted []) }
+    requires found { HasFound taking.words.since.found none_held }
     requires whole { AreCounted taking.words.whole.changes (counted []) }
+    requires again { HasFound taking.words.whole.found none_held }
     requires noting { AreCounted taking.words.noting.changes (counted []) }
+    requires lines { AreHeld taking.words.noting.lines none_held }
     requires kept { kept_by taking.words.noting ≡ none_kept }
     ensures taken { IsTrue D.told → IfOk result (λ after. AllTaken
         (AreParts taking.entry.words.noting.known.now (kept_of (D.state disk.old).files) pair.now)
@@ -144,7 +148,9 @@ fn take_all<'n, D: ClosedDisk>(
     pair: &Pair,
     taking: Taking<'n, D::List>,
 ) -> Result<Taking<'n, D::List>, ClosingStop>
+    requires again { HasFound taking.words.whole.found none_held }
     requires noting { AreCounted taking.words.noting.changes (counted []) }
+    requires lines { AreHeld taking.words.noting.lines none_held }
     requires kept { kept_by taking.words.noting ≡ none_kept }
     ensures taken { IsTrue D.told → IfOk result (λ after. AllTaken
         (AreOf taking.entry.words.noting.known.now (kept_of (D.state disk.old).files) pair.now)
@@ -156,25 +162,25 @@ fn take_all<'n, D: ClosedDisk>(
     ensures cause { IsTrue D.told
         → HasCause (D.state disk.old).faults (D.state disk.new).faults result }
 {
-    let mut taking = taking;
-    take_since(alloc, disk, pair, &mut taking)?;
-    taking.words.end_since();
+    let mut taking = take_since(alloc, disk, pair, taking)?;
+    taking.words.end_since()?;
     let mut taking = take_since_whole(alloc, disk, pair, taking)?;
-    taking.words.end_whole();
+    taking.words.end_whole()?;
     take_missing(alloc, disk, pair, &mut taking)?;
     Ok(taking)
 }
 
-/// Takes the changes since the report before, outside of what either left out.
-fn take_since<D: ClosedDisk, T: TakeChange>(
+/// Takes the changes since the report before, outside of what either left out; without one, the
+/// lines of the report alone.
+fn take_since<D: ClosedDisk, T: TakeChange + Drop>(
     alloc: Global,
     disk: &mut D,
     pair: &Pair,
-    taker: &mut T,
-) -> Result<(), ClosingStop>
-    ensures taken { IsTrue D.told → OnOk result (Took
+    taker: T,
+) -> Result<T, ClosingStop>
+    ensures taken { IsTrue D.told → IfOk result (λ after. Took
         (IsSeenSince (kept_of (D.state disk.old).files) pair.now.closed pair.now.before)
-        (λ seen. T.takes taker.old seen taker.new)) }
+        (λ seen. T.takes taker seen after)) }
     ensures unchanged { IsTrue D.told
         → OnOk result (IsBeforeUnchanged (D.state disk.old).files pair.now) }
     ensures still { IsTrue D.told → Still (D.state disk.old) (D.state disk.new) }
@@ -183,30 +189,84 @@ fn take_since<D: ClosedDisk, T: TakeChange>(
 {
     match &pair.before {
         Some(before) => compare_before(alloc, disk, pair, before, taker),
-        None => Ok(()),
+        None => see_lines(alloc, disk, pair, taker),
     }
 }
 
 /// Takes the changes since this report before.
 #[tactic(auto, using(crate::proofs::Findings::since_of))]
-fn compare_before<D: ClosedDisk, T: TakeChange>(
+fn compare_before<D: ClosedDisk, T: TakeChange + Drop>(
     alloc: Global,
     disk: &mut D,
     pair: &Pair,
     before: &ClosedCycle,
-    taker: &mut T,
-) -> Result<(), ClosingStop>
-    ensures taken { IsTrue D.told → OnOk result (Took
+    taker: T,
+) -> Result<T, ClosingStop>
+    ensures taken { IsTrue D.told → IfOk result (λ after. Took
         (IsSeenSince (kept_of (D.state disk.old).files) pair.now.closed (Some before.now))
-        (λ seen. T.takes taker.old seen taker.new)) }
+        (λ seen. T.takes taker seen after)) }
     ensures unchanged { IsTrue D.told
         → OnOk result (IsUnchangedSince (D.state disk.old).files pair.now before.now.cycle) }
     ensures still { IsTrue D.told → Still (D.state disk.old) (D.state disk.new) }
     ensures cause { IsTrue D.told
         → HasCause (D.state disk.old).faults (D.state disk.new).faults result }
 {
+    let mut taker = taker;
     let left = left_by_both(alloc, &pair.closed, before)?;
-    compare_with(alloc, disk, pair, before.cycle(), &left, taker)
+    compare_with(alloc, disk, pair, before.cycle(), &left, &mut taker)?;
+    Ok(taker)
+}
+
+/// Takes the lines of the report, which is compared with none: of no place is a change taken.
+fn see_lines<D: ClosedDisk, T: TakeChange + Drop>(
+    alloc: Global,
+    disk: &mut D,
+    pair: &Pair,
+    taker: T,
+) -> Result<T, ClosingStop>
+    ensures taken { IsTrue D.told → IfOk result (λ after. Took
+        (IsSeenSince (kept_of (D.state disk.old).files) pair.now.closed None)
+        (λ seen. T.takes taker seen after)) }
+    ensures still { IsTrue D.told → Still (D.state disk.old) (D.state disk.new) }
+    ensures cause { IsTrue D.told
+        → HasCause (D.state disk.old).faults (D.state disk.new).faults result }
+{
+    let mut within = Within {
+        places: Vec::new(alloc),
+        taker,
+    };
+    see_all(alloc, disk, pair, &mut within)?;
+    let Within {
+        places: _places,
+        taker,
+    } = within;
+    Ok(taker)
+}
+
+/// Takes the lines of the report, with all of them as changes since an empty report.
+fn see_all<D: ClosedDisk, T: TakeChange>(
+    alloc: Global,
+    disk: &mut D,
+    pair: &Pair,
+    taker: &mut T,
+) -> Result<(), ClosingStop>
+    ensures taken { IsTrue D.told → OnOk result (IsCompared pair.now.closed.left []
+        ((kept_of (D.state disk.old).files).reports pair.now.closed.cycle)
+        (λ seen. T.takes taker.old seen taker.new)) }
+    ensures still { IsTrue D.told → Still (D.state disk.old) (D.state disk.new) }
+    ensures cause { IsTrue D.told
+        → HasCause (D.state disk.old).faults (D.state disk.new).faults result }
+{
+    let cycle = pair.closed.cycle();
+    let mut none: &[u8] = &[];
+    let mut report = open_reader(alloc, disk, cycle)?;
+    match compare(alloc, &mut none, &mut report, pair.closed.left(), taker) {
+        Ok(()) => Ok(()),
+        Err(stop) => {
+            let error = report.get_ref().error();
+            Err(disk.refuse_lines(cycle, stop, error))
+        }
+    }
 }
 
 /// The places that two reports left out.

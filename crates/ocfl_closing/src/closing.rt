@@ -403,9 +403,14 @@ impl<R: Room + Clock + Eprint, F: Folder> ClosedDisk for Telling<'_, '_, R, F> {
         ClosingStop::Failed
     }
 
-    fn refuse_lines(&mut self, cycle: u64, error: io::Error) -> ClosingStop {
+    fn refuse_lines(
+        &mut self,
+        cycle: u64,
+        stop: CompareStop,
+        error: Option<io::Error>,
+    ) -> ClosingStop {
         let state = self.told.about.names.state;
-        self.failure = Some(uncounted(self.rt.global(), state, cycle, error));
+        self.failure = Some(uncounted(self.rt.global(), state, cycle, stop, error));
         ClosingStop::Failed
     }
 

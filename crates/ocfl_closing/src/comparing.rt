@@ -89,9 +89,18 @@ pub(crate) fn refuse_changed_pair<F: Folder>(
 }
 
 /// That the lines of the report of a cycle could not be counted.
-pub(crate) fn uncounted(alloc: Global, state: &str, cycle: u64, error: io::Error) -> Failure {
-    Failure::saying(format!(in alloc;
-        "the report of cycle {cycle} in {}: {error}\n",
-        Shown(state)
-    ))
+pub(crate) fn uncounted(
+    alloc: Global,
+    state: &str,
+    cycle: u64,
+    stop: CompareStop,
+    error: Option<io::Error>,
+) -> Failure {
+    match words_of(alloc, stop, error) {
+        Ok(words) => Failure::saying(format!(in alloc;
+            "the report of cycle {cycle} in {}: {words}\n",
+            Shown(state)
+        )),
+        Err(error) => Failure::from(error),
+    }
 }

@@ -1,3 +1,5 @@
 mod Firsts
 mod KeptLines
+pub mod Marking
 mod Shown
+mod Settling

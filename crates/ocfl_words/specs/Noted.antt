@@ -77,10 +77,11 @@ is_known_in known now c = by c.change
 abbrev pub noted_in : List KnownEntry → List Line → List Line → ChangeAt → Noted
 noted_in known before now c = noted c (line_in before now c) (is_known_in known now c)
 
--- of all changes between the reports with these bytes, outside of these places
-pub record AreNoted (known : List KnownEntry) (left : List Place) (b n : Text) (Are : List Noted → Type 0) : Type 0 where
+-- of all changes between the reports with these bytes, outside of these places, with the lines of this
+-- one
+pub record AreNoted (known : List KnownEntry) (left : List Place) (b n : Text) (Are : List Noted → List Line → Type 0) : Type 0 where
   pub before : List Line
   pub now : List Line
   pub is_before : IsReport b before
   pub is_now : IsReport n now
-  pub are : Are (map (noted_in known before now) (comparison left before now))
+  pub are : Are (map (noted_in known before now) (comparison left before now)) now

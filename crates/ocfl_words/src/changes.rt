@@ -212,7 +212,7 @@ fn moved_by(change: Change) -> Moved
 }
 
 /// One, if something counts.
-fn one_if(counts: bool) -> u64
+pub(crate) fn one_if(counts: bool) -> u64
     ensures { result ≡ (if counts then 1 else 0) }
 {
     if counts { 1 } else { 0 }
@@ -304,7 +304,7 @@ fn is_repaired(change: Change) -> bool
 }
 
 /// Whether a change is a finding that is new and not known.
-fn is_new(change: Change, is_known: bool) -> bool
+pub(crate) fn is_new(change: Change, is_known: bool) -> bool
     ensures { (p : ModelPlace) (line : Option ModelLine)
         → result ≡ is_new_finding (noted (change_at p change) line is_known) }
 {

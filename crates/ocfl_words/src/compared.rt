@@ -1,98 +1,107 @@
 //! Counting the lines of a report while it is compared with one before.
+ghost use Rattle.std.specs.Prelude.{◌≡◌, ◌∷◌, [], map, IfOk, OnOk};
+ghost use Rattle.ocfl_report.specs.Line.{line_of};
+ghost use Rattle.std.specs.List.{list_any};
+ghost use Rattle.ocfl_words.specs.News.{is_among, is_same_line};
 
-use crate::counting::{Counting, Findings};
-use crate::lines::copy_of;
-use ocfl_messages::Known;
-use ocfl_report::{Code, Line};
-use ocfl_tree::Place;
+use crate::changes::one_if;
+use crate::findings::Findings;
+use crate::lines::is_same;
+use crate::marked::MarkedLines;
+use crate::missing::add_count;
+use ocfl_messages::Tally;
+use ocfl_report::Line;
 use std::alloc::{AllocError, Global};
-use std::mem;
 
-/// A line that waits for the changes of its place.
-#[derive(Drop)]
-struct Waiting {
-    line: Line,
-    is_told: bool,
+/// Whether one of the lines says the same of the same place.
+fn have_same(lines: &[Line], line: &Line) -> bool
+    ensures { result ≡ is_among (map line_of lines.now) (line_of line.now) }
+{
+    has_same(lines, line)
 }
 
-/// Counts the lines of a report while it is compared. Only the changes of a place, which come after
-/// its lines, say which of them are new: from its first finding on they wait for that.
-#[derive(Drop)]
-pub(crate) struct ComparedLines<'a> {
-    alloc: Global,
-    counting: Counting<'a>,
-    /// Lines of the last place.
-    waiting: Vec<Waiting>,
+fn has_same(lines: &[Line], line: &Line) -> bool
+    ensures { result ≡ list_any (λ l. is_same_line (line_of line.now) (line_of l)) lines.now }
+{
+    lines.iter().any(|one| is_same(line, one))
 }
 
-impl<'a> ComparedLines<'a> {
-    /// Before the first line. `said` are the findings that were said already.
-    pub(crate) fn new(alloc: Global, known: &'a Known, said: &'a [Line]) -> ComparedLines<'a> {
+/// The lines of a report while it is compared: what they count, and which findings are to be said.
+pub(crate) struct ComparedLines {
+    lines: MarkedLines,
+    tally: Tally,
+    /// How many findings came.
+    count: u64,
+    /// How many new ones came that were said before.
+    again: u64,
+}
+
+/// Written by hand, so that to let it go is one call wherever that happens.
+impl Drop for ComparedLines {
+    fn drop(self) {
+        let ComparedLines {
+            lines: _lines,
+            tally: _tally,
+            count: _count,
+            again: _again,
+        } = self;
+    }
+}
+
+impl ComparedLines {
+    ghost use Rattle.ocfl_words.specs.Held.{HasFound, AreHeld, Held, held_new, held_with};
+    ghost use Rattle.ocfl_words.specs.Held.{none_held};
+
+    /// Before the first line.
+    pub(crate) fn new(alloc: Global) -> ComparedLines
+        ensures { AreHeld result none_held }
+    {
         ComparedLines {
-            alloc,
-            counting: Counting::new(alloc, known, said),
-            waiting: Vec::new(alloc),
+            lines: MarkedLines::new(alloc),
+            tally: Tally::new(),
+            count: 0,
+            again: 0,
         }
     }
 
-    /// Takes the next line.
-    pub(crate) fn take(&mut self, line: &Line) -> Result<(), AllocError> {
-        if !self.waits_at(&line.place) {
-            self.settle()?;
-        }
-        self.counting.count(line)?;
-        if self.waiting.is_empty() && !line.is_finding() {
-            return self.counting.gathering.pass(line);
-        }
-        self.waiting.push(Waiting {
-            line: copy_of(line)?,
-            is_told: false,
-        })?;
-        Ok(())
+    /// Takes the next line. It is not used again if memory runs out.
+    pub(crate) fn take(&mut self, alloc: Global, line: &Line) -> Result<(), AllocError>
+        ensures { OnOk result ((h : Held) → AreHeld self.old h
+            → AreHeld self.new (held_with h (line_of line.now))) }
+    {
+        self.tally.add(line)?;
+        self.count = add_count(self.count, one_if(line.is_finding()));
+        self.lines.take(alloc, line)
     }
 
-    /// Whether lines of a place wait.
-    fn waits_at(&self, place: &Place) -> bool {
-        match self.waiting.first() {
-            Some(waiting) => waiting.line.place == *place,
-            None => false,
-        }
-    }
-
-    /// Ends the place whose lines wait.
-    fn settle(&mut self) -> Result<(), AllocError> {
-        if self.waiting.is_empty() {
-            return Ok(());
-        }
-        let waiting = mem::replace(&mut self.waiting, Vec::new(self.alloc));
-        for Waiting { line, is_told } in waiting {
-            self.counting.gathering.take(line, is_told)?;
-        }
-        Ok(())
-    }
-
-    /// Names the first line of a place with a code, which is new.
-    pub(crate) fn name(&mut self, code: Code, place: &Place) {
-        if !self.waits_at(place) {
-            return;
-        }
-        for waiting in self.waiting.iter_mut() {
-            if waiting.line.code == code {
-                waiting.is_told = self.counting.count_named(&waiting.line);
-                return;
-            }
+    /// Takes a finding of the last place that is new and not known, after all lines of the place. It
+    /// is to be said, unless it is one of those that were said before.
+    pub(crate) fn name(&mut self, before: &[Line], line: &Line)
+        ensures { (h : Held) → AreHeld self.old h
+            → AreHeld self.new (held_new (map line_of before.now) h (line_of line.now ∷ [])) }
+    {
+        if have_same(before, line) {
+            self.again = add_count(self.again, 1);
+        } else {
+            self.lines.name(line);
         }
     }
 
     /// What was found in all lines of the report.
-    pub(crate) fn into_found(self) -> Result<Findings, AllocError> {
-        let mut lines = self;
-        lines.settle()?;
+    pub(crate) fn into_found(self, alloc: Global) -> Result<Findings, AllocError>
+        ensures { IfOk result (λ found. (h : Held) → AreHeld self h → HasFound found h) }
+    {
         let ComparedLines {
-            alloc: _alloc,
-            counting,
-            waiting: _waiting,
-        } = lines;
-        Ok(counting.into_found())
+            lines,
+            tally,
+            count,
+            again,
+        } = self;
+        Ok(Findings {
+            count,
+            said: again,
+            gravest: lines.end(alloc)?,
+            tally,
+        })
     }
 }

@@ -2,34 +2,19 @@
 ghost use Rattle.std.specs.Prelude.{◌≡◌, ◌&&◌, is_some, map, OnOk};
 ghost use Rattle.std.specs.List.{find};
 ghost use Rattle.std.specs.Option.{option_map};
-ghost use Rattle.ocfl_tree.specs.Place.{place_eq};
 ghost use Rattle.ocfl_report.specs.Line.{line_of};
-ghost use Rattle.ocfl_compare.specs.Changes.{change_at, is_code as is_that_code, lines_at};
+ghost use Rattle.ocfl_compare.specs.Changes.{change_at, lines_at};
 ghost use Rattle.ocfl_words.specs.Counted.{is_found as is_found_change};
 ghost use Rattle.ocfl_words.specs.Noted.{first_at, is_finding_at as is_that_finding, is_named};
 ghost use Rattle.ocfl_words.specs.Noted.{line_in};
 ghost use Rattle.ocfl_words.specs.Kept.{kept_with, with_finding};
 
-use crate::lines::copy_of;
+use crate::lines::{copy_of, is_code, is_place};
 use ocfl_compare::Change;
 use ocfl_messages::Known;
 use ocfl_report::{Code, Line};
-use ocfl_tree::{Place, is_text};
+use ocfl_tree::Place;
 use std::alloc::AllocError;
-
-/// Whether two codes are the same.
-fn is_code(code: Code, other: Code) -> bool
-    ensures { result ≡ is_that_code code other }
-{
-    is_text(code.text(), other.text())
-}
-
-/// Whether two places are the same.
-fn is_place(place: &Place, other: &Place) -> bool
-    ensures { result ≡ place_eq place.now other.now }
-{
-    place.cmp(other).is_eq()
-}
 
 /// Whether a line is a finding of a code at a place.
 fn is_finding_at(line: &Line, code: Code, place: &Place) -> bool

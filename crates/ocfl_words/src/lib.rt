@@ -3,21 +3,18 @@
 
 mod changes;
 mod compared;
-mod counting;
-mod finding;
+mod findings;
 mod keeping;
 mod lines;
+mod marked;
 mod missing;
 mod noting;
 mod places;
-mod reading;
 mod repaired;
 
 pub use changes::Changes;
-pub use counting::Findings;
-pub use finding::find_lines;
-pub use lines::{CLEAN, error_of, line_of};
+pub use findings::Findings;
+pub use lines::error_of;
 pub use missing::Missing;
-pub use noting::{ChangedLines, Noting, Part, named_in};
+pub use noting::{Noting, Part};
 pub use places::count_places;
-pub use reading::{TakeLine, take_lines};

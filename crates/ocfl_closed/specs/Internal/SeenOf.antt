@@ -5,9 +5,10 @@ use Rattle.ocfl_compare.specs.{Compared.{IsCompared}, Expected.{IsSearched}, See
 use Rattle.ocfl_accounts.specs.{Cycle.{Cycle}, Kept.{Kept}}
 use Rattle.ocfl_closed.specs.Internal.Takes.{within}
 
--- of a report and the one before, outside of what either left out
+-- of a report and the one before, outside of what either left out; of one that is compared with none
+-- its lines
 abbrev pub IsSeenSince : Kept → Cycle → Option Cycle → List Seen → Type 0
-IsSeenSince k now None seen = seen ≡ []
+IsSeenSince k now None seen = IsCompared now.left [] (k.reports now.cycle) (λ all. seen ≡ within [] all)
 IsSeenSince k now (Some before) seen = IsCompared (now.left ++ before.left) (k.reports before.cycle) (k.reports now.cycle) (λ all. seen ≡ all)
 
 -- and of the last whole one, with the changes in the places that the report before alone left out

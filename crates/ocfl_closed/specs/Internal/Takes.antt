@@ -10,7 +10,7 @@ use Rattle.ocfl_messages.specs.declared.known.KnownEntry.{KnownEntry}
 use Rattle.ocfl_report.specs.Line.{Line}
 use Rattle.std.specs.Io.KnownBytes.{Appends}
 use Rattle.ocfl_compare.specs.Gone.{gone_text}
-use Rattle.ocfl_words.specs.{Counted.{AreCounted, counted, is_news}, Kept.{Kept, kept_after, kept_seen, noted_from}, Noted.{Noted, noted_in}}
+use Rattle.ocfl_words.specs.{Counted.{AreCounted, counted, is_news}, Held.{AreHeld, Held, held_after, held_noted, held_seen}, Kept.{Kept, kept_after, kept_seen, noted_from}, Noted.{Noted, noted_in}}
 use Rattle.ocfl_closed.specs.Taken.{Stand, HasTaken}
 
 or_false : (b : Bool) → b ≡ (b || false)
@@ -33,6 +33,12 @@ noted_then known k [] then = refl
 noted_then known k (line side l ∷ first) then = noted_then known (kept_seen k side l) first then
 noted_then known k (change c ∷ first) then = ap (λ ns. noted_in known k.before k.now c ∷ ns) (noted_then known k first then)
 
+pub held_then : (known : List KnownEntry) (before : List Line) (k : Kept) (h : Held) (first then : List Seen)
+    → held_after known before k h (first ++ then) ≡ held_after known before (kept_after k first) (held_after known before k h first) then
+held_then known before k h [] then = refl
+held_then known before k h (line side l ∷ first) then = held_then known before (kept_seen k side l) (held_seen h side l) first then
+held_then known before k h (change c ∷ first) then = held_then known before k (held_noted before h (noted_in known k.before k.now c)) first then
+
 -- ---- what is taken
 
 pub takes_none : (a : Stand) → HasTaken a [] a
@@ -40,8 +46,10 @@ takes_none a = record {
   kept = refl;
   list = Appends-nil a.list;
   counted_on = λ ns h. subst (λ ms. AreCounted a.noting (counted ms)) (sym (append-nil ns)) h;
+  held_on = λ h k. k;
   grave = or_false a.is_grave;
   known = refl;
+  said = refl;
   since = refl;
   whole = refl;
 }
@@ -57,22 +65,28 @@ takes_then a b c first then p q =
       list = rows_joined a.list b.list c.list first then p.list q.list;
       counted_on = λ os h. subst (λ l. AreCounted c.noting (counted (os ++ l))) (sym both)
           (subst (λ l. AreCounted c.noting (counted l)) (append_assoc os ns ms) (q.counted_on (os ++ ns) (p.counted_on os h)));
+      held_on = λ h k. subst (AreHeld c.lines) (sym (held_then a.known a.said a.kept h first then ∙ sym (λ i. held_after (p.known i) (p.said i) (p.kept i) (held_after a.known a.said a.kept h first) then)))
+          (q.held_on (held_after a.known a.said a.kept h first) (p.held_on h k));
       grave = q.grave ∙ ap (λ x. x || list_any is_news ms) p.grave ∙ or_or a.is_grave (list_any is_news ns) (list_any is_news ms)
           ∙ ap (λ x. a.is_grave || x) (sym (list_any-append is_news ns ms) ∙ ap (list_any is_news) (sym both));
       known = q.known ∙ p.known;
+      said = q.said ∙ p.said;
       since = q.since ∙ p.since;
       whole = q.whole ∙ p.whole;
     }
 
 -- a line that is seen is kept or not, and changes nothing that counts
-pub took_line : (a b : Stand) (side : Side) (l : Line) → b.kept ≡ kept_seen a.kept side l → b.list ≡ a.list → b.known ≡ a.known → b.noting ≡ a.noting → b.since ≡ a.since → b.whole ≡ a.whole → b.is_grave ≡ a.is_grave
+pub took_line : (a b : Stand) (side : Side) (l : Line) → b.kept ≡ kept_seen a.kept side l → b.list ≡ a.list → b.known ≡ a.known → b.said ≡ a.said → b.noting ≡ a.noting
+    → ((h : Held) → AreHeld a.lines h → AreHeld b.lines (held_seen h side l)) → b.since ≡ a.since → b.whole ≡ a.whole → b.is_grave ≡ a.is_grave
     → HasTaken a (line side l ∷ []) b
-took_line a b side l kept list known noting since whole grave = record {
+took_line a b side l kept list known said noting lines since whole grave = record {
   kept = kept;
   list = subst (λ l. Appends a.list l (gone_text [])) (sym list) (Appends-nil a.list);
   counted_on = λ ns h. subst (λ c. AreCounted c (counted (ns ++ []))) (sym noting) (subst (λ ms. AreCounted a.noting (counted ms)) (sym (append-nil ns)) h);
+  held_on = lines;
   grave = grave ∙ or_false a.is_grave;
   known = known;
+  said = said;
   since = since;
   whole = whole;
 }
@@ -80,13 +94,16 @@ took_line a b side l kept list known noting since whole grave = record {
 -- one change, which was noted by the lines that are kept
 pub took_one : (a b : Stand) (c : ChangeAt) → b.kept ≡ a.kept → Appends a.list b.list (gone_text (c ∷ []))
     → ((ns : List Noted) → AreCounted a.noting (counted ns) → AreCounted b.noting (counted (ns ++ noted_in a.known a.kept.before a.kept.now c ∷ [])))
-    → b.is_grave ≡ (a.is_grave || is_news (noted_in a.known a.kept.before a.kept.now c)) → b.known ≡ a.known → b.since ≡ a.since → b.whole ≡ a.whole → HasTaken a (change c ∷ []) b
-took_one a b c kept list counted_on grave known since whole = record {
+    → ((h : Held) → AreHeld a.lines h → AreHeld b.lines (held_noted a.said h (noted_in a.known a.kept.before a.kept.now c)))
+    → b.is_grave ≡ (a.is_grave || is_news (noted_in a.known a.kept.before a.kept.now c)) → b.known ≡ a.known → b.said ≡ a.said → b.since ≡ a.since → b.whole ≡ a.whole → HasTaken a (change c ∷ []) b
+took_one a b c kept list counted_on held_on grave known said since whole = record {
   kept = kept;
   list = list;
   counted_on = counted_on;
+  held_on = held_on;
   grave = grave ∙ ap (λ x. a.is_grave || x) (or_false (is_news (noted_in a.known a.kept.before a.kept.now c)));
   known = known;
+  said = said;
   since = since;
   whole = whole;
 }

@@ -131,7 +131,12 @@ impl ClosedDisk for OneCycle {
         ClosingStop::Failed
     }
 
-    fn refuse_lines(&mut self, _cycle: u64, _error: io::Error) -> ClosingStop {
+    fn refuse_lines(
+        &mut self,
+        _cycle: u64,
+        _stop: CompareStop,
+        _error: Option<io::Error>,
+    ) -> ClosingStop {
         ClosingStop::Failed
     }
 

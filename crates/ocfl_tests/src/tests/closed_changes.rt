@@ -164,8 +164,13 @@ impl ClosedDisk for ReportsOn {
         self.note(format!(in self.alloc; "bad list {cycle};"))
     }
 
-    fn refuse_lines(&mut self, cycle: u64, error: io::Error) -> ClosingStop {
-        self.note(format!(in self.alloc; "{cycle}: {error};"))
+    fn refuse_lines(
+        &mut self,
+        cycle: u64,
+        stop: CompareStop,
+        _error: Option<io::Error>,
+    ) -> ClosingStop {
+        self.note(format!(in self.alloc; "{cycle}: {stop};"))
     }
 
     fn read_listed(&mut self) -> Result<Option<Vec<Place>>, ClosingStop> {
@@ -311,7 +316,7 @@ struct Row {
     is_grave: bool,
 }
 
-const ROWS: [Row; 11] = [
+const ROWS: [Row; 12] = [
     Row {
         reports: &[(2, true, THREE), (3, true, ONE)],
         listed: None,
@@ -432,11 +437,34 @@ const ROWS: [Row; 11] = [
             whole: 1,
             lost: false,
         },
-        calls: "list 3;2;kept 2;3;kept 3;1;kept 1;3;kept 3;3;",
+        calls: "list 3;2;kept 2;3;kept 3;1;kept 1;3;kept 3;",
         list: "object\tq\n",
         text: "Cycle 3 ended: 0 of 0 files right, 1 object, 0 bytes.\n\
                Nothing new, 1 object or file gone since cycle 2.\n\
                1 object or file is gone or missing in cycle 3:\nobject\tq\n",
+        is_grave: true,
+    },
+    Row {
+        reports: &[
+            (1, true, THREE),
+            (2, false, "ok\t.\t-\nok\tp\t-\n"),
+            (3, true, "ok\t.\t-\nE101\tp\tx\nE101\tq\ty\n"),
+        ],
+        listed: None,
+        rows: "",
+        known: "z",
+        compared: Compared {
+            left: &[],
+            before: 2,
+            left_before: &["q"],
+            whole: 1,
+            lost: false,
+        },
+        calls: "list 3;2;kept 2;3;kept 3;1;kept 1;3;kept 3;",
+        list: "",
+        text: "Cycle 3 ended: 0 of 0 files right, 2 objects, 0 bytes.\n\
+               2 new findings, nothing gone since cycle 2.\n\
+               2 findings of cycle 3 are new since cycle 2:\n",
         is_grave: true,
     },
     Row {
@@ -451,7 +479,7 @@ const ROWS: [Row; 11] = [
             whole: 0,
             lost: false,
         },
-        calls: "list 3;3;kept 3;3;",
+        calls: "list 3;3;3;kept 3;",
         list: "expected\tn\nexpected\tq\n",
         text: "Cycle 3 ended: 0 of 0 files right, 1 object, 0 bytes.\n\
                Not compared.\n\

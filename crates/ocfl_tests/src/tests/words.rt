@@ -3,7 +3,7 @@ use crate::tests::common::store::place_of;
 use ocfl_compare::{Change, Side};
 use ocfl_messages::{GoneKind, Known, KnownEntry, Reach};
 use ocfl_report::{Code, DisplayPlace, Line, read_line, read_place};
-use ocfl_words::{Changes, Noting, Part, count_places, find_lines, named_in};
+use ocfl_words::{Changes, Findings, Noting, Part, count_places};
 use std::alloc::Global;
 use std::test::Fail;
 
@@ -65,7 +65,7 @@ fn each_change_is_counted_once(rt: HostRuntime) -> Result<(), Fail> {
         noting.see(Side::Now, &conflict_at(alloc, path, "b")?)?;
         assert_eq!(rt; noting.note(&place, change)?, is_known, "{path}");
     }
-    let Part { changes, .. } = noting.take_part();
+    let Part { changes, .. } = noting.take_part()?;
     assert_eq!(rt;
         shown(alloc, &changes)?.as_str(),
         "object a;undeclared b;expected d;file c/f;"
@@ -75,7 +75,7 @@ fn each_change_is_counted_once(rt: HostRuntime) -> Result<(), Fail> {
     let moved = changes.moved;
     assert_eq!(rt; (moved.rewritten, moved.went_back, moved.newer), (1, 1, 2));
     assert_eq!(rt; (changes.appeared_count, changes.known_count), (1, 1));
-    assert_eq!(rt; noting.take_part().changes.gone_count(), 0);
+    assert_eq!(rt; noting.take_part()?.changes.gone_count(), 0);
     Ok(())
 }
 
@@ -88,7 +88,7 @@ fn the_first_twenty_of_each_comparison_are_shown(rt: HostRuntime) -> Result<(), 
     for _ in 0..30 {
         noting.note(&place, Change::Gone)?;
     }
-    let Part { mut changes, .. } = noting.take_part();
+    let Part { mut changes, .. } = noting.take_part()?;
     assert_eq!(rt;
         (changes.gone(alloc)?.len(), changes.gone_count()),
         (20, 30)
@@ -97,7 +97,7 @@ fn the_first_twenty_of_each_comparison_are_shown(rt: HostRuntime) -> Result<(), 
     let Part {
         changes: mut more,
         ..
-    } = noting.take_part();
+    } = noting.take_part()?;
     changes.join(&mut more)?;
     assert_eq!(rt;
         (changes.gone(alloc)?.len(), changes.gone_count()),
@@ -149,7 +149,7 @@ fn the_first_twenty_that_are_repaired_are_shown(rt: HostRuntime) -> Result<(), F
             noting.note(&place, Change::Repaired(Code::E092))?;
         }
     }
-    let Part { changes, .. } = noting.take_part();
+    let Part { changes, .. } = noting.take_part()?;
     assert_eq!(rt; (changes.repaired.len(), changes.repaired_count), (20, 44));
     for (line, code) in changes.repaired.iter().zip([Code::E092, Code::E001]) {
         assert_eq!(rt; line.code, code);
@@ -158,47 +158,86 @@ fn the_first_twenty_that_are_repaired_are_shown(rt: HostRuntime) -> Result<(), F
     Ok(())
 }
 
-/// A report with a finding that is new, and one that is repaired before it.
-const REPORT: &str = "ok\t.\t-\nok\to\t-\nE101\tp\tone\nE101\tp\ttwo\n";
+/// A report in which findings of one code are new at a place.
+const REPORT: [&str; 5] = [
+    "ok\t.\t-\n",
+    "ok\to\t-\n",
+    "E101\tp\tone\n",
+    "E101\tp\ttwo\n",
+    "ok\tq\t-\n",
+];
 
-#[test]
-fn lines_of_what_changed_are_found(rt: HostRuntime) -> Result<(), Fail> {
-    let alloc = rt.alloc();
+/// What is found of that report, since one with another finding, if these findings were said before.
+fn found_in_report(alloc: Global, said: &[Line]) -> Result<Part, Fail> {
     let known = Known::new(alloc);
-    let mut noting = Noting::new(alloc, &known, &[]);
+    let mut noting = Noting::new(alloc, &known, said);
     noting.see(Side::Before, &read_line(alloc, b"E092\to\twas\n")?)?;
     noting.note(&place_of(alloc, "o")?, Change::Repaired(Code::E092))?;
-    noting.see(Side::Now, &read_line(alloc, b"E101\tp\tone\n")?)?;
+    for text in &REPORT[..4] {
+        noting.see(Side::Now, &read_line(alloc, text.as_bytes())?)?;
+    }
     noting.note(&place_of(alloc, "p")?, Change::Found(Code::E101))?;
-    let part = noting.take_part();
-    let repaired = &part.changes.repaired;
-    assert_eq!(rt; repaired.len(), 1);
-    assert_eq!(rt; repaired[0].detail.as_str(), "was");
-    let none = Part::new(alloc);
-    let named = named_in(alloc, &part.lines, &none.lines)?;
-    let mut report = REPORT.as_bytes();
-    let found = find_lines(alloc, &mut report, &named, &known, &[])?;
+    noting.see(Side::Now, &read_line(alloc, REPORT[4].as_bytes())?)?;
+    Ok(noting.take_part()?)
+}
+
+/// The details of the findings that are shown of what a record says.
+fn details(found: &Findings, alloc: Global) -> Result<String, Fail> {
+    let mut text = String::new(alloc);
+    for finding in &found.gravest.records.first {
+        text.push_str(finding.line.detail.as_str())?;
+        text.push_str(";")?;
+    }
+    Ok(text)
+}
+
+#[test]
+fn the_first_finding_of_a_code_is_said(rt: HostRuntime) -> Result<(), Fail> {
+    let alloc = rt.alloc();
+    let Part { changes, found } = found_in_report(alloc, &[])?;
+    assert_eq!(rt; changes.repaired.len(), 1);
+    assert_eq!(rt; changes.repaired[0].detail.as_str(), "was");
     assert_eq!(rt; (found.count, found.said), (2, 0));
     assert_eq!(rt; found.gravest.count(), 1);
-    assert_eq!(rt; found.tally.counts().objects, 2);
+    assert_eq!(rt; details(&found, alloc)?.as_str(), "one;");
+    assert_eq!(rt; found.tally.counts().objects, 3);
     Ok(())
 }
 
 #[test]
-fn lines_are_counted_while_they_are_compared(rt: HostRuntime) -> Result<(), Fail> {
+fn what_was_said_before_is_not_said_again(rt: HostRuntime) -> Result<(), Fail> {
     let alloc = rt.alloc();
-    let known = Known::new(alloc);
-    let mut noting = Noting::new(alloc, &known, &[]);
-    assert!(rt; noting.take_found()?.is_none());
-    noting.count_lines();
-    noting.see(Side::Now, &read_line(alloc, b"ok\to\t-\n")?)?;
-    noting.see(Side::Now, &read_line(alloc, b"E101\tp\tone\n")?)?;
-    noting.note(&place_of(alloc, "p")?, Change::Found(Code::E101))?;
-    let Some(found) = noting.take_found()? else {
-        return Err("nothing was counted".into());
-    };
-    assert_eq!(rt; (found.count, found.said), (1, 0));
-    assert_eq!(rt; found.gravest.count(), 1);
+    for (text, said, shown) in [(REPORT[2], 1, ""), (REPORT[3], 0, "one;")] {
+        let mut before = Vec::new(alloc);
+        before.push(read_line(alloc, text.as_bytes())?)?;
+        let Part { changes, found } = found_in_report(alloc, &before)?;
+        assert_eq!(rt; (changes.appeared_count, found.count), (1, 2), "{text}");
+        assert_eq!(rt; found.said, said, "{text}");
+        assert_eq!(rt; details(&found, alloc)?.as_str(), shown, "{text}");
+    }
+    Ok(())
+}
+
+#[test]
+fn findings_of_two_comparisons_are_joined(rt: HostRuntime) -> Result<(), Fail> {
+    let alloc = rt.alloc();
+    let mut before = Vec::new(alloc);
+    before.push(read_line(alloc, REPORT[2].as_bytes())?)?;
+    let Part { mut found, .. } = found_in_report(alloc, &[])?;
+    let Part {
+        found: mut more,
+        ..
+    } = found_in_report(alloc, &before)?;
+    found.join(&mut more)?;
+    let Part {
+        found: mut again,
+        ..
+    } = found_in_report(alloc, &[])?;
+    found.join(&mut again)?;
+    assert_eq!(rt; (found.said, found.gravest.count()), (1, 2));
+    assert_eq!(rt; details(&found, alloc)?.as_str(), "one;one;");
+    assert_eq!(rt; found.tally.counts().objects, 3);
+    assert_eq!(rt; Findings::new(alloc).gravest.count(), 0);
     Ok(())
 }
 

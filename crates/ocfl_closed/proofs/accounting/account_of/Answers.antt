@@ -5,9 +5,9 @@ use Rattle.ocfl_closed.proofs.accounting.account_of.Goals as goal
 
 pub returns-clause-changes : goal.returns-clause-changes
 returns-clause-changes g c = λ v w x since noting whole.
-    c.in-Ok-changes_in.ensures v w x since (subst (λ k. AreCounted k w) (sym c.take_part-last.ensures.taken) noting) whole
+    c.in-Ok-join_parts.ensures.changes v w x since (subst (λ k. AreCounted k w) (sym c.in_ok-last.ensures.changes) noting) whole
 
 pub returns-clause-back : goal.returns-clause-back
 returns-clause-back g c = λ told.
-    let same = (c.find_new.ensures.still told).calm.files ∙ (c.find_paths.ensures.still told).calm.files ∙ (c.read_kept.ensures.still told).calm.files in
+    let same = (c.find_paths.ensures.still told).calm.files ∙ (c.read_kept.ensures.still told).calm.files in
     subst (λ f. AreBack (kept_of f) c.args.pair.now c.in_ok-back.back.items) same (c.in_ok-back.ensures.back told)

@@ -4,12 +4,12 @@ use Rattle.ocfl_closed.specs.{Back.{AreBack}, Files.{kept_of}, Words.{HasText, b
 use Rattle.ocfl_closed.proofs.finding.end_changes.Goals as goal
 
 pub returns-in-Ok-clause-text : goal.returns-in-Ok-clause-text
-returns-in-Ok-clause-text g c = λ told v w x since noting whole.
+returns-in-Ok-clause-text g c = λ told v w x n since noting whole news.
     let pair = c.args.pair.now in
     let changes = c.in_ok-account.ensures.changes v w x since noting whole in
     let runs = c.in_ok-account.ensures.runs told ∙ ap (λ f. runs_by (f.checkpoint pair.closed.cycle)) (c.end_list.ensures.calm told).files in
-    subst (λ n. HasText (beside_of c.args.with.now n c.in_ok-account.account.back.items) pair (joined (joined v w) x) c.in-Ok.text.items) runs
-    (c.in-Ok.ensures (joined (joined v w) x) changes (c.in_ok-account.ensures.gone _ changes) c.in_ok-account.ensures.why)
+    subst (λ m. HasText (beside_of c.args.with.now m c.in_ok-account.account.back.items) pair (joined (joined v w) x) n c.in-Ok.text.items) runs
+    (c.in-Ok.ensures (joined (joined v w) x) n changes (c.in_ok-account.ensures.gone _ changes) (c.in_ok-account.ensures.found n news) c.in_ok-account.ensures.why)
 
 pub returns-in-Ok-clause-back : goal.returns-in-Ok-clause-back
 returns-in-Ok-clause-back g c = λ told.

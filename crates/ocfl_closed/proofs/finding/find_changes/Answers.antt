@@ -1,7 +1,8 @@
-use Rattle.std.proofs.Common.{ap, false, refl, subst, ◌∙◌}
+use Rattle.std.proofs.{Common.{ℕ, ◌≤◌, Err, ap, arith, false, map, refl, subst, ◌∙◌}, lemmas.Result.{err_from_is_err_and}}
+use Rattle.ocfl_report.specs.Line.{line_of}
 use Rattle.ocfl_closed.specs.{Back.{AreBack}, Files.{kept_of}, Internal.{AllTaken, Stands.{stand_of}}, Words.{AreParts, HasText, beside_of, counted_in, runs_in}}
 use Rattle.ocfl_closed.specs.Unchanged.{AreUnchanged}
-use Rattle.ocfl_closed.proofs.Findings.{finds_of}
+use Rattle.ocfl_closed.proofs.{Backing.{cause_later}, Findings.{finds_of}, Passing.{calm_then}}
 use Rattle.ocfl_closed.proofs.finding.find_changes.Goals as goal
 
 pub returns-clause-finds : goal.returns-clause-finds
@@ -18,8 +19,9 @@ returns-clause-finds g c = λ told.
     let moved = (c.take_changes.ensures.still told).calm.files ∙ same in
     let taken = subst (λ f. AllTaken (AreParts old.known (kept_of f) pair) old new) same (c.in_ok-taking.ensures.taken told) in
     finds_of (kept_of files) pair (beside_of with (runs_in files pair) c.in_ok-told.told.account.back.items) c.in_ok-told.told.found.text.items c.in_ok-told.told.found.is_grave (D.state c.end_changes.new.disk).beside old new
-    (ap contents c.new.ensures ∙ c.in_ok-list.ensures.empty told) refl c.new-2.ensures.known taken (c.in_ok-told.ensures.list told)
-    (λ p since whole noting. subst (λ f. HasText (beside_of with (runs_in f pair) c.in_ok-told.told.account.back.items) pair (counted_in p) c.in_ok-told.told.found.text.items) moved (c.in_ok-told.ensures.text told _ _ _ since noting whole))
+    (ap contents c.new.ensures ∙ c.in_ok-list.ensures.empty told) refl c.new-2.ensures.known (ap (map line_of) c.new-2.ensures.said) taken (c.in_ok-told.ensures.list told)
+    (λ p n since whole noting news. subst (λ f. HasText (beside_of with (runs_in f pair) c.in_ok-told.told.account.back.items) pair (counted_in p) n c.in_ok-told.told.found.text.items) moved
+    (c.in_ok-told.ensures.text told _ _ _ n since noting whole news))
     c.in_ok-told.ensures.grave
 
 pub returns-clause-unchanged : goal.returns-clause-unchanged
@@ -29,3 +31,26 @@ pub returns-clause-back : goal.returns-clause-back
 returns-clause-back g c = λ told.
     let moved = (c.take_changes.ensures.still told).calm.files ∙ (c.make_list.ensures.calm told).files in
     subst (λ f. AreBack (kept_of f) c.args.pair.now c.in_ok-told.told.account.back.items) moved (c.in_ok-told.ensures.back told)
+
+pub returns-clause-calm : goal.returns-clause-calm
+returns-clause-calm g c = λ told.
+    calm_then _ _ _ (c.make_list.ensures.calm told) (calm_then _ _ _ (c.take_changes.ensures.still told).calm (c.end_changes.ensures.calm told))
+
+pub returns-in_err-told-clause-calm : goal.returns-in_err-told-clause-calm
+returns-in_err-told-clause-calm g c = λ told.
+    calm_then _ _ _ (c.make_list.ensures.calm told) (calm_then _ _ _ (c.take_changes.ensures.still told).calm (c.end_changes.ensures.calm told))
+
+pub returns-clause-cause : goal.returns-clause-cause
+returns-clause-cause g c = λ told.
+    let first = c.in_ok-list.ensures.cause told in
+    let next = c.in_ok-taking.ensures.cause told in
+    let last = c.in_ok-told.ensures.cause told in
+    omega (arith, first, next, last)
+
+pub returns-in_err-told-clause-cause : goal.returns-in_err-told-clause-cause
+returns-in_err-told-clause-cause g c = λ told.
+    let first = c.in_ok-list.ensures.cause told in
+    let next = c.in_ok-taking.ensures.cause told in
+    let before : (g.D.ClosedDisk.state c.args.disk.now).faults ≤ (g.D.ClosedDisk.state c.take_changes.new.disk).faults = omega (arith, first, next) in
+    let p = err_from_is_err_and c.from_residual-in_err-told.result c.from_residual-in_err-told.ensures.1 in
+    rw (p.1, p.2) (cause_later {T = ℕ} (Err c.in_err-told.field-0.0) _ (g.D.ClosedDisk.state c.take_changes.new.disk).faults _ before (c.in_err-told.ensures.cause told))

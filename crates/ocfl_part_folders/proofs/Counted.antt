@@ -7,7 +7,8 @@ use Rattle.ocfl_tree.specs.Place.{Text}
 use Rattle.ocfl_report.specs.Line.{Line}
 use Rattle.ocfl_messages.specs.Tally.{IsCount, IsTally, bytes_in, objects_in, right_in, wrong_in}
 use Rattle.ocfl_messages.specs.declared.tally.{Counts.{Counts}, Tally.{Tally}}
-use Rattle.ocfl_part_folders.specs.Counting.{CountAs, CountsAs, CountsFirst, HasCounts, lines_of}
+use Rattle.ocfl_part_folders.specs.Counting.{CountAs, CountsAs, CountsFirst, HasCounts, counts_in, lines_of}
+use Rattle.ocfl_part_folders.proofs.Readable.{counts_are}
 
 -- of a report these lines were counted, and the rest is left
 pub record IsCounted (tally : Tally) (bytes rest : Text) : Type 0 where
@@ -74,7 +75,7 @@ read_all None now tally counts h end right files objects sizes = tt
 read_all (Some bytes) None tally counts h end right files objects sizes = absurd h
 read_all (Some bytes) (Some rest) tally counts h end right files objects sizes = counted_all tally bytes rest counts h end right files objects sizes
 
--- by what a report with some bytes counts
-pub counted_as : {E : Type 0} (r : Result Counts E) (known : Option Text) (bytes : Text) (counts : Text → Counts) → known ≡ Some bytes → IfOk r (λ k. IfSome known (λ b. HasCounts b k)) → ((b : Text) (k : Counts) → HasCounts b k → k ≡ counts b) → IfOk r (λ k. k ≡ counts bytes)
-counted_as (Ok k) known bytes counts is has one = one bytes k (subst (λ (o : Option Text). IfSome o (λ b. HasCounts b k)) is has)
-counted_as (Err e) known bytes counts is has one = tt
+-- of a report that has these bytes
+pub counted_as : {E : Type 0} (r : Result Counts E) (known : Option Text) (bytes : Text) → known ≡ Some bytes → IfOk r (λ k. IfSome known (λ b. HasCounts b k)) → IfOk r (λ k. k ≡ counts_in bytes)
+counted_as (Ok k) known bytes is has = counts_are bytes k (subst (λ (o : Option Text). IfSome o (λ b. HasCounts b k)) is has)
+counted_as (Err e) known bytes is has = tt

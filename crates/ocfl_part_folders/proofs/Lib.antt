@@ -2,3 +2,4 @@ mod Passing
 mod Asked
 mod Counted
 mod Ends
+mod Readable

@@ -1,10 +1,11 @@
 -- What the lines of a report count, as they are read.
-use Rattle.std.specs.Prelude.{◌≡◌, ◌≢◌, ◌+◌, ◌++◌, List, [], ◌∷◌, Option, Some, None, true, codes, flat_map, nat_eq}
+use Rattle.std.specs.Prelude.{◌≡◌, ◌≢◌, ◌+◌, ◌++◌, ℕ, zero, suc, List, [], ◌∷◌, Option, Some, None, true, codes, drop, flat_map, length, nat_eq}
 use Rattle.std.specs.{Io.BufRead.{take_through}, List.{starts_with}, Option.{option_to_list}}
 use Rattle.ocfl_tree.specs.Place.{Text}
 use Rattle.ocfl_report.specs.{Line.{Line}, Text.{IsLineText}}
-use Rattle.ocfl_messages.specs.Tally.{IsCount, bytes_in, objects_in, right_in, wrong_in}
+use Rattle.ocfl_messages.specs.Tally.{IsCount, bytes_in, kept_count, objects_in, right_in, wrong_in}
 use Rattle.ocfl_messages.specs.declared.tally.Counts.{Counts}
+use Rattle.ocfl_part_folders.specs.Reading.{line_in}
 
 -- how the line of a right file or object begins
 abbrev pub clean : Text
@@ -40,5 +41,18 @@ pub record HasCounts (bytes : Text) (counts : Counts) : Type 0 where
   pub objects : IsCount counts.objects (objects_in (lines_of lines))
   pub bytes_are : IsCount counts.bytes (bytes_in (lines_of lines))
 
-abbrev pub no_counts : Counts
-no_counts = record { right = 0; files = 0; objects = 0; bytes = 0 }
+-- ---- the same, as it is read
+
+-- the lines of so many bytes at most
+abbrev pub lines_in : ℕ → Text → List (Option Line)
+lines_in zero bytes = []
+lines_in (suc n) [] = []
+lines_in (suc n) (b ∷ bytes) = line_in (take_through 10 (b ∷ bytes)) ∷ lines_in n (drop (length (take_through 10 (b ∷ bytes))) (b ∷ bytes))
+
+abbrev pub counts_of : List Line → Counts
+counts_of ls = record { right = kept_count (right_in ls); files = kept_count (right_in ls + wrong_in ls); objects = kept_count (objects_in ls); bytes = kept_count (bytes_in ls) }
+
+-- What the lines of a report count. Of one whose lines count otherwise than `CountAs` says, this says
+-- nothing.
+unfoldable pub counts_in : Text → Counts
+counts_in bytes = counts_of (lines_of (lines_in (length bytes) bytes))

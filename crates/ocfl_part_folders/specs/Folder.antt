@@ -8,6 +8,7 @@ use Rattle.ocfl_messages.specs.{Closing.{joined_text}, declared.tally.Counts.{Co
 use Rattle.ocfl_joining.specs.Facts.{AreFacts, counted_with, known_runs, mark_at, none_counted}
 use Rattle.ocfl_joining.specs.declared.facts.{Facts.{Facts}, FoundReport.{FoundReport}, RunCount.{RunCount}}
 use Rattle.ocfl_join_disk.specs.Shown.{PartFiles, or_nothing}
+use Rattle.ocfl_part_folders.specs.Counting.{counts_in}
 use Rattle.ocfl_part_folders.specs.declared.calls.ClosedFile.{ClosedFile}
 
 -- ---- paths
@@ -100,16 +101,16 @@ runs_of kept cycle (suc n) = counted_with (runs_of kept cycle n) cycle (kept (n 
 abbrev pub word_of : PartsFolder → ℕ → ℕ → Bool → Counts → Text
 word_of f parts cycle whole counts = joined_text (record { cycle = cycle; whole = whole; report = lent (report_path f.path cycle whole); counts = counts; runs = known_runs (runs_of (f.kept cycle) cycle parts) })
 
--- by the facts of the parts, and by what a report with some bytes counts
-abbrev pub files_in : List (Option Facts) → (Text → Counts) → PartsFolder → PartFiles
-files_in facts counts f = record {
+-- by the facts of the parts
+abbrev pub files_in : List (Option Facts) → PartsFolder → PartFiles
+files_in facts f = record {
   folders = record {
     bytes = λ cycle part. or_nothing (text_of f cycle part);
     marks = λ cycle part. mark_at facts part cycle (length (or_nothing (text_of f cycle part))) (f.kept cycle part);
     found = found_in f;
     has_said = f.has_said;
     packed = f.packed;
-    word = λ cycle whole bytes. word_of f (length facts) cycle whole (counts bytes);
+    word = λ cycle whole bytes. word_of f (length facts) cycle whole (counts_in bytes);
     path = λ cycle whole. escape (report_path f.path cycle whole);
     noted = f.noted;
   };

@@ -9,7 +9,9 @@ ghost use Rattle.ocfl_files.specs.Failing.{OrMemory, StopsOn};
 ghost use Rattle.ocfl_join_disk.specs.Shown.{HasSureNames, text_in};
 ghost use Rattle.ocfl_joining.specs.Facts.{counted_with};
 ghost use Rattle.ocfl_kept.specs.FilePaths.{list_path as path_of_list, part_path as path_of_part, report_path as path_of_report};
+ghost use Rattle.ocfl_part_folders.specs.Counting.{counts_in};
 ghost use Rattle.ocfl_part_folders.specs.Folder.{found_in, new_path as path_of_new, runs_of, word_of};
+ghost use Rattle.ocfl_part_folders.specs.Refusing.{SaysUnjoined};
 
 use crate::calls::PartCalls;
 use crate::counting::counts_of;
@@ -65,7 +67,10 @@ pub(crate) fn unjoined_at<C: PartCalls>(
     cycle: u64,
     whole: bool,
     error: &Option<io::Error>,
-) -> Failure {
+) -> Failure
+    ensures { IsTrue C.told
+        → SaysUnjoined (path_of_report (C.folder calls.now).path cycle whole) error.now result }
+{
     match path_of(calls, cycle, whole) {
         Ok(path) => unjoined(calls.global(), path.as_str(), error),
         Err(error) => Failure::from(error),
@@ -108,7 +113,7 @@ pub(crate) fn has_joined<C: PartCalls>(
     ensures calm { IsTrue C.told → Calm (C.disk calls.old) (C.disk calls.new) }
 {
     let path = path_of(calls, cycle, whole)?;
-    Ok(calls.has(path.as_str()))
+    calls.has(path.as_str())
 }
 
 /// Whether a joined report of a cycle, whole or not, is there compressed.
@@ -123,7 +128,7 @@ pub(crate) fn is_packed<C: PartCalls>(
     ensures calm { IsTrue C.told → Calm (C.disk calls.old) (C.disk calls.new) }
 {
     let path = packed_path(calls.global(), calls.path(), cycle, whole)?;
-    Ok(calls.has(path.as_str()))
+    calls.has(path.as_str())
 }
 
 /// Whether a part has said what its closed report of a cycle found.
@@ -139,7 +144,7 @@ pub(crate) fn has_said<C: PartCalls>(
 {
     let part = part_of(calls, number)?;
     let path = list_path(calls.global(), part.as_str(), cycle)?;
-    Ok(calls.has(path.as_str()))
+    calls.has(path.as_str())
 }
 
 /// Whether a part has a closed report of a cycle that is whole, or one that is not.
@@ -156,7 +161,7 @@ fn has_report<C: PartCalls>(
 {
     let part = part_of(calls, number)?;
     let path = report_path(calls.global(), part.as_str(), cycle, whole)?;
-    Ok(calls.has(path.as_str()))
+    calls.has(path.as_str())
 }
 
 /// Whether a part has a closed report of a cycle.
@@ -290,7 +295,7 @@ fn count_runs<C: PartCalls>(calls: &mut C, parts: usize, cycle: u64) -> Result<R
 fn count_in<C: PartCalls>(calls: &mut C, path: &str) -> io::Result<Counts>
     ensures counts { IsTrue C.told → (cycle : ℕ)
         → path.now ≡ path_of_new (C.folder calls.old).path cycle → IfOk result (λ counts. counts
-        ≡ C.counts (report_of (C.disk calls.old).seen.bytes
+        ≡ counts_in (report_of (C.disk calls.old).seen.bytes
         (C.disk calls.old).seen.names.report)) }
     ensures folder { IsTrue C.told → C.folder calls.new ≡ C.folder calls.old }
     ensures calm { IsTrue C.told → Calm (C.disk calls.old) (C.disk calls.new) }
@@ -302,7 +307,7 @@ fn count_in<C: PartCalls>(calls: &mut C, path: &str) -> io::Result<Counts>
 /// What the joined report of a cycle counts that is made.
 fn count_made<C: PartCalls>(calls: &mut C, cycle: u64) -> Result<Counts, Failure>
     ensures counts { IsTrue C.told → IfOk result (λ counts. counts
-        ≡ C.counts (report_of (C.disk calls.old).seen.bytes
+        ≡ counts_in (report_of (C.disk calls.old).seen.bytes
         (C.disk calls.old).seen.names.report)) }
     ensures folder { IsTrue C.told → C.folder calls.new ≡ C.folder calls.old }
     ensures calm { IsTrue C.told → Calm (C.disk calls.old) (C.disk calls.new) }
@@ -323,7 +328,7 @@ pub(crate) fn word_on<C: PartCalls>(
 ) -> Result<Vec<u8>, Failure>
     ensures word { IsTrue C.told → IfOk result (λ word. word.items
         ≡ word_of (C.folder calls.old) parts cycle whole
-        (C.counts (report_of (C.disk calls.old).seen.bytes
+        (counts_in (report_of (C.disk calls.old).seen.bytes
         (C.disk calls.old).seen.names.report))) }
     ensures folder { IsTrue C.told → C.folder calls.new ≡ C.folder calls.old }
     ensures calm { IsTrue C.told → Calm (C.disk calls.old) (C.disk calls.new) }

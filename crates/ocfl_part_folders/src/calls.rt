@@ -1,9 +1,8 @@
 //! The calls of the system that a joining makes in the folder of all parts, each on a path.
-ghost use Rattle.std.specs.Prelude.{◌≡◌, ◌⊎◌, ◌++◌, ℕ, Bool, IsTrue, false};
-ghost use Rattle.std.specs.Prelude.{IfOk, IsSome, MatchResult, OnOk, Some, is_some, length};
+ghost use Rattle.std.specs.Prelude.{◌≡◌, ◌⊎◌, ◌++◌, ◌<◌, ◌^◌, ℕ, Bool, IsTrue, false};
+ghost use Rattle.std.specs.Prelude.{IfOk, IsSome, MatchResult, OnErr, OnOk, Some, is_some, length};
 ghost use mathlib.Core.Bool.{false≢true};
 ghost use Rattle.std.specs.Option.{option_map};
-ghost use Rattle.ocfl_tree.specs.Place.{Text};
 ghost use Rattle.ocfl_state.specs.Calls.{bytes_of};
 ghost use Rattle.ocfl_disk.specs.Disk.{Calm, ClosesOver, Makes, Writes, has_name};
 ghost use Rattle.ocfl_disk.specs.Names.{report_of};
@@ -11,8 +10,6 @@ ghost use Rattle.ocfl_disk.specs.PowerCut.{DiskState, IsDisk, untold};
 ghost use Rattle.ocfl_disk.specs.declared.state_file.StateFile.TheVariants.{Report as TheReport};
 ghost use Rattle.ocfl_join_disk.specs.Shown.{HasSureNames, text_in};
 ghost use Rattle.ocfl_kept.specs.FilePaths.{list_path, packed_path, part_path, report_path};
-ghost use Rattle.ocfl_messages.specs.declared.tally.Counts.{Counts as ModelCounts};
-ghost use Rattle.ocfl_part_folders.specs.Counting.{HasCounts, no_counts};
 ghost use Rattle.ocfl_part_folders.specs.Folder.{IsOpened, PartsFolder, found_in, new_path, no_parts};
 ghost use Rattle.ocfl_part_folders.specs.Folder.{reports_path, text_of, with_note, with_opened, with_part};
 
@@ -28,20 +25,20 @@ use std::io::{self, BufRead, BufReader, Write};
 
 /// The closed report of a part that was opened.
 #[derive(Drop)]
-pub(crate) struct ClosedFile<R> {
-    pub(crate) report: R,
+pub struct ClosedFile<R> {
+    pub report: R,
     /// How many bytes it has.
-    pub(crate) bytes: u64,
+    pub bytes: u64,
     /// The checkpoint with which it was closed. `None` if it was not kept, and `Some(None)` if
     /// what was kept is no checkpoint any more.
-    pub(crate) kept: Option<Option<Checkpoint>>,
+    pub kept: Option<Option<Checkpoint>>,
 }
 
 /// What a joining asks of the system in the folder of all parts: each file by its path, and what
 /// was closed in a folder of a part by the path of that.
 ///
 /// One that states nothing of what is there does not tell it.
-pub(crate) trait PartCalls {
+pub trait PartCalls {
     /// A report that is open for reading.
     type Report: BufRead + Drop;
 
@@ -60,9 +57,6 @@ pub(crate) trait PartCalls {
     /// The number of the file that is made.
     ghost number: { Self.Made → ℕ } = { λ _. 0 };
 
-    /// What a report with these bytes counts.
-    ghost counts: { Text → ModelCounts } = { λ _. no_counts };
-
     /// Where memory comes from.
     fn global(&self) -> Global;
 
@@ -70,25 +64,26 @@ pub(crate) trait PartCalls {
     fn path(&self) -> &str
         ensures { IsTrue told → result.now ≡ (folder self.now).path };
 
-    /// Whether something is at a path.
-    fn has(&mut self, path: &str) -> bool
+    /// Whether something is at a path. The only error is running out of memory.
+    fn has(&mut self, path: &str) -> Result<bool, AllocError>
         ensures folder { IsTrue told → folder self.new ≡ folder self.old }
         ensures calm { IsTrue told → Calm (disk self.old) (disk self.new) }
         ensures part { IsTrue told → (part : ℕ)
             → path.now ≡ part_path (folder self.old).path part
-            → result ≡ (folder self.old).is_there part }
+            → IfOk result (λ is. is ≡ (folder self.old).is_there part) }
         ensures closed { IsTrue told → (cycle part : ℕ) (whole : Bool)
             → path.now ≡ report_path (part_path (folder self.old).path part) cycle whole
-            → result ≡ is_some ((folder self.old).closed cycle part whole) }
+            → IfOk result (λ is. is ≡ is_some ((folder self.old).closed cycle part whole)) }
         ensures said { IsTrue told → (cycle part : ℕ)
             → path.now ≡ list_path (part_path (folder self.old).path part) cycle
-            → result ≡ (folder self.old).has_said cycle part }
+            → IfOk result (λ is. is ≡ (folder self.old).has_said cycle part) }
         ensures packed { IsTrue told → (cycle : ℕ) (whole : Bool)
             → path.now ≡ packed_path (folder self.old).path cycle whole
-            → result ≡ (folder self.old).packed cycle whole }
-        ensures joined { IsTrue told → (cycle : ℕ) (whole : Bool)
+            → IfOk result (λ is. is ≡ (folder self.old).packed cycle whole) }
+        ensures joined { IsTrue told → (cycle : ℕ) (whole : Bool) → cycle < 2 ^ 64
             → path.now ≡ report_path (folder self.old).path cycle whole
-            → result ≡ has_name cycle whole (disk self.old).seen.names.closed };
+            → IfOk result (λ is.
+            is ≡ has_name cycle whole (disk self.old).seen.names.closed) };
 
     /// The bytes of the checkpoint in the folder of a part, if one is there.
     fn stored_in(&mut self, path: &str) -> Result<Option<Vec<u8>>, Failure>
@@ -116,7 +111,7 @@ pub(crate) trait PartCalls {
         ensures folder { IsTrue told → folder self.new
             ≡ with_opened (folder self.new).opened (folder self.old) }
         ensures calm { IsTrue told → Calm (disk self.old) (disk self.new) }
-        ensures opened { IsTrue told → (part : ℕ)
+        ensures opened { IsTrue told → (part : ℕ) → part < 2 ^ 64
             → path.now ≡ part_path (folder self.old).path part
             → OnOk result (folder self.new ≡ with_part part (folder self.old)) }
         ensures report { IsTrue told → (part : ℕ)
@@ -127,11 +122,11 @@ pub(crate) trait PartCalls {
     fn open(&mut self, path: &str) -> io::Result<Self::Report>
         ensures folder { IsTrue told → folder self.new ≡ folder self.old }
         ensures calm { IsTrue told → Calm (disk self.old) (disk self.new) }
-        ensures joined { IsTrue told → (cycle : ℕ) (whole : Bool)
+        ensures joined { IsTrue told → (cycle : ℕ) (whole : Bool) → cycle < 2 ^ 64
             → path.now ≡ report_path (folder self.old).path cycle whole
             → IfOk result (λ report. Self.Report.remaining report
             ≡ text_in cycle whole (disk self.old).seen) }
-        ensures there { IsTrue told → (cycle : ℕ) (whole : Bool)
+        ensures there { IsTrue told → (cycle : ℕ) (whole : Bool) → cycle < 2 ^ 64
             → path.now ≡ report_path (folder self.old).path cycle whole
             → OnOk result (IsSome (text_in cycle whole (disk self.old).seen)) }
         ensures made { IsTrue told → (cycle : ℕ)
@@ -176,7 +171,7 @@ pub(crate) trait PartCalls {
     /// Gives a file that was made, and was synced, the path of a joined report that is not there.
     fn put(&mut self, made: &str, path: &str) -> Result<(), Failure>
         ensures folder { IsTrue told → folder self.new ≡ folder self.old }
-        ensures closes { IsTrue told → (cycle : ℕ) (whole : Bool)
+        ensures closes { IsTrue told → (cycle : ℕ) (whole : Bool) → cycle < 2 ^ 64
             → made.now ≡ new_path (folder self.old).path cycle
             → path.now ≡ report_path (folder self.old).path cycle whole
             → has_name cycle whole (disk self.old).seen.names.closed ≡ false
@@ -194,17 +189,16 @@ pub(crate) trait PartCalls {
         ensures names { IsTrue told → path.now ≡ reports_path (folder self.old).path
             → OnOk result (HasSureNames (disk self.new)) };
 
-    /// Says a text on standard error. One that cannot be written changes nothing.
-    fn say(&mut self, text: &str)
-        ensures said { IsTrue told → folder self.new ≡ with_note text.now (folder self.old) }
+    /// Says a text on standard error. The only error is running out of memory: that a text cannot
+    /// be written is none.
+    fn say(&mut self, text: &str) -> Result<(), AllocError>
+        ensures said { IsTrue told → OnOk result
+            (folder self.new ≡ with_note text.now (folder self.old)) }
+        ensures silent { IsTrue told → OnErr result (folder self.new ≡ folder self.old) }
         ensures calm { IsTrue told → Calm (disk self.old) (disk self.new) };
 
     /// The laws of what is on a disk.
     ghost is_disk: { IsTrue told → (calls : Self) → IsDisk (disk calls) };
-
-    /// What the lines of a report count is what it counts.
-    ghost counts_are: { IsTrue told → (bytes : Text) (found : ModelCounts)
-        → HasCounts bytes found → found ≡ counts bytes };
 }
 
 /// The calls themselves. They are not told.
@@ -246,8 +240,6 @@ impl<R: Room + Eprint> PartCalls for RoomCalls<'_, R> {
 
     ghost is_disk = { λ told calls. absurd (false≢true told) };
 
-    ghost counts_are = { λ told bytes found has. absurd (false≢true told) };
-
     fn global(&self) -> Global {
         self.rt.global()
     }
@@ -256,8 +248,8 @@ impl<R: Room + Eprint> PartCalls for RoomCalls<'_, R> {
         self.folder
     }
 
-    fn has(&mut self, path: &str) -> bool {
-        self.rt.has(path)
+    fn has(&mut self, path: &str) -> Result<bool, AllocError> {
+        Ok(self.rt.has(path))
     }
 
     fn stored_in(&mut self, path: &str) -> Result<Option<Vec<u8>>, Failure> {
@@ -326,7 +318,8 @@ impl<R: Room + Eprint> PartCalls for RoomCalls<'_, R> {
         self.rt.open_file(path)?.sync_all()
     }
 
-    fn say(&mut self, text: &str) {
+    fn say(&mut self, text: &str) -> Result<(), AllocError> {
         let _ = eprint!(self.rt; "{text}");
+        Ok(())
     }
 }

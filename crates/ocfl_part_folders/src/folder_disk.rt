@@ -2,8 +2,9 @@
 ghost use Rattle.std.specs.Prelude.{◌≡◌, None, Ok, Err, IfErr, IfOk, IsTrue, Some};
 ghost use Rattle.ocfl_files.specs.Failing.{OrMemory, StopsOn};
 ghost use Rattle.ocfl_files.specs.declared.failing.Failure.{Failure as ModelFailure};
+ghost use Rattle.ocfl_kept.specs.FilePaths.{report_path};
 ghost use Rattle.ocfl_part_folders.specs.Folder.{files_in, new_path};
-ghost use Rattle.ocfl_part_folders.specs.Refusing.{trouble_of as trouble_by};
+ghost use Rattle.ocfl_part_folders.specs.Refusing.{SaysUnjoined, trouble_of as trouble_by};
 
 use crate::asking::{
     find_closed, has_closed, has_joined, has_said, is_packed, make, name_made, open_joined,
@@ -51,6 +52,18 @@ impl<'a, C: PartCalls + Drop> FolderDisk<'a, C> {
         }
     }
 
+    /// The calls alone.
+    pub(crate) fn into_calls(self) -> C
+        ensures { result ≡ self.entry.calls }
+    {
+        let FolderDisk {
+            calls,
+            facts: _facts,
+            failure: _failure,
+        } = self;
+        calls
+    }
+
     /// Keeps why a call failed.
     fn keep(&mut self, failure: Failure) -> ReportTrouble
         ensures trouble { result ≡ trouble_by failure }
@@ -61,6 +74,18 @@ impl<'a, C: PartCalls + Drop> FolderDisk<'a, C> {
         let trouble = trouble_of(&failure);
         self.failure = Some(failure);
         trouble
+    }
+
+    /// Keeps that a file in place of the joined report of a cycle is not that, or was not read.
+    fn keep_unjoined(&mut self, cycle: u64, whole: bool, error: &Option<io::Error>) -> ReportTrouble
+        ensures kept { IsTrue C.told → (failure : ModelFailure) × (SaysUnjoined
+            (report_path (C.folder self.old.calls).path cycle whole) error.now failure
+            × ((result ≡ trouble_by failure) × (self.new.failure ≡ Some failure))) }
+        ensures calls { self.new.calls ≡ self.old.calls }
+        ensures facts { self.new.facts ≡ self.old.facts }
+    {
+        let failure = unjoined_at(&self.calls, cycle, whole, error);
+        self.keep(failure)
     }
 
     /// What a call gave, or why it failed, which is kept.
@@ -103,7 +128,7 @@ impl<C: PartCalls + Drop> JoinDisk for FolderDisk<'_, C> {
 
     ghost told = { C.told };
 
-    ghost parts = { λ d. files_in d.facts.now C.counts (C.folder d.calls) };
+    ghost parts = { λ d. files_in d.facts.now (C.folder d.calls) };
 
     ghost state = { λ d. C.disk d.calls };
 
@@ -136,8 +161,7 @@ impl<C: PartCalls + Drop> JoinDisk for FolderDisk<'_, C> {
         whole: bool,
         error: Option<io::Error>,
     ) -> ReportTrouble {
-        let failure = unjoined_at(&self.calls, cycle, whole, &error);
-        self.keep(failure)
+        self.keep_unjoined(cycle, whole, &error)
     }
 
     fn has_joined(&mut self, cycle: u64, whole: bool) -> Result<bool, ReportTrouble> {
@@ -205,8 +229,7 @@ impl<C: PartCalls + Drop> JoinDisk for FolderDisk<'_, C> {
     }
 
     fn note(&mut self, text: &str) -> Result<(), ReportTrouble> {
-        self.calls.say(text);
-        Ok(())
+        Ok(self.calls.say(text)?)
     }
 
     fn take_failure(&mut self) -> Option<FailedCall> {

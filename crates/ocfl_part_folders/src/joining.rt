@@ -1,10 +1,12 @@
 //! Joining the closed reports of all parts of a storage root, of one cycle.
-ghost use Rattle.std.specs.Prelude.{◌≡◌, ◌++◌, List, ℕ, Ok, Err, codes, string_bytes};
-ghost use Rattle.std.specs.Prelude.{IfErr, IfOk, IfSome, IsErr, IsErrAnd, MatchResult};
+ghost use Rattle.std.specs.Prelude.{◌≡◌, ◌++◌, List, ℕ, Ok, Err, codes, length, string_bytes};
+ghost use Rattle.std.specs.Prelude.{IfErr, IfOk, IfSome, IsErr, IsErrAnd, IsSomeAnd, IsTrue};
+ghost use Rattle.std.specs.Prelude.{MatchResult, OnErr, option_map};
+ghost use Rattle.ocfl_disk.specs.Disk.{Calm};
 ghost use Rattle.ocfl_files.specs.Failing.{OrMemory, Says};
 ghost use Rattle.ocfl_scope.specs.Stop.{stop_status};
 ghost use Rattle.ocfl_separators.specs.{Parts.{IsPartsText}, Stop.{StopsRightly}};
-ghost use Rattle.ocfl_part_folders.specs.Joining.{SaysUnread, status_by};
+ghost use Rattle.ocfl_part_folders.specs.Joining.{ComesTo, HasJoined, SaysUnread, status_by};
 
 use crate::calls::{PartCalls, RoomCalls};
 use crate::folder_disk::FolderDisk;
@@ -13,7 +15,7 @@ use ocfl_arguments::JoinAsked;
 use ocfl_files::failing::{Failure, say_failure};
 use ocfl_files::saying::say_out_of_memory;
 use ocfl_join_disk::DiskCycles;
-use ocfl_joining::{JoinEnd, join_cycles, last_of_all};
+use ocfl_joining::{Facts, JoinEnd, join_cycles, last_of_all};
 use ocfl_kept::room::Room;
 use ocfl_say::{Say, Speaking};
 use ocfl_scope::ScopeStop;
@@ -79,19 +81,73 @@ fn read_from<F: Read + Drop>(alloc: Global, opened: io::Result<F>) -> Result<Sep
     }
 }
 
+/// What came of a joining over calls, which are given back.
+#[derive(Drop)]
+pub struct Joining<C: Drop> {
+    /// The calls, unless they were lost.
+    pub calls: Option<C>,
+    /// The exit status, and whether it was said of each cycle that stopped why it did; or why none
+    /// was gone through.
+    pub came: Result<JoinEnd, Failure>,
+}
+
+/// The calls of folders that a joining gave back.
+fn calls_of<C: PartCalls + Drop>(disk: Option<FolderDisk<'_, C>>) -> Option<C>
+    ensures { result ≡ option_map (λ d. d.calls) disk.entry }
+{
+    match disk {
+        Some(disk) => Some(disk.into_calls()),
+        None => None,
+    }
+}
+
+/// Joins each cycle that all parts have closed, whose checkpoints say these facts, and that is not
+/// joined.
+fn join_known<C: PartCalls + Drop, S: Say + Drop>(
+    calls: C,
+    separators: &Separators,
+    facts: &[Option<Facts>],
+    out: S,
+) -> (Option<C>, JoinEnd)
+    ensures { IsTrue C.told → ComesTo C.folder C.disk separators.now facts.now
+        (C.folder calls) (C.disk calls).seen (length facts.now) result.0 result.1 }
+{
+    let alloc = calls.global();
+    let disk = FolderDisk::new(calls, facts);
+    let mut cycles = DiskCycles::over(alloc, separators, facts, disk, out);
+    let end = join_cycles(&mut cycles, facts.len(), last_of_all(facts));
+    (calls_of(cycles.into_disk()), end)
+}
+
 /// Reads what the checkpoints of all parts say, and joins each cycle that they have closed and that
-/// is not joined.
-fn join_over<C: PartCalls + Drop, S: Say + Drop>(
+/// is not joined, as `join_cycles` does. What is said of a joined report goes to `out`.
+///
+/// It fails if a checkpoint is none or cannot be read, or memory runs out before a cycle is looked
+/// at. Nothing is changed then.
+pub fn join_over<C: PartCalls + Drop, S: Say + Drop>(
     calls: C,
     separators: &Separators,
     out: S,
-) -> Result<JoinEnd, Failure> {
+) -> Joining<C>
+    ensures joined { IsTrue C.told → IfOk result.came (λ end.
+        HasJoined C.folder C.disk separators.now calls result.calls end) }
+    ensures failed { IsTrue C.told → OnErr result.came (IsSomeAnd result.calls (λ after.
+        (C.folder after ≡ C.folder calls) × Calm (C.disk calls) (C.disk after))) }
+{
     let mut calls = calls;
-    let alloc = calls.global();
-    let facts = read_all(&mut calls, separators.len().saturating_add(1))?;
-    let disk = FolderDisk::new(calls, &facts);
-    let mut cycles = DiskCycles::over(alloc, separators, &facts, disk, out);
-    Ok(join_cycles(&mut cycles, facts.len(), last_of_all(&facts)))
+    match read_all(&mut calls, separators.len().saturating_add(1)) {
+        Ok(facts) => {
+            let (calls, end) = join_known(calls, separators, &facts, out);
+            Joining {
+                calls,
+                came: Ok(end),
+            }
+        }
+        Err(failure) => Joining {
+            calls: Some(calls),
+            came: Err(failure),
+        },
+    }
 }
 
 /// Joins the parts that a command asks for, and gives what came of it.
@@ -105,7 +161,8 @@ where
     let _held = rt.hold_folder(folder)?;
     let mut writer = io::writer(rt);
     let out = Speaking { out: &mut writer };
-    join_over(RoomCalls::new(rt, folder), &separators, out)
+    let Joining { came, .. } = join_over(RoomCalls::new(rt, folder), &separators, out);
+    came
 }
 
 /// Says why a joining failed, or that memory ran out before all was said, and gives the exit

@@ -59,7 +59,7 @@ fn find_facts<C: PartCalls>(calls: &mut C, number: usize) -> Result<Option<Facts
     ensures calm { IsTrue C.told → Calm (C.disk calls.old) (C.disk calls.new) }
 {
     let path = part_of(calls, number)?;
-    if !calls.has(path.as_str()) {
+    if !calls.has(path.as_str())? {
         return Ok(None);
     }
     match calls.stored_in(path.as_str())? {

@@ -3,4 +3,4 @@ use Rattle.ocfl_part_folders.proofs.asking.count_in.Goals as goal
 
 pub returns-clause-counts : goal.returns-clause-counts
 returns-clause-counts g c = λ told cycle at.
-    counted_as c.counts_of.result _ _ g.C.PartCalls.counts (c.in_ok-report.ensures.made told cycle at) c.counts_of.ensures (g.met.C.PartCalls.counts_are told)
+    counted_as c.counts_of.result _ _ (c.in_ok-report.ensures.made told cycle at) c.counts_of.ensures

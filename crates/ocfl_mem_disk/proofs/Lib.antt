@@ -1,2 +1,4 @@
 mod Calling
 mod Naming
+mod Named
+mod Parted

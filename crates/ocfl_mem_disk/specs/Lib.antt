@@ -1,3 +1,4 @@
 pub mod Log
 pub mod Showing
 pub mod Joining
+pub mod Paths

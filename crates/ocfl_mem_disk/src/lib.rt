@@ -2,10 +2,16 @@
 //! made to fail. The tests use it, and the program does not.
 #![tactic(auto)]
 
+mod joined_path;
 mod mem_call;
 mod mem_disk;
+mod mem_file;
+mod mem_files;
 mod mem_join;
+mod mem_parts;
 mod shown;
 
 pub use mem_disk::{MemDisk, MemHandle};
+pub use mem_file::MemFile;
 pub use mem_join::{MemClosed, MemJoinDisk};
+pub use mem_parts::MemParts;

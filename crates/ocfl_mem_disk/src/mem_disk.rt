@@ -1,11 +1,11 @@
 //! A disk in memory, as a state folder's calls see it.
-ghost use Rattle.std.specs.Prelude.{◌≡◌, ◌<◌, ◌≤◌, ◌+◌, ◌++◌, ◌∷◌, [], true, IsTrue};
+ghost use Rattle.std.specs.Prelude.{◌≡◌, ◌⊎◌, ◌<◌, ◌≤◌, ◌+◌, ◌++◌, ◌∷◌, [], ℕ, true, IsTrue};
 ghost use Rattle.std.specs.Prelude.{IfOk, IfErr, OnOk, OnErr, None, Some, length, take, not};
-ghost use Rattle.std.specs.Prelude.{if◌then◌else◌};
+ghost use Rattle.std.specs.Prelude.{MatchResult, if◌then◌else◌};
 ghost use Rattle.std.specs.IoError.{error_kind};
 ghost use Rattle.std.specs.Option.{option_map};
 ghost use Rattle.ocfl_state.specs.Calls.{IsReadOf, bytes_of};
-ghost use Rattle.ocfl_disk.specs.Disk.{HasFault, has_name};
+ghost use Rattle.ocfl_disk.specs.Disk.{Calm, ClosesOver, HasFault, has_name};
 ghost use Rattle.ocfl_join_disk.specs.Shown.{file_named, text_in};
 ghost use Rattle.ocfl_mem_disk.specs.Log.{disk_of, shown_of, may_make};
 
@@ -170,6 +170,42 @@ impl MemDisk {
             Some(file) => Ok(Some(self.bytes(StateFile::Reports, file)?)),
             None => Ok(None),
         }
+    }
+}
+
+impl MemDisk {
+    /// The bytes of the report that is made, if there is one.
+    pub(crate) fn report_bytes(&mut self) -> Result<Option<Vec<u8>>, Reason>
+        ensures log { self.new.log ≡ self.old.log }
+        ensures later { self.old.faults ≤ self.new.faults }
+        ensures value { IfOk result (λ found. option_map bytes_of found
+            ≡ option_map (disk_of self.old.log.items self.old.faults).seen.bytes
+            (disk_of self.old.log.items self.old.faults).seen.names.report) }
+    {
+        self.begin(StateFile::Report)?;
+        let shown = self.shown(StateFile::Report)?;
+        match shown.report {
+            Some(file) => Ok(Some(self.bytes(StateFile::Report, file)?)),
+            None => Ok(None),
+        }
+    }
+
+    /// Closes the report that is made, if there is one, as that of a cycle.
+    pub(crate) fn close(&mut self, cycle: u64, whole: bool) -> Result<(), Reason>
+        ensures closes { ((file : ℕ)
+            → (disk_of self.old.log.items self.old.faults).seen.names.report ≡ Some file
+            → IsTrue ((disk_of self.old.log.items self.old.faults).is_synced file))
+            → MatchResult result
+            (λ _. ClosesOver cycle whole (disk_of self.old.log.items self.old.faults)
+            (disk_of self.new.log.items self.new.faults))
+            (λ _. Calm (disk_of self.old.log.items self.old.faults)
+            (disk_of self.new.log.items self.new.faults)
+            ⊎ ClosesOver cycle whole (disk_of self.old.log.items self.old.faults)
+            (disk_of self.new.log.items self.new.faults)) }
+        ensures cause { IfErr result (HasFault (disk_of self.old.log.items self.old.faults)
+            (disk_of self.new.log.items self.new.faults)) }
+    {
+        self.make(StateFile::Report, MemCall::Close(cycle, whole))
     }
 }
 
@@ -344,7 +380,7 @@ impl Disk for MemDisk {
     }
 
     fn rename_report(&mut self, cycle: u64, whole: bool) -> Result<(), Reason> {
-        self.make(StateFile::Report, MemCall::Close(cycle, whole))
+        self.close(cycle, whole)
     }
 
     fn sync_folder(&mut self, folder: StateFile) -> Result<(), Reason> {

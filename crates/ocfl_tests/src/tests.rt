@@ -19,6 +19,7 @@ mod inventory;
 mod item;
 mod join_disk;
 mod joined_cycles;
+mod joined_parts;
 mod joining;
 mod journal;
 mod laws;

@@ -1,5 +1,0 @@
-use Rattle.ocfl_mem_disk.proofs.Calling.{closes_either}
-use Rattle.ocfl_mem_disk.proofs.mem_disk.MemDiskDisk.rename_report.Goals as goal
-
-pub returns-clause-closes : goal.returns-clause-closes
-returns-clause-closes c = λ told. closes_either c.args.cycle c.args.whole c.args.self.now.log.items c.make.new.self.log.items c.args.self.now.faults c.make.new.self.faults c.make.result (c.requires.synced told) c.make.ensures.ok c.make.ensures.err c.make.ensures.later

@@ -1,5 +1,6 @@
 //! What changed in a closed cycle, and the list of what is gone.
-ghost use Rattle.std.specs.Prelude.{◌≡◌, ◌++◌, [], true, IsTrue, IfOk, IsOkUnless, None, OnOk, Some};
+ghost use Rattle.std.specs.Prelude.{◌≡◌, ◌++◌, [], true, IsTrue, IfOk, IsOkUnless};
+ghost use Rattle.std.specs.Prelude.{None, OnOk, Some};
 ghost use Rattle.ocfl_tree.specs.Place.{Text};
 ghost use Rattle.ocfl_compare.specs.{Compared.{IsCompared}, Expected.{IsSearched}};
 ghost use Rattle.ocfl_accounts.specs.Causes.{HasCause, IsCause};

@@ -77,8 +77,8 @@ fn kind_at(code: Code, place: &Place) -> Kind
     kind_of(code)
 }
 
-/// Whether it is a line of an object's head. One of an inventory in a version directory is none; an
-/// object at a place like that of such an inventory is mistaken for one.
+/// Whether it is a line of an object's head. A line of an inventory in a version directory is not;
+/// an object at a place like that of such an inventory is mistaken for one.
 pub fn is_of_object(line: &Line) -> bool
     ensures { result ≡ tells_object (line_of line.now) }
 {

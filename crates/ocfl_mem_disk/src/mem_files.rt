@@ -5,7 +5,8 @@ ghost use Rattle.ocfl_tree.specs.Place.{Text};
 ghost use Rattle.ocfl_kept.specs.FilePaths.{report_path as path_of_report};
 ghost use Rattle.ocfl_part_folders.specs.Folder.{first_of, found_by as found_by_these};
 ghost use Rattle.ocfl_state.specs.Calls.{bytes_of};
-ghost use Rattle.ocfl_mem_disk.specs.Paths.{bytes_at as bytes_at_path, has_file as has_file_at, is_at};
+ghost use Rattle.ocfl_mem_disk.specs.Paths.{bytes_at as bytes_at_path, has_file as has_file_at};
+ghost use Rattle.ocfl_mem_disk.specs.Paths.{is_at};
 
 use crate::mem_file::MemFile;
 use ocfl_joining::FoundReport;

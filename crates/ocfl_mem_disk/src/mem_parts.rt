@@ -1,6 +1,7 @@
 //! The folder of all parts in memory, whose reports are joined on a disk in memory.
 ghost use Rattle.std.specs.Prelude.{◌≡◌, ◌⊎◌, ◌<◌, ◌^◌, ℕ, [], true, IfOk, IfSome, IsNone, IsTrue};
-ghost use Rattle.std.specs.Prelude.{IsErr, MatchResult, None, Ok, OnOk, Some, option_map, string_bytes};
+ghost use Rattle.std.specs.Prelude.{IsErr, MatchResult, None, Ok, OnOk, Some, option_map};
+ghost use Rattle.std.specs.Prelude.{string_bytes};
 ghost use Rattle.ocfl_state.specs.Calls.{bytes_of};
 ghost use Rattle.ocfl_disk.specs.Disk.{Calm, ClosesOver, has_name};
 ghost use Rattle.ocfl_disk.specs.Names.{report_of};

@@ -122,8 +122,8 @@ fn join_known<C: PartCalls + Drop, S: Say + Drop>(
 /// Reads what the checkpoints of all parts say, and joins each cycle that they have closed and that
 /// is not joined, as `join_cycles` does. What is said of a joined report goes to `out`.
 ///
-/// It fails if a checkpoint is none or cannot be read, or memory runs out before a cycle is looked
-/// at. Nothing is changed then.
+/// It fails if a checkpoint cannot be read or is not one, or if memory runs out before a cycle is
+/// looked at. Nothing is changed then.
 pub fn join_over<C: PartCalls + Drop, S: Say + Drop>(
     calls: C,
     separators: &Separators,

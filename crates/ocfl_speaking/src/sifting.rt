@@ -169,8 +169,9 @@ impl Sifting {
         put_beginning(&line.place, &mut self.within)
     }
 
-    /// The findings among the lines that were given since they were asked for last. A beginning of a
-    /// line is one that is none. The report may be over. It is not used again if memory runs out.
+    /// The findings among the lines that were given since they were asked for last. The beginning
+    /// of a line counts as a line that is left out. The report may be over. It is not used again if
+    /// memory runs out.
     pub fn end(&mut self, alloc: Global, is_over: bool) -> Result<Gravest, AllocError>
         ensures { IfOk result (λ found. (known : List ModelEntry) (g : Given)
             → IsSifted known self.old g → IsFound known is_over g found self.new) }

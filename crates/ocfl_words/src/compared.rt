@@ -74,8 +74,8 @@ impl ComparedLines {
         self.lines.take(alloc, line)
     }
 
-    /// Takes a finding of the last place that is new and not known, after all lines of the place. It
-    /// is to be said, unless it is one of those that were said before.
+    /// Takes a finding of the last place that is new and not known, after all lines of the place.
+    /// It is to be said, unless it is one of those that were said before.
     pub(crate) fn name(&mut self, before: &[Line], line: &Line)
         ensures { (h : Held) → AreHeld self.old h
             → AreHeld self.new (held_new (map line_of before.now) h (line_of line.now ∷ [])) }

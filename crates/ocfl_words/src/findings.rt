@@ -45,7 +45,8 @@ impl Findings {
         }
     }
 
-    /// Takes the new ones of another comparison of the same report too. They come after these.
+    /// Takes the new ones of another comparison of the same report too. They come after these. It
+    /// is not used again if memory runs out.
     pub fn join(&mut self, other: &mut Findings) -> Result<(), AllocError>
         ensures gravest { OnOk result ((fs gs : List ModelFinding) → IsOf self.old.gravest fs
             → IsOf other.old.gravest gs → IsOf self.new.gravest (fs ++ gs)) }

@@ -1,5 +1,6 @@
 //! The lines of a report while it is compared, with those that are to be said.
-ghost use Rattle.std.specs.Prelude.{◌≡◌, ◌++◌, ◌&&◌, All, Bool, List, IfOk, OnOk, if◌then◌else◌, map, not};
+ghost use Rattle.std.specs.Prelude.{◌≡◌, ◌++◌, ◌&&◌, All, Bool, List, IfOk, OnOk};
+ghost use Rattle.std.specs.Prelude.{if◌then◌else◌, map, not};
 ghost use Rattle.ocfl_report.specs.Line.{Line as ModelLine, line_of};
 ghost use Rattle.ocfl_messages.specs.Finding.{Finding as ModelFinding, Section, ended_after};
 ghost use Rattle.ocfl_messages.specs.Finding.{section_after};
@@ -31,9 +32,9 @@ impl Waiting {
     }
 }
 
-/// The lines of a report while it is compared, and which findings among them are to be said. Only the
-/// changes of a place, which come after its lines, say which of them are new: from its first finding
-/// on they wait for that.
+/// The lines of a report while it is compared, and which findings among them are to be said. Only
+/// the changes of a place, which come after its lines, say which of them are new: from its first
+/// finding on they wait for that.
 #[derive(Drop)]
 pub(crate) struct MarkedLines {
     /// Those of the last place.
@@ -44,7 +45,8 @@ pub(crate) struct MarkedLines {
 
 impl MarkedLines {
     ghost use Rattle.ocfl_report.specs.Line.{is_finding_code};
-    ghost use Rattle.ocfl_words.specs.Held.{AreMarked, IsOfMarked, Marks, all_of, is_nil, marks_named};
+    ghost use Rattle.ocfl_words.specs.Held.{AreMarked, IsOfMarked, Marks, all_of, is_nil};
+    ghost use Rattle.ocfl_words.specs.Held.{marks_named};
     ghost use Rattle.ocfl_words.specs.Held.{marks_with, no_marks, put_line, settled};
     ghost use Rattle.ocfl_words.specs.Held.{waits_at as is_waiting_at};
 

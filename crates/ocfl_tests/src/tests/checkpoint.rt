@@ -521,6 +521,19 @@ fn a_part_is_known_by_what_was_kept(rt: HostRuntime) -> Result<(), Fail> {
     let checking = facts_of(alloc, &checkpoint_of(alloc, Further::Inventories)?)?;
     let part = known_part(alloc, &checking, 7, true, &found)?;
     assert_eq!(rt; part.further, Further::Inventories);
+    for kept in [None, Some(None)] {
+        let found = found_with(true, kept);
+        let part = known_part(alloc, &facts, 7, true, &found)?;
+        assert!(rt; part.names.is_none() && part.left.is_empty() && part.whole);
+        assert!(rt; add_runs(Some(5), &found.kept).is_none());
+    }
+    Ok(())
+}
+
+#[test]
+fn runs_and_marks_are_known_by_what_was_kept(rt: HostRuntime) -> Result<(), Fail> {
+    let alloc = rt.alloc();
+    let found = found_with(false, Some(Some(part_checkpoint(alloc)?)));
     let kept = &found.kept;
     assert_eq!(rt; add_runs(Some(5), kept), Some(7));
     assert_eq!(rt; add_runs(Some(u64::MAX), kept), Some(u64::MAX));
@@ -538,12 +551,6 @@ fn a_part_is_known_by_what_was_kept(rt: HostRuntime) -> Result<(), Fail> {
     assert!(rt; matches!(mark_of(false, kept), KeptMark::Kept(mark) if mark.lines == 7));
     assert_eq!(rt; mark_of(false, &Some(None)), KeptMark::Damaged);
     assert_eq!(rt; mark_of(false, &None), KeptMark::NotKept);
-    for kept in [None, Some(None)] {
-        let found = found_with(true, kept);
-        let part = known_part(alloc, &facts, 7, true, &found)?;
-        assert!(rt; part.names.is_none() && part.left.is_empty() && part.whole);
-        assert!(rt; add_runs(Some(5), &found.kept).is_none());
-    }
     Ok(())
 }
 

@@ -430,13 +430,7 @@ const ROWS: [Row; 12] = [
         listed: None,
         rows: "",
         known: "z",
-        compared: Compared {
-            left: &[],
-            before: 2,
-            left_before: &["q"],
-            whole: 1,
-            lost: false,
-        },
+        compared: SINCE_1_AND_2,
         calls: "list 3;2;kept 2;3;kept 3;1;kept 1;3;kept 3;",
         list: "object\tq\n",
         text: "Cycle 3 ended: 0 of 0 files right, 1 object, 0 bytes.\n\
@@ -453,13 +447,7 @@ const ROWS: [Row; 12] = [
         listed: None,
         rows: "",
         known: "z",
-        compared: Compared {
-            left: &[],
-            before: 2,
-            left_before: &["q"],
-            whole: 1,
-            lost: false,
-        },
+        compared: SINCE_1_AND_2,
         calls: "list 3;2;kept 2;3;kept 3;1;kept 1;3;kept 3;",
         list: "",
         text: "Cycle 3 ended: 0 of 0 files right, 2 objects, 0 bytes.\n\

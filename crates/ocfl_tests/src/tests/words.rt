@@ -167,7 +167,7 @@ const REPORT: [&str; 5] = [
     "ok\tq\t-\n",
 ];
 
-/// What is found of that report, since one with another finding, if these findings were said before.
+/// What is found of that report, since one with another finding, if these were said before.
 fn found_in_report(alloc: Global, said: &[Line]) -> Result<Part, Fail> {
     let known = Known::new(alloc);
     let mut noting = Noting::new(alloc, &known, said);

@@ -193,9 +193,16 @@ fn nothing_is_shown_of_other_bytes(rt: HostRuntime) -> Result<(), Fail> {
     ] {
         expect_unshown(&rt, row, &text, Then::Ends, wanted);
     }
+    Ok(())
+}
+
+#[test]
+fn nothing_is_shown_by_a_reader_that_fails(rt: HostRuntime) -> Result<(), Fail> {
+    let alloc = rt.alloc();
     let text = sealed(alloc, PART)?;
     let given = [("a reader that fails", text.as_slice())];
-    let stops = (ShowStop::Whole(CursorStop::Read), of_whole(Refused::Memory));
+    let memory = ShowStop::Whole(CursorStop::Refused(Refused::Memory));
+    let stops = (ShowStop::Whole(CursorStop::Read), memory);
     expect_failures(&rt, &given, stops, |mut reader| {
         Ok(read_shown(alloc, &mut reader).err())
     })

@@ -5,8 +5,8 @@ use Rattle.std.specs.Prelude.{◌||◌}
 use Rattle.clap.specs.Words.{App, AddsArg, AddsSubcommand, Text, app_of, with_rule, with_subcommand}
 use Rattle.clap.specs.{declared.builder.arg.Arg.{Arg}, declared.builder.command.Command.{Command}}
 use Rattle.clap.specs.declared.builder.command.Command.TheViews.{out-Command}
-use Rattle.ocfl_arguments.specs.Line.{IsArg, IsCommand, app_with, line_app, rule_for}
-use Rattle.ocfl_arguments.specs.Internal.Shapes.{app_for, with_subcommands}
+use Rattle.ocfl_arguments.specs.Line.{IsArg, IsCommand, app_with, line_app}
+use Rattle.ocfl_arguments.specs.Internal.Shapes.{app_for, rule_for, with_subcommands}
 use Rattle.ocfl_arguments.specs.{declared.command.Argument.{Argument}, declared.command.Subcommand.{Subcommand}}
 
 -- with the subcommands from the i-th one on it is the whole program

@@ -5,8 +5,6 @@ use Rattle.clap.specs.{Simple.{on_top}, declared.builder.action.ArgAction.TheVar
 use Rattle.clap.specs.{declared.builder.arg.Arg.{Arg}, declared.builder.command.Command.{Command}}
 use Rattle.clap.specs.declared.builder.command.Command.TheViews.{out-Command}
 use Rattle.clap.specs.declared.builder.value_parser.ValueParser.TheVariants as vp
-use Rattle.ocfl_arguments.specs.declared.command.Argument.{Argument}
-use Rattle.ocfl_arguments.specs.declared.command.Argument.TheVariants.{Needed, Optional, Wanted, Named, Flag, Root, Cursor, Budget, Files, Runs, Quiet, Inventories, Parts, Part, Count, Hours, End, Every}
 
 abbrev pub most_runs : ℕ
 most_runs = 100000
@@ -98,27 +96,6 @@ end_rule = record (named_rule (codes "end")) { parser = Some (vp.Unsigned 0 1844
 -- after how many days; `HasBounds` says what it is for
 abbrev pub every_rule : Rule
 every_rule = record (named_rule (codes "every")) { parser = Some (vp.Unsigned 1 most_days) }
-
--- the rule of each argument of the program
-abbrev pub rule_for : Argument → Rule
-rule_for (Needed id value help) = needed_rule id.now
-rule_for (Optional id value help) = optional_rule id.now
-rule_for (Wanted id value help) = wanted_rule id.now
-rule_for (Named id value help) = named_rule id.now
-rule_for (Flag id help) = flag_rule id.now
-rule_for Root = root_rule
-rule_for Cursor = cursor_rule
-rule_for Budget = budget_rule
-rule_for Files = files_rule
-rule_for Runs = runs_rule
-rule_for Quiet = flag_rule (codes "quiet")
-rule_for Inventories = flag_rule (codes "inventories")
-rule_for Parts = named_rule (codes "parts")
-rule_for Part = part_rule
-rule_for Count = count_rule
-rule_for Hours = hours_rule
-rule_for End = end_rule
-rule_for Every = every_rule
 
 -- the argument is one that `clap` reads by this rule, for its own subcommand alone
 abbrev pub IsArg : Rule → Arg → Type 0

@@ -1,14 +1,10 @@
 //! The program's subcommands and arguments, as `clap` takes them.
-ghost use Rattle.std.specs.Prelude.{◌≡◌, IfOk, false};
+ghost use Rattle.std.specs.Prelude.{◌≡◌, IfOk};
 ghost use Rattle.clap.specs.Words.{Rule};
-ghost use Rattle.ocfl_arguments.specs.Line.{IsArg, IsCommand, bare_app, line_app, rule_for};
-ghost use Rattle.ocfl_arguments.specs.Internal.Shapes.{app_for, number_rule, range_parser, shape_rule, value_rule, with_subcommands};
-ghost use Rattle.ocfl_arguments.specs.declared.command.Range.TheVariants.{Count};
+ghost use Rattle.ocfl_arguments.specs.Line.{IsArg, IsCommand, bare_app, line_app};
+ghost use Rattle.ocfl_arguments.specs.Internal.Shapes.{app_for, range_parser, rule_for};
+ghost use Rattle.ocfl_arguments.specs.Internal.Shapes.{value_rule, with_subcommands};
 
-use crate::command::Argument::{
-    Budget, Count, Cursor, End, Every, Files, Flag, Hours, Inventories, Named, Needed, Optional,
-    Part, Parts, Quiet, Root, Runs, Wanted,
-};
 use crate::command::Taken::{Nothing, Number, Words, WordsOr};
 use clap::builder::ValueParser;
 use clap::{Arg, ArgAction, Command, value_parser};
@@ -29,119 +25,6 @@ Exit status:
   3  stopped, worn or the cursor file failed
   4  cursor refused
   75 another night holds the lock";
-
-/// An argument of a subcommand. One that a single subcommand takes comes with its id, which is the
-/// name of an option too, with what its value is called, and with what help says of it.
-#[derive(Clone, Copy)]
-enum Argument<'a> {
-    /// Must be given.
-    Needed(&'a str, &'a str, &'a str),
-    /// May be left out.
-    Optional(&'a str, &'a str, &'a str),
-    /// An option that must be given.
-    Wanted(&'a str, &'a str, &'a str),
-    /// An option that may be left out.
-    Named(&'a str, &'a str, &'a str),
-    /// An option without a value.
-    Flag(&'a str, &'a str),
-    Root,
-    Cursor,
-    Budget,
-    Files,
-    Runs,
-    Quiet,
-    /// Whether an audit checks the inventories of version directories too.
-    Inventories,
-    /// The file of the separators.
-    Parts,
-    /// Which of the parts.
-    Part,
-    /// How many parts.
-    Count,
-    /// How many hours.
-    Hours,
-    /// A time in seconds.
-    End,
-    /// How many days.
-    Every,
-}
-
-// What help says of each.
-const ROOT: &str = "The folder of the storage root";
-
-const PATH: &str = "A place in it, as report lines write it or by its real name; . is the root";
-
-const FILE: &str = "The cursor file, or the checkpoint of a state folder";
-
-const CURSOR: &str = "The cursor file, which the run replaces; one that is not there is a new \
-cursor";
-
-const BUDGET: &str = "A run starts a file only while it has read less than N, in bytes and 1 for \
-each file: 1 to 4611686018427387904, alone or with a unit: K, M, G, T, KiB, MiB, GiB or TiB \
-(powers of 1024), or kB, MB, GB or TB (powers of 1000), in capitals or small letters";
-
-const FILES: &str = "The most files that a run starts: N as for the budget";
-
-const MAX_FILES: &str = "4611686018427387904";
-
-const RUNS: &str = "The most runs: 1 to 100000";
-
-const QUIET: &str = "Shows no progress; it is shown where standard error is a terminal";
-
-const INVENTORIES: &str = "Also checks the inventories of version directories";
-
-const UNDER: &str = "Takes only this place and what is below it, written as in report lines";
-
-const PARTS: &str = "The separators, one a line, which cut the root into parts; split writes them";
-
-const PART: &str = "Takes only this one of the parts: 1 to 100001";
-
-const COUNT: &str = "The most parts, of about equally many directories each: 1 to 100000";
-
-const ANY_BUDGET: &str = "Each part but the last costs N or one file more, in bytes and 1 for each \
-file; N as run takes it";
-
-const REPORT: &str = "A report of the whole storage root, which says what each file cost";
-
-const ANY_INVENTORIES: &str = "Changes nothing: the parts are the same for an audit with it";
-
-const STATE: &str = "The state folder, which keeps the checkpoint, the reports and the log: one \
-for each storage root, or for each part of one";
-
-const NIGHT_BUDGET: &str = "The night begins no further run once it has read N, in bytes and 1 for \
-each file; N as run takes it";
-
-const NIGHT_FILES: &str = "The night begins no further run once it has started N files: N as for \
-the budget";
-
-const SLICE: &str = "How much each run reads before the next checkpoint: N as for the budget";
-
-const HOURS: &str = "Begins no run once this many hours have passed: 1 to 24";
-
-const UNTIL: &str = "Begins no run after the clock next shows this time: 00:00 to 23:59";
-
-const END: &str = "Begins no run from this time on, in seconds since 1970-01-01 00:00 UTC";
-
-const EVERY: &str = "Begins no new cycle before the last one ended DAYS days ago: 1 to 3650; one \
-that is open goes on";
-
-const KNOWN: &str = "A file of known findings, which messages leave out: report lines, one a line";
-
-const EXPECTED: &str = "A file of the objects that must be there, one path a line; of a part those \
-that are in it count";
-
-const CREATE: &str = "Begins the first cycle if the state folder has no checkpoint";
-
-const FORCE_ROOT: &str = "Goes on even if the declaration of ROOT has changed or most of its names \
-are gone; a root at another path needs a new state folder";
-
-const STOP_AT_FAULTS: &str = "Ends the night at the first place that cannot be read; without it, a \
-place that fails twice is left out of the cycle, with all below it";
-
-const JSON: &str = "As JSON, for programs: an array with an object for each code";
-
-const PART_STATES: &str = "The folder that has the state folders of the parts: part-000001 and so \
-on";
 
 /// The value of an argument.
 #[derive(Clone, Copy)]
@@ -171,68 +54,10 @@ enum Range {
     Any,
 }
 
-/// How `clap` takes an argument: its id, what help says of it, its name if it is an option, whether
+/// An argument of a subcommand: its id, what help says of it, its name if it is an option, whether
 /// it must be given, and its value.
 #[derive(Clone, Copy)]
-struct Shape<'a>(&'a str, &'a str, Option<&'a str>, bool, Taken<'a>);
-
-/// How `clap` takes a number in a range, which is an option of its own name.
-fn numbered<'a>(name: &'a str, help: &'a str, value: &'a str, range: Range) -> Shape<'a>
-    ensures { shape_rule result ≡ number_rule name.now name.now false range }
-{
-    Shape(name, help, Some(name), false, Number(value, range))
-}
-
-/// How `clap` takes how many there are at most.
-fn counted<'a>(id: &'a str, help: &'a str, name: &'a str, is_required: bool) -> Shape<'a>
-    ensures { shape_rule result ≡ number_rule id.now name.now is_required Count }
-{
-    Shape(
-        id,
-        help,
-        Some(name),
-        is_required,
-        Number("COUNT", Range::Count),
-    )
-}
-
-/// How `clap` takes an argument.
-fn shape_of<'a>(argument: Argument<'a>) -> Shape<'a>
-    ensures { shape_rule result ≡ rule_for argument.entry }
-{
-    match argument {
-        Needed(id, value, help) => Shape(id, help, None, true, Words(value)),
-        Optional(id, value, help) => Shape(id, help, None, false, Words(value)),
-        Wanted(id, value, help) => Shape(id, help, Some(id), true, Words(value)),
-        Named(id, value, help) => Shape(id, help, Some(id), false, Words(value)),
-        Flag(id, help) => Shape(id, help, Some(id), false, Nothing),
-        Root => Shape("root", ROOT, None, true, Words("ROOT")),
-        Cursor => Shape("file", CURSOR, Some("cursor"), true, Words("FILE")),
-        Budget => Shape("budget", BUDGET, Some("budget"), true, Words("N")),
-        Files => Shape(
-            "files",
-            FILES,
-            Some("files"),
-            false,
-            WordsOr("N", MAX_FILES),
-        ),
-        Runs => counted("runs", RUNS, "runs", true),
-        Quiet => Shape("quiet", QUIET, Some("quiet"), false, Nothing),
-        Inventories => Shape(
-            "inventories",
-            INVENTORIES,
-            Some("inventories"),
-            false,
-            Nothing,
-        ),
-        Parts => Shape("parts", PARTS, Some("parts"), false, Words("FILE")),
-        Part => numbered("part", PART, "K", Range::Part),
-        Count => counted("count", COUNT, "parts", false),
-        Hours => numbered("hours", HOURS, "H", Range::Hours),
-        End => numbered("end", END, "SECONDS", Range::Any),
-        Every => numbered("every", EVERY, "DAYS", Range::Days),
-    }
-}
+struct Argument<'a>(&'a str, &'a str, Option<&'a str>, bool, Taken<'a>);
 
 /// What `clap` reads the numbers of a range by.
 fn parser_of<'a>(range: Range) -> ValueParser<'a>
@@ -263,7 +88,7 @@ fn with_value<'a>(arg: Arg<'a>, taken: Taken<'a>) -> Arg<'a>
 fn arg_of<'a>(alloc: Global, argument: Argument<'a>) -> Arg<'a>
     ensures { IsArg (rule_for argument.entry) result }
 {
-    let Shape(id, help, long, required, taken) = shape_of(argument);
+    let Argument(id, help, long, required, taken) = argument;
     let arg = Arg::new(alloc, id).help(help).required(required);
     match long {
         Some(name) => with_value(arg.long(name), taken),
@@ -402,67 +227,322 @@ Example:
     arguments: CODES_ARGUMENTS,
 };
 
-// The arguments of the subcommands.
-const AUDIT_ARGUMENTS: &[Argument<'static>] = &[
-    Named("under", "PLACE", UNDER),
-    Parts,
-    Part,
-    Inventories,
-    Quiet,
-    Root,
-];
+// The arguments of several subcommands.
+const ROOT: Argument<'static> = Argument("root", ROOT_HELP, None, true, Words("ROOT"));
+
+const CURSOR: Argument<'static> = Argument(
+    "file",
+    "The cursor file, which the run replaces; one that is not there is a new cursor",
+    Some("cursor"),
+    true,
+    Words("FILE"),
+);
+
+const BUDGET: Argument<'static> = Argument(
+    "budget",
+    "A run starts a file only while it has read less than N, in bytes and 1 for each file: 1 to \
+4611686018427387904, alone or with a unit: K, M, G, T, KiB, MiB, GiB or TiB (powers of 1024), or \
+kB, MB, GB or TB (powers of 1000), in capitals or small letters",
+    Some("budget"),
+    true,
+    Words("N"),
+);
+
+const FILES: Argument<'static> = Argument(
+    "files",
+    "The most files that a run starts: N as for the budget",
+    Some("files"),
+    false,
+    WordsOr("N", MAX_FILES),
+);
+
+const MAX_FILES: &str = "4611686018427387904";
+
+const PARTS: Argument<'static> = Argument("parts", PARTS_HELP, Some("parts"), false, Words("FILE"));
+
+const PART: Argument<'static> = Argument(
+    "part",
+    "Takes only this one of the parts: 1 to 100001",
+    Some("part"),
+    false,
+    Number("K", Range::Part),
+);
+
+const INVENTORIES: Argument<'static> = Argument(
+    "inventories",
+    "Also checks the inventories of version directories",
+    Some("inventories"),
+    false,
+    Nothing,
+);
+
+const QUIET: Argument<'static> = Argument(
+    "quiet",
+    "Shows no progress; it is shown where standard error is a terminal",
+    Some("quiet"),
+    false,
+    Nothing,
+);
+
+// What help says of an argument that is another one elsewhere.
+const ROOT_HELP: &str = "The folder of the storage root";
+
+const PARTS_HELP: &str = "The separators, one a line, which cut the root into parts; split writes \
+them";
+
+// The arguments of one subcommand.
+const UNDER: Argument<'static> = Argument(
+    "under",
+    "Takes only this place and what is below it, written as in report lines",
+    Some("under"),
+    false,
+    Words("PLACE"),
+);
+
+const RUNS: Argument<'static> = Argument(
+    "runs",
+    "The most runs: 1 to 100000",
+    Some("runs"),
+    true,
+    Number("COUNT", Range::Count),
+);
+
+const STATE: Argument<'static> = Argument(
+    "state",
+    "The state folder, which keeps the checkpoint, the reports and the log: one for each storage \
+root, or for each part of one",
+    Some("state"),
+    true,
+    Words("DIR"),
+);
+
+const NIGHT_BUDGET: Argument<'static> = Argument(
+    "budget",
+    "The night begins no further run once it has read N, in bytes and 1 for each file; N as run \
+takes it",
+    Some("budget"),
+    false,
+    Words("N"),
+);
+
+const NIGHT_FILES: Argument<'static> = Argument(
+    "files",
+    "The night begins no further run once it has started N files: N as for the budget",
+    Some("files"),
+    false,
+    Words("N"),
+);
+
+const SLICE: Argument<'static> = Argument(
+    "slice",
+    "How much each run reads before the next checkpoint: N as for the budget",
+    Some("slice"),
+    false,
+    Words("N"),
+);
+
+const HOURS: Argument<'static> = Argument(
+    "hours",
+    "Begins no run once this many hours have passed: 1 to 24",
+    Some("hours"),
+    false,
+    Number("H", Range::Hours),
+);
+
+const UNTIL: Argument<'static> = Argument(
+    "until",
+    "Begins no run after the clock next shows this time: 00:00 to 23:59",
+    Some("until"),
+    false,
+    Words("HH:MM"),
+);
+
+const END: Argument<'static> = Argument(
+    "end",
+    "Begins no run from this time on, in seconds since 1970-01-01 00:00 UTC",
+    Some("end"),
+    false,
+    Number("SECONDS", Range::Any),
+);
+
+const EVERY: Argument<'static> = Argument(
+    "every",
+    "Begins no new cycle before the last one ended DAYS days ago: 1 to 3650; one that is open goes \
+on",
+    Some("every"),
+    false,
+    Number("DAYS", Range::Days),
+);
+
+const KNOWN: Argument<'static> = Argument(
+    "known",
+    "A file of known findings, which messages leave out: report lines, one a line",
+    Some("known"),
+    false,
+    Words("FILE"),
+);
+
+const EXPECTED: Argument<'static> = Argument(
+    "expected",
+    "A file of the objects that must be there, one path a line; of a part those that are in it \
+count",
+    Some("expected"),
+    false,
+    Words("FILE"),
+);
+
+const CREATE: Argument<'static> = Argument(
+    "create",
+    "Begins the first cycle if the state folder has no checkpoint",
+    Some("create"),
+    false,
+    Nothing,
+);
+
+const FORCE_ROOT: Argument<'static> = Argument(
+    "force-root",
+    "Goes on even if the declaration of ROOT has changed or most of its names are gone; a root at \
+another path needs a new state folder",
+    Some("force-root"),
+    false,
+    Nothing,
+);
+
+const STOP_AT_FAULTS: Argument<'static> = Argument(
+    "stop-at-faults",
+    "Ends the night at the first place that cannot be read; without it, a place that fails twice \
+is left out of the cycle, with all below it",
+    Some("stop-at-faults"),
+    false,
+    Nothing,
+);
+
+const PATH: Argument<'static> = Argument(
+    "path",
+    "A place in it, as report lines write it or by its real name; . is the root",
+    None,
+    true,
+    Words("PATH"),
+);
+
+const COUNT: Argument<'static> = Argument(
+    "count",
+    "The most parts, of about equally many directories each: 1 to 100000",
+    Some("parts"),
+    false,
+    Number("COUNT", Range::Count),
+);
+
+const SPLIT_BUDGET: Argument<'static> = Argument(
+    "budget",
+    "Each part but the last costs N or one file more, in bytes and 1 for each file; N as run takes \
+it",
+    Some("budget"),
+    false,
+    Words("N"),
+);
+
+const REPORT: Argument<'static> = Argument(
+    "report",
+    "A report of the whole storage root, which says what each file cost",
+    Some("report"),
+    false,
+    Words("FILE"),
+);
+
+const SPLIT_INVENTORIES: Argument<'static> = Argument(
+    "inventories",
+    "Changes nothing: the parts are the same for an audit with it",
+    Some("inventories"),
+    false,
+    Nothing,
+);
+
+const SPLIT_ROOT: Argument<'static> = Argument("root", ROOT_HELP, None, false, Words("ROOT"));
+
+const JOIN_PARTS: Argument<'static> = Argument(
+    "parts",
+    PARTS_HELP,
+    Some("parts"),
+    true,
+    Words("FILE"),
+);
+
+const JOIN_STATE: Argument<'static> = Argument(
+    "state",
+    "The folder that has the state folders of the parts: part-000001 and so on",
+    Some("state"),
+    true,
+    Words("DIR"),
+);
+
+const SHOWN: Argument<'static> = Argument(
+    "file",
+    "The cursor file, or the checkpoint of a state folder",
+    None,
+    true,
+    Words("FILE"),
+);
+
+const JSON: Argument<'static> = Argument(
+    "json",
+    "As JSON, for programs: an array with an object for each code",
+    Some("json"),
+    false,
+    Nothing,
+);
+
+// The arguments of each subcommand, as help shows them.
+const AUDIT_ARGUMENTS: &[Argument<'static>] = &[UNDER, PARTS, PART, INVENTORIES, QUIET, ROOT];
 
 const RUN_ARGUMENTS: &[Argument<'static>] = &[
-    Cursor,
-    Budget,
-    Files,
-    Parts,
-    Part,
-    Inventories,
-    Quiet,
-    Root,
+    CURSOR,
+    BUDGET,
+    FILES,
+    PARTS,
+    PART,
+    INVENTORIES,
+    QUIET,
+    ROOT,
 ];
 
-const CYCLE_ARGUMENTS: &[Argument<'static>] = &[Budget, Files, Runs, Inventories, Quiet, Root];
+const CYCLE_ARGUMENTS: &[Argument<'static>] = &[BUDGET, FILES, RUNS, INVENTORIES, QUIET, ROOT];
 
 const NIGHT_ARGUMENTS: &[Argument<'static>] = &[
-    Wanted("state", "DIR", STATE),
-    Named("budget", "N", NIGHT_BUDGET),
-    Named("files", "N", NIGHT_FILES),
-    Named("slice", "N", SLICE),
-    Hours,
-    Named("until", "HH:MM", UNTIL),
-    End,
-    Every,
-    Parts,
-    Part,
-    Inventories,
-    Named("known", "FILE", KNOWN),
-    Named("expected", "FILE", EXPECTED),
-    Flag("create", CREATE),
-    Flag("force-root", FORCE_ROOT),
-    Flag("stop-at-faults", STOP_AT_FAULTS),
-    Root,
+    STATE,
+    NIGHT_BUDGET,
+    NIGHT_FILES,
+    SLICE,
+    HOURS,
+    UNTIL,
+    END,
+    EVERY,
+    PARTS,
+    PART,
+    INVENTORIES,
+    KNOWN,
+    EXPECTED,
+    CREATE,
+    FORCE_ROOT,
+    STOP_AT_FAULTS,
+    ROOT,
 ];
 
-const CHECK_ARGUMENTS: &[Argument<'static>] = &[Inventories, Root, Needed("path", "PATH", PATH)];
+const CHECK_ARGUMENTS: &[Argument<'static>] = &[INVENTORIES, ROOT, PATH];
 
 const SPLIT_ARGUMENTS: &[Argument<'static>] = &[
-    Count,
-    Named("budget", "N", ANY_BUDGET),
-    Named("report", "FILE", REPORT),
-    Flag("inventories", ANY_INVENTORIES),
-    Optional("root", "ROOT", ROOT),
+    COUNT,
+    SPLIT_BUDGET,
+    REPORT,
+    SPLIT_INVENTORIES,
+    SPLIT_ROOT,
 ];
 
-const JOIN_ARGUMENTS: &[Argument<'static>] = &[
-    Wanted("parts", "FILE", PARTS),
-    Wanted("state", "DIR", PART_STATES),
-];
+const JOIN_ARGUMENTS: &[Argument<'static>] = &[JOIN_PARTS, JOIN_STATE];
 
-const SHOW_ARGUMENTS: &[Argument<'static>] = &[Needed("file", "FILE", FILE)];
+const SHOW_ARGUMENTS: &[Argument<'static>] = &[SHOWN];
 
-const CODES_ARGUMENTS: &[Argument<'static>] = &[Flag("json", JSON)];
+const CODES_ARGUMENTS: &[Argument<'static>] = &[JSON];
 
 // The program's own texts, without its subcommands.
 fn bare_command<'a>(alloc: Global) -> Command<'a>

@@ -6,8 +6,8 @@ ghost use Rattle.clap.specs.declared.error.kind.ErrorKind.TheVariants.{ValueVali
 use crate::budget::read_amount;
 use crate::command::{line_command, single_command};
 use crate::values::{is_left_out, text_of};
-use clap::ArgMatches;
 use clap::error::ErrorKind;
+use clap::{ArgMatches, Command};
 use std::alloc::{AllocError, Global};
 
 /// What is wrong with words that `clap` takes and that ask for nothing.
@@ -61,7 +61,7 @@ impl Complaint<'_> {
 }
 
 /// The error of words that `clap` takes and that ask for nothing, with the usage of their
-/// subcommand.
+/// subcommand; `clap` takes none without one.
 pub(crate) fn usage_error(
     alloc: Global,
     matches: &ArgMatches<'_>,
@@ -69,36 +69,19 @@ pub(crate) fn usage_error(
     ensures { IfOk result (λ error. kind_of error ≡ ValueValidation) }
 {
     match matches.subcommand() {
-        Some((name, inner)) => complaint_error(alloc, name, inner),
-        None => lacking_error(alloc),
+        Some((name, inner)) => {
+            let text = find_complaint(name, inner).text(alloc)?;
+            error_of(single_command(alloc, name)?, text.as_str())
+        }
+        None => error_of(line_command(alloc)?, "a subcommand is required"),
     }
 }
 
-/// The error of words without a subcommand, which `clap` does not take.
-fn lacking_error(alloc: Global) -> Result<clap::Error, AllocError>
+/// An error with this text and the usage of a command.
+fn error_of(command: Command<'_>, text: &str) -> Result<clap::Error, AllocError>
     ensures { IfOk result (λ error. kind_of error ≡ ValueValidation) }
 {
-    let mut command = line_command(alloc)?;
-    command.error(ErrorKind::ValueValidation, "a subcommand is required")
-}
-
-/// The error of the words of the subcommand with this name.
-fn complaint_error(
-    alloc: Global,
-    name: &str,
-    inner: &ArgMatches<'_>,
-) -> Result<clap::Error, AllocError>
-    ensures { IfOk result (λ error. kind_of error ≡ ValueValidation) }
-{
-    let text = find_complaint(name, inner).text(alloc)?;
-    subcommand_error(alloc, name, text.as_str())
-}
-
-/// An error with this text and the usage of the subcommand with this name.
-fn subcommand_error(alloc: Global, name: &str, text: &str) -> Result<clap::Error, AllocError>
-    ensures { IfOk result (λ error. kind_of error ≡ ValueValidation) }
-{
-    let mut command = single_command(alloc, name)?;
+    let mut command = command;
     command.error(ErrorKind::ValueValidation, text)
 }
 

@@ -23,7 +23,7 @@ pub enum Until {
 }
 
 /// What a night may do, and until when.
-#[derive(Clone, Copy, Debug, PartialEq, Eq)]
+#[derive(Clone, Copy)]
 pub struct NightBounds {
     /// How much the night may spend, if that is said.
     pub budget: Option<Budget>,
@@ -39,7 +39,7 @@ pub struct NightBounds {
 }
 
 /// A night, and what it is made with.
-#[derive(Debug, Drop, PartialEq, Eq)]
+#[derive(Drop)]
 pub struct NightAsked {
     /// The state folder.
     pub state: String,
@@ -65,7 +65,7 @@ pub struct NightAsked {
 }
 
 /// The joining of the closed reports of all parts.
-#[derive(Debug, Drop, PartialEq, Eq)]
+#[derive(Drop)]
 pub struct JoinAsked {
     /// The file of the separators that cut the storage root into the parts.
     pub parts: String,

@@ -20,7 +20,7 @@ pub enum Chosen {
 }
 
 /// A deed, and what it is done with.
-#[derive(Debug, Drop, PartialEq, Eq)]
+#[derive(Drop)]
 pub struct Task {
     /// What is to be done.
     pub deed: Deed,
@@ -35,7 +35,7 @@ pub struct Task {
 }
 
 /// How a storage root is to be split into parts. They are the same whatever is checked further.
-#[derive(Debug, Drop, PartialEq, Eq)]
+#[derive(Drop)]
 pub enum Split {
     /// By the directories that it lists.
     Listing {
@@ -54,7 +54,7 @@ pub enum Split {
 }
 
 /// What a command line asks for.
-#[derive(Debug, Drop, PartialEq, Eq)]
+#[derive(Drop)]
 pub enum Asked {
     /// A deed is to be done.
     Task(Task),

@@ -1,14 +1,14 @@
 -- How `clap` takes the arguments and the subcommands, from what the program says of each.
-use Rattle.std.specs.Prelude.{Bool, List, [], ◌∷◌, Some, map, option_map}
+use Rattle.std.specs.Prelude.{List, [], ◌∷◌, Some, map, option_map}
 use Rattle.clap.specs.Words.{App, Rule, Text, new_rule, with_subcommand}
 use Rattle.clap.specs.declared.builder.action.ArgAction.TheVariants.{SetTrue}
 use Rattle.clap.specs.declared.builder.value_parser.ValueParser.{ValueParser}
 use Rattle.clap.specs.declared.builder.value_parser.ValueParser.TheVariants as vp
-use Rattle.ocfl_arguments.specs.Line.{app_with, most_days, most_hours, most_parts, most_split, rule_for}
+use Rattle.ocfl_arguments.specs.Line.{app_with, most_days, most_hours, most_parts, most_split}
 use Rattle.ocfl_arguments.specs.{declared.command.Range.{Range}, declared.command.Taken.{Taken}}
 use Rattle.ocfl_arguments.specs.declared.command.Range.TheVariants.{Part, Count, Hours, Days, Any}
 use Rattle.ocfl_arguments.specs.declared.command.Taken.TheVariants.{Nothing, Words, WordsOr, Number}
-use Rattle.ocfl_arguments.specs.{declared.command.Shape.{Shape}, declared.command.Subcommand.{Subcommand}}
+use Rattle.ocfl_arguments.specs.{declared.command.Argument.{Argument}, declared.command.Subcommand.{Subcommand}}
 
 -- what reads the numbers of a range
 abbrev pub range_parser : Range → ValueParser
@@ -25,14 +25,9 @@ value_rule (Words name) r = record r { value_names = 1 }
 value_rule (WordsOr name text) r = record r { value_names = 1; defaults = text.now ∷ [] }
 value_rule (Number name range) r = record r { value_names = 1; parser = Some (range_parser range) }
 
--- the rule of an option that takes a number in a range
-abbrev pub number_rule : Text → Text → Bool → Range → Rule
-number_rule id name required range =
-    record (new_rule id) { long = Some name; required = required; value_names = 1; parser = Some (range_parser range) }
-
 -- the rule of an argument
-abbrev pub shape_rule : Shape → Rule
-shape_rule s = value_rule s.4 (record (new_rule s.0.now) { long = option_map (λ name. name.now) s.2; required = s.3 })
+abbrev pub rule_for : Argument → Rule
+rule_for a = value_rule a.4 (record (new_rule a.0.now) { long = option_map (λ name. name.now) a.2; required = a.3 })
 
 -- a subcommand by itself
 abbrev pub app_for : Subcommand → App

@@ -1,6 +1,7 @@
 -- Lists of findings that are gone through one by one.
-use Rattle.std.proofs.Common.{◌≡◌, ℕ, ◌+◌, ◌-◌, ◌<◌, List, [], ◌∷◌, ◌++◌, Bool, true, false, cond, length, get_or, map, take, drop, codes, refl, ap, sym, ◌∙◌, append_assoc, arith}
+use Rattle.std.proofs.Common.{◌≡◌, ℕ, ◌+◌, ◌-◌, ◌<◌, List, [], ◌∷◌, ◌++◌, Bool, true, false, cond, length, get_or, map, take, drop, filter, codes, refl, ap, sym, ◌∙◌, append_assoc, arith}
 use Rattle.std.proofs.lemmas.List.{at_drop_more, drop-map, length-drop, length-map, map_more, take-map}
+use Rattle.std.proofs.lemmas.List.Elements.{filter-append}
 use Rattle.std.specs.{Prelude.{◌||◌, Option, Some, if◌then◌else◌}, List.{list_any}}
 use Rattle.ocfl_tree.specs.Place.{Text}
 use Rattle.ocfl_messages.specs.Finding.{Finding, finding_of}
@@ -39,6 +40,14 @@ leads_more xs i x old new l is step h =
     let S = map finding_of (take i xs) in
     step ∙ ap (λ fs. lead_with fs (finding_of x)) h
     ∙ sym (ap leads_of (map_more finding_of xs i x l ∙ ap (λ y. S ++ finding_of y ∷ []) (sym is)) ∙ after_more [] S (finding_of x))
+
+-- those of a list that are taken, with one more
+pub taken_more : (p : Finding → Bool) (xs : List MadeFinding) (i : ℕ) (x : MadeFinding) (t0 t1 : List Finding) → i < length xs → x ≡ get_or xs i x
+    → t1 ≡ t0 ++ filter p (finding_of x ∷ []) → t0 ≡ filter p (map finding_of (take i xs)) → t1 ≡ filter p (map finding_of (take (i + 1) xs))
+taken_more p xs i x t0 t1 l is e h =
+    let S = map finding_of (take i xs) in
+    e ∙ ap (λ fs. fs ++ filter p (finding_of x ∷ [])) h ∙ sym (filter-append p S (finding_of x ∷ []))
+    ∙ ap (filter p) (sym (map_more finding_of xs i x l ∙ ap (λ y. S ++ finding_of y ∷ []) (sym is)))
 
 -- one finding, if it is of one of these groups or not
 pub led_one : (leads : List Finding) (f : Finding) → list_any (is_with f) leads ≡ true → led_by leads (f ∷ []) ≡ f ∷ []

@@ -1,6 +1,7 @@
 //! What is said of a cycle that was closed: how much of it is right, what is gone, new, repaired
 //! and back since the last whole report, and what was left out.
-ghost use Rattle.std.specs.Prelude.{◌≡◌, ◌≢◌, ◌-◌, ◌++◌, ◌^◌, ◌<◌, List, [], Some, codes, decimal, length, map, take, IfOk, OnOk, string_bytes};
+ghost use Rattle.std.specs.Prelude.{◌≡◌, ◌≢◌, ◌-◌, ◌++◌, ◌∷◌, ◌^◌, ◌<◌, List, [], Some, codes};
+ghost use Rattle.std.specs.Prelude.{decimal, length, map, take, IfOk, OnOk, string_bytes};
 ghost use Rattle.ocfl_report.specs.Line.{line_of};
 ghost use Rattle.ocfl_messages.specs.{Finding.{Finding as ModelFinding, finding_of}, Gravest.{IsOf, by_weight}};
 ghost use Rattle.ocfl_messages.specs.Closing.{closing_text as text_of_closing, above_text, alone_text, back_head, back_line, back_lines, back_text, changed_text, counted_text, counts_text, ended_text, gone_lines, gone_line, not_shown, new_head, repaired_head, gone_head, gone_text, is_unmoved as is_unmoved_by, kind_text, lead_of, moved_text, new_text, repaired_line, repaired_lines, repaired_text, not_known_text, not_whole_text, run_count_text, since_text, some_above_text, some_gone_text, some_moved_text, some_new_text, some_run_count_text, some_unlooked_text, summary_text, uncompared_text, unlooked_text, unsaid_text};
@@ -27,7 +28,7 @@ pub const SHOWN: usize = 20;
 const MOST_LINES: usize = 13;
 
 /// What is gone.
-#[derive(Clone, Copy, Debug)]
+#[derive(Clone, Copy)]
 pub enum GoneKind {
     /// An object of the last whole report.
     Object,
@@ -40,7 +41,7 @@ pub enum GoneKind {
 }
 
 /// An object or a file without a line.
-#[derive(Debug, Drop)]
+#[derive(Drop)]
 pub struct Gone {
     /// What it is.
     pub kind: GoneKind,
@@ -49,7 +50,7 @@ pub struct Gone {
 }
 
 /// How many objects have another root inventory than before.
-#[derive(Clone, Copy, Debug, PartialEq, Eq)]
+#[derive(Clone, Copy)]
 pub struct Moved {
     /// Of the same version.
     pub rewritten: u64,
@@ -430,16 +431,22 @@ fn kind_of(kind: GoneKind) -> &'static str
     }
 }
 
+/// Appends the line of what is of a kind and at a path.
+fn put_at(kind: &str, path: &str, text: &mut Vec<u8>) -> Result<(), AllocError>
+    ensures { OnOk result (text.new.items ≡ text.old.items ++ kind.now ++ 9 ∷ path.now ++ 10 ∷ []) }
+{
+    text.extend_from_slice(kind.as_bytes())?;
+    text.extend_from_slice(b"\t")?;
+    text.extend_from_slice(path.as_bytes())?;
+    text.extend_from_slice(b"\n")
+}
+
 /// Appends the line of what is gone.
 fn put_gone(alloc: Global, gone: &Gone, text: &mut Vec<u8>) -> Result<(), AllocError>
     ensures { OnOk result (text.new.items ≡ text.old.items ++ gone_line gone.now) }
 {
     let path = path_of(alloc, &gone.place)?;
-    text.extend_from_slice(kind_of(gone.kind).as_bytes())?;
-    text.push(b'\t')?;
-    text.extend_from_slice(path.as_bytes())?;
-    text.push(b'\n')?;
-    Ok(())
+    put_at(kind_of(gone.kind), path.as_str(), text)
 }
 
 /// Appends the lines of the first of what is gone, up to so many.
@@ -490,10 +497,7 @@ fn put_back(alloc: Global, place: &Place, text: &mut Vec<u8>) -> Result<(), Allo
     ensures { OnOk result (text.new.items ≡ text.old.items ++ back_line place.now) }
 {
     let path = path_of(alloc, place)?;
-    text.extend_from_slice(b"object\t")?;
-    text.extend_from_slice(path.as_bytes())?;
-    text.push(b'\n')?;
-    Ok(())
+    put_at("object", path.as_str(), text)
 }
 
 /// Appends the lines of the first of those that are back, up to so many.

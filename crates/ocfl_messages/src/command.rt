@@ -87,5 +87,5 @@ fn is_plain(path: &str) -> bool
 fn has_percent(path: &str) -> bool
     ensures { result ≡ list_any (λ c. c == 37) path.now }
 {
-    path.as_bytes().iter().any(|byte| *byte == b'%')
+    path.as_bytes().contains(&b'%')
 }

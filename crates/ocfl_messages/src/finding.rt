@@ -10,7 +10,7 @@ use ocfl_tree::Place;
 use std::alloc::AllocError;
 
 /// How many files of an object are right.
-#[derive(Clone, Copy, Debug, PartialEq, Eq)]
+#[derive(Clone, Copy)]
 pub struct FileCounts {
     /// How many are right.
     pub right: u64,
@@ -21,7 +21,7 @@ pub struct FileCounts {
 }
 
 /// A line of a report, and the object that it is in.
-#[derive(Debug, Drop)]
+#[derive(Drop)]
 pub struct Finding {
     /// The line.
     pub line: Line,
@@ -78,7 +78,7 @@ fn copy_of(object: &Option<Place>) -> Result<Option<Place>, AllocError>
 }
 
 /// The object whose head came last in a report, as its lines come.
-#[derive(Debug, Drop)]
+#[derive(Drop)]
 pub struct Heads {
     pub(crate) last: Option<Place>,
 }

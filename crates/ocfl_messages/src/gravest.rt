@@ -11,7 +11,7 @@ use std::alloc::{AllocError, Global};
 pub const KEPT: usize = 200;
 
 /// The first 200 of some findings, and how many there were.
-#[derive(Debug, Drop)]
+#[derive(Drop)]
 pub struct Kept {
     /// The first of them, in their order.
     pub first: Vec<Finding>,
@@ -89,7 +89,6 @@ fn keep(kept: &mut Vec<Finding>, finding: Finding) -> Result<(), AllocError>
 }
 
 /// The first findings of each weight, and how many there were of it.
-#[derive(Debug)]
 pub struct Gravest {
     /// Findings of [`Weight::Bytes`].
     pub bytes: Kept,

@@ -370,7 +370,12 @@ fn any_step(alone: &[Finding], one: &Finding, before: &[Finding]) -> bool
     ensures { result ≡ list_any (λ g. group_says_step (map finding_of alone.now)
         (finding_of one.now) (finding_of g)) before.now }
 {
-    before.iter().any(|lead| says_step(alone, one, lead))
+    for lead in before {
+        if says_step(alone, one, lead) {
+            return true;
+        }
+    }
+    false
 }
 
 /// Appends what to do first about a finding, unless one of the groups before has said so.
@@ -595,7 +600,12 @@ fn shown_group(
 fn any_with(one: &Finding, leads: &[Finding]) -> bool
     ensures { result ≡ list_any (λ g. are_of_one (finding_of one.now) (finding_of g)) leads.now }
 {
-    leads.iter().any(|other| is_with(one, other))
+    for lead in leads {
+        if is_with(one, lead) {
+            return true;
+        }
+    }
+    false
 }
 
 /// Takes a finding as the first of its group, unless there is one.

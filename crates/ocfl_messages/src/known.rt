@@ -11,7 +11,7 @@ use std::alloc::{AllocError, Global};
 use std::marker::Model;
 
 /// What an entry of a list names.
-#[derive(Clone, Copy, Debug)]
+#[derive(Clone, Copy)]
 pub enum Reach {
     /// The finding of a whole line, with its detail.
     One,
@@ -22,7 +22,7 @@ pub enum Reach {
 }
 
 /// An entry of a list.
-#[derive(Debug, Drop)]
+#[derive(Drop)]
 pub struct KnownEntry {
     /// What it names.
     pub reach: Reach,
@@ -32,7 +32,7 @@ pub struct KnownEntry {
 
 /// A list of findings that are known. Its value in clauses: its entries, in the order of their
 /// places, by which they are looked up.
-#[derive(Debug, Drop)]
+#[derive(Drop)]
 pub struct Known {
     entries: Vec<KnownEntry>,
 }

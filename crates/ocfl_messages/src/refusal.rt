@@ -9,7 +9,7 @@ use ocfl_report::Further;
 use std::alloc::{AllocError, Global};
 
 /// Why a night did nothing.
-#[derive(Clone, Copy, Debug)]
+#[derive(Clone, Copy)]
 pub enum RefusalMessage<'a> {
     /// The state folder has no checkpoint.
     NoCheckpoint,

@@ -180,7 +180,12 @@ fn is_at(one: &Finding, other: &Finding) -> bool
 fn any_at(one: &Finding, findings: &[Finding]) -> bool
     ensures { result ≡ list_any (λ g. are_at (finding_of one.now) (finding_of g)) findings.now }
 {
-    findings.iter().any(|other| is_at(one, other))
+    for finding in findings {
+        if is_at(one, finding) {
+            return true;
+        }
+    }
+    false
 }
 
 /// Whether a finding is what the fixity block says of the missing file of one of these pairs.

@@ -15,7 +15,7 @@ use std::alloc::AllocError;
 const SIZE_LIMIT: u128 = 1 << 62;
 
 /// How many places come one after the other, of which each may come several times in a row.
-#[derive(Debug, Drop)]
+#[derive(Drop)]
 pub struct Places {
     pub(crate) count: u64,
     last: Option<Place>,
@@ -70,7 +70,6 @@ pub(crate) fn is_last(last: &Option<Place>, place: &Place) -> bool
 }
 
 /// What the lines of a report count.
-#[derive(Debug)]
 pub struct Tally {
     /// How many content files are right.
     right: u64,
@@ -94,7 +93,7 @@ impl Drop for Tally {
 }
 
 /// What a report counts.
-#[derive(Clone, Copy, Debug, PartialEq, Eq)]
+#[derive(Clone, Copy)]
 pub struct Counts {
     /// How many content files are right.
     pub right: u64,

@@ -56,7 +56,7 @@ pub record ClosesOver (cycle : ℕ) (whole : Bool) (old new : DiskState) : Type 
   pub seen : new.seen ≡ close_over cycle whole old.seen
   pub synced : (file : ℕ) → IsTrue (old.is_synced file) → IsTrue (new.is_synced file)
 
--- that file has the name, or nothing has it; of other names than these nothing is told
+-- that file has the name, or nothing has it; of other names than these nothing is said
 abbrev pub IsFound : StateFile → Names → Option ℕ → Type 0
 IsFound Checkpoint names found = found ≡ names.checkpoint
 IsFound Report names found = found ≡ names.report

@@ -5,7 +5,7 @@ use Rattle.ocfl_state.specs.declared.folder.FolderTrouble.{FolderTrouble}
 use Rattle.ocfl_state.specs.declared.folder.FolderTrouble.TheVariants.{Full, Memory, Taken}
 use Rattle.ocfl_disk.specs.declared.state_file.Reason.{Reason}
 
--- a full device or quota is told apart, and memory that ran out
+-- a full device or quota is distinguished, and so is memory that ran out
 pub record IsTroubleOf (reason : Reason) (trouble : FolderTrouble) : Type 0 where
   pub full : (trouble ≡ Full) ↔ ((error_kind reason.error ≡ StorageFull) ⊎ (error_kind reason.error ≡ QuotaExceeded))
   pub memory : (trouble ≡ Memory) ↔ (error_kind reason.error ≡ OutOfMemory)

@@ -1,15 +1,14 @@
 //! The log of a state folder of the file system.
+use crate::calls::Calls;
 use crate::state_file::{Reason, StateFile};
 use crate::system_disk::{SystemDisk, length_of, of_file};
-use std::fs::File;
 use std::io::{self, Write};
-use std::rt::Files;
 
 /// Appends a line to the log of a folder, whole or not at all. It is not brought to the disk.
-pub(crate) fn append_line<R>(disk: &SystemDisk<R>, line: &[u8]) -> Result<(), Reason>
-where
-    R: Files<File = File> + AllocGlobal + Clone + Drop,
-{
+pub(crate) fn append_line<R: Calls + Drop>(
+    disk: &SystemDisk<R>,
+    line: &[u8],
+) -> Result<(), Reason> {
     let mut file = disk.open_or_create(StateFile::Log)?;
     let before = length_of(StateFile::Log, &file)?;
     let written = file.write_all(line);
@@ -22,11 +21,11 @@ where
 
 /// The log of a state folder, for lines that are appended while the folder itself is in use.
 #[derive(Drop)]
-pub struct FsLog<R: Files<File = File> + AllocGlobal + Clone + Drop> {
+pub struct FsLog<R: Calls + Drop> {
     disk: SystemDisk<R>,
 }
 
-impl<R: Files<File = File> + AllocGlobal + Clone + Drop> FsLog<R> {
+impl<R: Calls + Drop> FsLog<R> {
     /// The log of the folder at a path, which may be a link to it. Nothing is opened yet.
     pub fn at(rt: R, path: &str) -> io::Result<FsLog<R>> {
         Ok(FsLog {

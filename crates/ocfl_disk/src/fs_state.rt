@@ -15,6 +15,7 @@ ghost use Rattle.ocfl_disk.specs.Leaving.{Leaves, PassesBy, stays, counts_now, o
 ghost use Rattle.ocfl_disk.specs.Internal.Contents.{OfContent, Still, FollowsContent};
 
 use crate::beside::{keep_checkpoint, read_checkpoint, replace_checkpoint};
+use crate::calls::Calls;
 use crate::disk::Disk;
 use crate::fs_log::append_line;
 use crate::lock::{StateStop, hold};
@@ -22,7 +23,6 @@ use crate::state_file::{Reason, StateFile, closed_file, wrong};
 use crate::system_disk::{SystemDisk, for_reading, of_file};
 use ocfl_state::{FolderTrouble, StateFolder};
 use std::fs::File;
-use std::rt::Files;
 
 /// A state folder, by the calls of a disk. It tells what it holds if the disk tells what is there.
 ///
@@ -60,7 +60,7 @@ pub struct OpenReport {
     pub whole: bool,
 }
 
-impl<R: Files<File = File> + AllocGlobal + Clone + Drop> FsState<SystemDisk<R>> {
+impl<R: Calls + Drop> FsState<SystemDisk<R>> {
     /// Opens the state folder at a path, which may be a link to it, and holds it for this process
     /// alone while the result lives.
     ///
@@ -81,7 +81,7 @@ impl<R: Files<File = File> + AllocGlobal + Clone + Drop> FsState<SystemDisk<R>> 
         ensures same { OnOk result (self.new.reason ≡ self.old.reason) }
     {
         let appended = append_line(&self.disk, line);
-        self.answer(appended)
+        keep_reason(&mut self.reason, appended)
     }
 
     /// Opens the closed report of a cycle, if there is one.
@@ -90,7 +90,7 @@ impl<R: Files<File = File> + AllocGlobal + Clone + Drop> FsState<SystemDisk<R>> 
         ensures same { OnOk result (self.new.reason ≡ self.old.reason) }
     {
         let found = self.closed(cycle);
-        self.answer(found)
+        keep_reason(&mut self.reason, found)
     }
 
     /// Opens the closed report of a cycle that is whole, or the one that is not, if it is there.
@@ -99,7 +99,7 @@ impl<R: Files<File = File> + AllocGlobal + Clone + Drop> FsState<SystemDisk<R>> 
         ensures same { OnOk result (self.new.reason ≡ self.old.reason) }
     {
         let found = self.closed_as(cycle, whole);
-        self.answer(found)
+        keep_reason(&mut self.reason, found)
     }
 
     fn closed(&self, cycle: u64) -> Result<Option<OpenReport>, Reason> {
@@ -161,13 +161,7 @@ impl<D: Disk + Drop> FsState<D> {
         ensures kept { IfErr result (λ trouble. IsKept self.new.reason trouble) }
         ensures same { OnOk result (self.new.reason ≡ self.old.reason) }
     {
-        match outcome {
-            Ok(value) => Ok(value),
-            Err(reason) => {
-                self.reason = Some(reason);
-                Err(reason.trouble())
-            }
-        }
+        keep_reason(&mut self.reason, outcome)
     }
 
     /// The bytes of the checkpoint with which a report was closed.
@@ -359,6 +353,23 @@ impl<D: Disk + Drop> FsState<D> {
         self.report = None;
         self.disk.rename_report(cycle, whole)?;
         sync_folders(&mut self.disk)
+    }
+}
+
+/// Keeps the reason of a failure.
+fn keep_reason<T>(kept: &mut Option<Reason>, outcome: Result<T, Reason>) -> Result<T, FolderTrouble>
+    ensures value { IfOk result (λ value. outcome ≡ Ok value) }
+    ensures err { IfErr result (λ trouble. (reason : Reason) × (outcome ≡ Err reason)
+        × IsTroubleOf reason trouble) }
+    ensures kept { IfErr result (λ trouble. IsKept kept.new trouble) }
+    ensures same { OnOk result (kept.new ≡ kept.old) }
+{
+    match outcome {
+        Ok(value) => Ok(value),
+        Err(reason) => {
+            *kept = Some(reason);
+            Err(reason.trouble())
+        }
     }
 }
 

@@ -3,6 +3,7 @@
 #![tactic(auto)]
 
 mod beside;
+mod calls;
 mod disk;
 mod fs_log;
 mod fs_state;
@@ -11,6 +12,7 @@ mod lock;
 mod state_file;
 mod system_disk;
 
+pub use calls::Calls;
 pub use disk::Disk;
 pub use fs_log::FsLog;
 pub use fs_state::{FsState, OpenReport};

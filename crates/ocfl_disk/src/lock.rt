@@ -1,9 +1,9 @@
 //! Opening a state folder for one process alone.
 
+use crate::calls::Calls;
 use crate::state_file::{Reason, StateFile};
 use crate::system_disk::{SystemDisk, for_appending};
 use std::fs::{File, TryLockError};
-use std::rt::Files;
 
 /// Why a state folder is not opened. Nothing in it was changed.
 #[derive(Clone, Copy, Debug)]
@@ -34,10 +34,7 @@ impl From<Reason> for StateStop {
 }
 
 /// Refuses a folder of the nightly scripts.
-fn refuse_scripts<R>(disk: &SystemDisk<R>) -> Result<(), StateStop>
-where
-    R: Files<File = File> + AllocGlobal + Clone + Drop,
-{
+fn refuse_scripts<R: Calls + Drop>(disk: &SystemDisk<R>) -> Result<(), StateStop> {
     for file in [StateFile::ScriptsCursor, StateFile::ScriptsLog] {
         if disk.has(file)? {
             return Err(StateStop::OfScripts(file));
@@ -47,10 +44,7 @@ where
 }
 
 /// Refuses a folder in which a name is no file, or no folder, of its own.
-fn refuse_others<R>(disk: &SystemDisk<R>) -> Result<(), StateStop>
-where
-    R: Files<File = File> + AllocGlobal + Clone + Drop,
-{
+fn refuse_others<R: Calls + Drop>(disk: &SystemDisk<R>) -> Result<(), StateStop> {
     for file in [
         StateFile::Checkpoint,
         StateFile::NewCheckpoint,
@@ -65,10 +59,7 @@ where
 }
 
 /// Refuses a folder for a first night, if nights have been before.
-fn refuse_used<R>(disk: &SystemDisk<R>) -> Result<(), StateStop>
-where
-    R: Files<File = File> + AllocGlobal + Clone + Drop,
-{
+fn refuse_used<R: Calls + Drop>(disk: &SystemDisk<R>) -> Result<(), StateStop> {
     if disk.has(StateFile::Checkpoint)? {
         return Ok(());
     }
@@ -82,10 +73,7 @@ where
 }
 
 /// Opens the file of the lock. It is made if nights have been before, or are to begin.
-fn open_lock<R>(disk: &SystemDisk<R>, create: bool) -> Result<File, StateStop>
-where
-    R: Files<File = File> + AllocGlobal + Clone + Drop,
-{
+fn open_lock<R: Calls + Drop>(disk: &SystemDisk<R>, create: bool) -> Result<File, StateStop> {
     if let Some(file) = disk.open_file(StateFile::Lock, &for_appending())? {
         return Ok(file);
     }
@@ -110,10 +98,7 @@ fn take_lock(file: &File) -> Result<(), StateStop> {
 
 /// Looks whether this is the folder of nights, or may become one, and takes its lock. The lock is
 /// held while the file is open. `create` makes a folder that is not there.
-pub(crate) fn hold<R>(disk: &SystemDisk<R>, create: bool) -> Result<File, StateStop>
-where
-    R: Files<File = File> + AllocGlobal + Clone + Drop,
-{
+pub(crate) fn hold<R: Calls + Drop>(disk: &SystemDisk<R>, create: bool) -> Result<File, StateStop> {
     if !disk.is_there()? {
         if !create {
             return Err(StateStop::NoFolder);

@@ -5,19 +5,16 @@
 ghost use Rattle.std.specs.Prelude.{◌≡◌, ◌≤◌, IfOk, Ok, length};
 ghost use mathlib.Core.Bool.{false≢true};
 
+use crate::calls::Calls;
 use crate::disk::Disk;
 use crate::state_file::{Reason, StateFile, closed_file, wrong};
 use std::alloc::Global;
-use std::fs::{self, DirBuilder, File, Metadata, OpenOptions};
+use std::fs::{File, Metadata, OpenOptions};
 use std::io::{self, ErrorKind, Read, Write};
-use std::os::unix::fs::{DirBuilderExt, FileExt, MetadataExt, OpenOptionsExt};
-use std::rt::Files;
+use std::os::unix::fs::{FileExt, MetadataExt, OpenOptionsExt};
 
 /// Who may read and write a file that is made: its owner, and its group may read.
 const FILE_MODE: u32 = 0o640;
-
-/// The same of a folder.
-const FOLDER_MODE: u32 = 0o750;
 
 /// How often an interrupted read is made at most.
 const TRIES: u64 = 1000;
@@ -31,7 +28,7 @@ const NO_OFFSET: u64 = 1 << 63;
 /// Nothing in the folder that is a link, a pipe or a folder in place of a file is opened. Files
 /// that are made have the mode 640, and folders 750, less the process's mask.
 #[derive(Drop)]
-pub struct SystemDisk<R: Files<File = File> + AllocGlobal + Clone + Drop> {
+pub struct SystemDisk<R: Calls + Drop> {
     rt: R,
     path: String,
     /// The lock is held while this file is open.
@@ -106,9 +103,9 @@ fn options_of(name: StateFile) -> OpenOptions {
     }
 }
 
-impl<R: Files<File = File> + AllocGlobal + Clone + Drop> SystemDisk<R> {
+impl<R: Calls + Drop> SystemDisk<R> {
     pub(crate) fn at(rt: R, path: &str) -> io::Result<SystemDisk<R>> {
-        let path = String::from_str(rt.alloc(), path)?;
+        let path = String::from_str(rt.global(), path)?;
         Ok(SystemDisk {
             rt,
             path,
@@ -127,12 +124,12 @@ impl<R: Files<File = File> + AllocGlobal + Clone + Drop> SystemDisk<R> {
     }
 
     pub(crate) fn alloc(&self) -> Global {
-        self.rt.alloc()
+        self.rt.global()
     }
 
     fn joined(&self, file: StateFile) -> io::Result<String> {
         let path = self.path.as_str();
-        Ok(format!(in self.rt.alloc(); "{path}/{file}")?)
+        Ok(format!(in self.rt.global(); "{path}/{file}")?)
     }
 
     /// The path of a file.
@@ -143,7 +140,7 @@ impl<R: Files<File = File> + AllocGlobal + Clone + Drop> SystemDisk<R> {
     /// What is at a name, which may be a link. `None` if nothing is.
     pub(crate) fn look(&self, file: StateFile) -> Result<Option<Metadata>, Reason> {
         let path = self.path_of(file)?;
-        match fs::symlink_metadata(&self.rt, path.as_str()) {
+        match self.rt.look_at(path.as_str()) {
             Ok(metadata) => Ok(Some(metadata)),
             Err(error) if error.kind() == ErrorKind::NotFound => Ok(None),
             Err(error) => Err(Reason { file, error }),
@@ -173,7 +170,7 @@ impl<R: Files<File = File> + AllocGlobal + Clone + Drop> SystemDisk<R> {
 
     /// Whether the state folder is there, where a link leads to it too.
     pub(crate) fn is_there(&self) -> Result<bool, Reason> {
-        match fs::metadata(&self.rt, self.path.as_str()) {
+        match self.rt.look_through(self.path.as_str()) {
             Ok(metadata) if metadata.is_dir() => Ok(true),
             Ok(_) => Err(wrong(StateFile::Folder, "not a folder")),
             Err(error) if error.kind() == ErrorKind::NotFound => Ok(false),
@@ -199,7 +196,7 @@ impl<R: Files<File = File> + AllocGlobal + Clone + Drop> SystemDisk<R> {
     /// Opens what is at a name.
     fn open_at(&self, file: StateFile, options: &OpenOptions) -> Result<File, Reason> {
         let path = self.path_of(file)?;
-        of_file(file, options.open(&self.rt, path.as_str()))
+        of_file(file, self.rt.open(options, path.as_str()))
     }
 
     /// Makes a file, and opens it for reading and appending. What is there already is refused.
@@ -221,25 +218,19 @@ impl<R: Files<File = File> + AllocGlobal + Clone + Drop> SystemDisk<R> {
     /// Makes a folder.
     fn create_folder(&self, folder: StateFile) -> Result<(), Reason> {
         let path = self.path_of(folder)?;
-        of_file(folder, self.create_at(path.as_str()))
-    }
-
-    fn create_at(&self, path: &str) -> io::Result<()> {
-        let mut builder = DirBuilder::new();
-        builder.mode(FOLDER_MODE);
-        builder.create(&self.rt, path)
+        of_file(folder, self.rt.make_folder(path.as_str()))
     }
 
     /// Makes the state folder, and brings its name to the disk.
     pub(crate) fn create_itself(&self) -> Result<(), Reason> {
-        of_file(StateFile::Folder, self.create_at(self.path.as_str()))?;
+        of_file(StateFile::Folder, self.rt.make_folder(self.path.as_str()))?;
         self.sync_names(StateFile::Above)
     }
 
     /// Removes a file. It need not be there.
     fn remove(&self, file: StateFile) -> Result<(), Reason> {
         let path = self.path_of(file)?;
-        match fs::remove_file(&self.rt, path.as_str()) {
+        match self.rt.remove(path.as_str()) {
             Err(error) if error.kind() != ErrorKind::NotFound => Err(Reason { file, error }),
             _ => Ok(()),
         }
@@ -249,31 +240,23 @@ impl<R: Files<File = File> + AllocGlobal + Clone + Drop> SystemDisk<R> {
     fn rename(&self, from: StateFile, to: StateFile) -> Result<(), Reason> {
         let old = self.path_of(from)?;
         let new = self.path_of(to)?;
-        of_file(to, fs::rename(&self.rt, old.as_str(), new.as_str()))
+        of_file(to, self.rt.rename(old.as_str(), new.as_str()))
     }
 
     /// Brings the names of a folder to the disk.
     fn sync_names(&self, folder: StateFile) -> Result<(), Reason> {
-        let path = self.path_of(folder)?;
-        let opened = of_file(folder, File::open(&self.rt, path.as_str()))?;
+        let opened = self.open_at(folder, &for_reading())?;
         of_file(folder, opened.sync_all())
     }
 
     /// Whether a folder has no entry.
     pub(crate) fn is_empty(&self, folder: StateFile) -> Result<bool, Reason> {
         let path = self.path_of(folder)?;
-        let mut entries = of_file(folder, fs::read_dir(&self.rt, path.as_str()))?;
-        match entries.next() {
-            Some(entry) => {
-                of_file(folder, entry)?;
-                Ok(false)
-            }
-            None => Ok(true),
-        }
+        of_file(folder, self.rt.is_empty(path.as_str()))
     }
 }
 
-impl<R: Files<File = File> + AllocGlobal + Clone + Drop> Disk for SystemDisk<R> {
+impl<R: Calls + Drop> Disk for SystemDisk<R> {
     type File = File;
 
     ghost is_disk = { λ told disk. absurd (false≢true told) };

@@ -1,6 +1,6 @@
 pub mod Paths
 pub mod Naming
-pub mod Whole
+pub mod Absolute
 pub mod Words
 pub mod Chosen
 pub mod Progress

@@ -15,6 +15,7 @@
 //!   that is shown in printable ASCII (`IsWhy`).
 #![tactic(auto)]
 
+mod absolute;
 pub mod cursors;
 mod naming;
 pub mod paths;
@@ -24,5 +25,4 @@ pub mod scope;
 pub mod splits;
 pub mod streams;
 pub mod version;
-mod whole;
 pub mod words;

@@ -1,11 +1,11 @@
 //! The words of the command line, and what they ask for.
 ghost use Rattle.std.specs.Prelude.{◌≡◌, List, IfOk, OnOk, map, string_bytes};
 ghost use Rattle.ocfl_tree.specs.Place.{Text};
-ghost use Rattle.ocfl_terminal.specs.Whole.{IsAskedWhole};
+ghost use Rattle.ocfl_terminal.specs.Absolute.{IsAskedAbsolute};
 ghost use Rattle.ocfl_terminal.specs.Words.{IsGiven, named};
 
+use crate::absolute::make_asked_absolute;
 use crate::version::print_build;
-use crate::whole::make_asked_whole;
 use clap::error::ErrorKind;
 use ocfl_arguments::{Asked, CommandStop, asked};
 use ocfl_files::saying::{STOPPED, USAGE, say, say_out_of_memory};
@@ -80,18 +80,19 @@ where
     ensures { IfOk result (IsGiven (map string_bytes words.now)) }
 {
     match asked(rt.alloc(), words) {
-        Ok(asked) => with_whole_paths(rt, asked),
+        Ok(asked) => with_absolute_paths(rt, asked),
         Err(CommandStop::Usage(error)) => Err(print_usage(rt, &error)),
         Err(CommandStop::Memory) => Err(say_out_of_memory(rt)),
     }
 }
 
-/// The same with paths from `/` on. Otherwise says why there are none, and fails with the status.
-fn with_whole_paths<R: Env + AllocGlobal + Eprint>(rt: &R, asked: Asked) -> Result<Asked, u8>
-    ensures { IfOk result (λ new. (here : Text) × IsAskedWhole here asked new) }
+/// What is asked for, with absolute paths. Otherwise says why there are none, and fails with the
+/// status.
+fn with_absolute_paths<R: Env + AllocGlobal + Eprint>(rt: &R, asked: Asked) -> Result<Asked, u8>
+    ensures { IfOk result (λ new. (here : Text) × IsAskedAbsolute here asked new) }
 {
     let mut asked = asked;
-    match make_asked_whole(rt, &mut asked) {
+    match make_asked_absolute(rt, &mut asked) {
         Ok(()) => Ok(asked),
         Err(error) => Err(say_no_path(rt, &error)),
     }

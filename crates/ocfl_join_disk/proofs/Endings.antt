@@ -5,12 +5,13 @@ use Rattle.std.specs.List.{Contains}
 use Rattle.std.proofs.lemmas.{Bool.{ne_eqb}, List.{length-map}}
 use Rattle.std.proofs.lemmas.List.Elements.{All-cons, All-head, All-nil, All-tail}
 use Rattle.ocfl_tree.specs.Place.{Text, Place}
-use Rattle.ocfl_say.specs.Said.{Said}
+use Rattle.ocfl_say.specs.Said.{Said, HasSaid, Grows}
+use Rattle.ocfl_say.proofs.Outputs.{grows_none}
 use Rattle.ocfl_disk.specs.{Names.{Stored}, PowerCut.{DiskState}}
 use Rattle.ocfl_joining.specs.{Folders.{Folders, with_noted}, Reports.{Put, Rest, SameReports, Seen}}
-use Rattle.ocfl_joining.specs.Cycles.{CanJoin, ComesTo, IsBeside, SeenCycles, MayCome, end_of, end_text, hindering_in, missing_in, with_said}
+use Rattle.ocfl_joining.specs.Cycles.{CanJoin, ComesTo, IsBeside, IsHeard, SeenCycles, MayCome, end_of, end_text, hindering_in, missing_in, with_said}
 use Rattle.ocfl_joining.specs.Facts.{facts_at, known_by, known_parts}
-use Rattle.ocfl_joining.specs.Joined.{IsJoined, IsRight, MayJoin, all_parts, joined_of}
+use Rattle.ocfl_joining.specs.Joined.{IsJoined, IsRight, IsWordSaid, MayJoin, all_parts, joined_of, joined_text}
 use Rattle.ocfl_joining.specs.Missing.{KnownPart, are_right, hindering_of, missing_of, numbers, part_count, root_of}
 use Rattle.ocfl_joining.specs.Saying.{lacking_text, missing_text}
 use Rattle.ocfl_joining.specs.Stops.{IsCallStop, IsChangedRightly, IsMissingRightly, IsOfPart, IsStopRight, IsUpTo, is_missing, is_output}
@@ -37,29 +38,42 @@ module _ (separators : List Place) (parts : List (Option KnownPart)) (cycle : �
   can_join : (whole : Bool) → hindering_in separators parts cycle ≡ [] → whole ≡ are_right (missing_in separators parts cycle) → All (IsRight separators s) (all_parts separators) → CanJoin separators parts cycle whole r
   can_join whole none is right = record { none_hinders = none; whole_is = is; right = all_right_as (all_parts separators) right }
 
+  text_as : joined_text separators s ≡ joined_text separators r
+  text_as = λ i. flat_map (bytes i) (all_parts separators)
+
   -- what is made is put beside what was there
-  module _ (t q : Seen) (old : s.put ≡ r.put) (new : t.put ≡ q.put) (before after : Said) where
+  module _ (t q : Seen) (old : s.put ≡ r.put) (new : t.put ≡ q.put) (before after : Said) (word : Bool → Text → Text) (word_is : s.word ≡ (λ whole text. Some (word whole text))) where
+    hears : (whole : Bool) → IsJoined separators whole s t before after → HasSaid (word whole (joined_text separators r)) before after
+    hears whole j = subst (λ text. HasSaid (word whole text) before after) text_as (subst (λ f. IsWordSaid (f whole (joined_text separators s)) before after) word_is j.could.said)
+
     makes : (whole : Bool) → hindering_in separators parts cycle ≡ [] → whole ≡ are_right (missing_in separators parts cycle) → IsJoined separators whole s t before after
         → ComesTo separators parts cycle None (cycle_end.IsJoined whole) r q
     makes whole none is j = (can_join whole none is j.could.right, sym new ∙ j.put ∙ (λ i. old i ++ joined_as whole i ∷ []))
 
-    may_make : hindering_in separators parts cycle ≡ [] → MayJoin separators (are_right (missing_in separators parts cycle)) s t before after → MayCome separators parts cycle r q
-    may_make none (inl e) = inl (sym new ∙ e ∙ old)
-    may_make none (inr j) = inr (are_right (missing_in separators parts cycle), makes (are_right (missing_in separators parts cycle)) none refl j)
+    may_make : hindering_in separators parts cycle ≡ [] → MayJoin separators (are_right (missing_in separators parts cycle)) s t before after → Grows before after → MayCome separators parts cycle word r q before after
+    may_make none (inl e) grew = inl (sym new ∙ e ∙ old, grew)
+    may_make none (inr j) grew =
+        let whole = are_right (missing_in separators parts cycle) in
+        let made = makes whole none refl j in
+        inr (record { whole = whole; could = made.0; put = made.1; said = hears whole j })
 
     all_made : (joined : Result Joined JoinStop) → OnOk joined (hindering_in separators parts cycle ≡ []) → IfOk joined (λ j. j.whole ≡ are_right (missing_in separators parts cycle))
         → IfOk joined (λ j. IsJoined separators j.whole s t before after) → IfOk joined (λ j. ComesTo separators parts cycle None (cycle_end.IsJoined j.whole) r q)
     all_made (Ok j) none is h = makes j.whole none is h
     all_made (Err stop) none is h = tt
 
+    all_heard : (joined : Result Joined JoinStop) → IfOk joined (λ j. IsJoined separators j.whole s t before after) → IfOk joined (λ j. IsHeard separators word None (cycle_end.IsJoined j.whole) r before after)
+    all_heard (Ok j) h = hears j.whole h
+    all_heard (Err stop) h = tt
+
     may_made : (joined : Result Joined JoinStop) → IfErr joined (λ stop. is_output stop ≡ true → hindering_in separators parts cycle ≡ []) → IfErr joined (λ stop. is_output stop ≡ false → t.put ≡ s.put)
-        → OnErr joined (MayJoin separators (are_right (missing_in separators parts cycle)) s t before after) → OnErr joined (MayCome separators parts cycle r q)
-    may_made (Ok j) none unput may = tt
-    may_made (Err stop) none unput may = by (is_output stop) refl
+        → OnErr joined (MayJoin separators (are_right (missing_in separators parts cycle)) s t before after) → Grows before after → OnErr joined (MayCome separators parts cycle word r q before after)
+    may_made (Ok j) none unput may grew = tt
+    may_made (Err stop) none unput may grew = by (is_output stop) refl
       where
-        by : (b : Bool) → is_output stop ≡ b → MayCome separators parts cycle r q
-        by true e = may_make (none e) may
-        by false e = inl (sym new ∙ unput e ∙ old)
+        by : (b : Bool) → is_output stop ≡ b → MayCome separators parts cycle word r q before after
+        by true e = may_make (none e) may grew
+        by false e = inl (sym new ∙ unput e ∙ old, grew)
 
     changed_made : (joined : Result Joined JoinStop) → IfErr joined (IsChangedRightly separators s) → IfErr joined (IsChangedRightly separators r)
     changed_made (Ok j) h = tt
@@ -79,7 +93,8 @@ module _ (separators : List Place) (parts : List (Option KnownPart)) (cycle : �
 module _ {D : Type 0} (files : D → PartFiles) (state : D → DiskState) (separators : List Place) (parts : List (Option KnownPart)) (cycle : ℕ) (root : Text) (root_is : root ≡ root_of parts)
     (disk d0 d1 d : D) (c0 c1 : ℕ) (left0 left1 : Text) (before after : Said) (e0 : c0 ≡ cycle) (f0 : d0 ≡ disk) (f1 : d ≡ d1) (joined : Result Joined JoinStop)
     (none : OnOk joined (hindering_of separators root cycle parts ≡ [])) (whole : IfOk joined (λ j. j.whole ≡ are_right (missing_of separators root cycle parts)))
-    (missing : IfErr joined (IsMissingRightly (hindering_of separators root cycle parts))) (unhindered : IfErr joined (λ stop. is_output stop ≡ true → hindering_of separators root cycle parts ≡ [])) (part : IfErr joined (IsOfPart separators)) where
+    (missing : IfErr joined (IsMissingRightly (hindering_of separators root cycle parts))) (unhindered : IfErr joined (λ stop. is_output stop ≡ true → hindering_of separators root cycle parts ≡ [])) (part : IfErr joined (IsOfPart separators))
+    (grew : Grows before after) (unheard : IfErr joined (λ stop. is_missing stop ≡ true → after ≡ before)) where
   abbrev was : Seen
   was = reports_in cycle (files disk) (state disk).seen
 
@@ -104,6 +119,12 @@ module _ {D : Type 0} (files : D → PartFiles) (state : D → DiskState) (separ
   marks_are : (files d0).folders.marks c0 ≡ (files disk).folders.marks cycle
   marks_are = λ i. (files (f0 i)).folders.marks (e0 i)
 
+  abbrev word_at : ℕ → D → Bool → Text → Option Text
+  word_at c x = λ whole text. Some ((files x).folders.word c whole text)
+
+  words_are : word_at c0 d0 ≡ word_at cycle disk
+  words_are = λ i. word_at (e0 i) (f0 i)
+
   module _ (m0 m1 : Option ℕ) (b0 b1 : Text) where
     abbrev first_seen : Seen
     first_seen = seen_making c0 (files d0) left0 (state d0).seen m0 b0
@@ -112,14 +133,16 @@ module _ {D : Type 0} (files : D → PartFiles) (state : D → DiskState) (separ
     last_seen = seen_making c1 (files d1) left1 (state d1).seen m1 b1
 
     pub made_came : SameReports first_seen last_seen → IfErr joined (IsChangedRightly separators first_seen) → IfOk joined (λ j. IsJoined separators j.whole first_seen last_seen before after) → IfErr joined (λ stop. is_output stop ≡ false → last_seen.put ≡ first_seen.put)
-        → OnErr joined (MayJoin separators (are_right (missing_of separators root cycle parts)) first_seen last_seen before after) → HasCome separators parts cycle None (files disk) (files d) (state disk).seen (state d).seen joined
+        → OnErr joined (MayJoin separators (are_right (missing_of separators root cycle parts)) first_seen last_seen before after) → HasCome separators parts cycle None (files disk) (files d) (state disk).seen (state d).seen before after joined
     made_came same changed is unput may = record {
-      comes = all_made separators parts cycle first_seen was bytes_are marks_are last_seen is_now old new before after joined none_is whole_is is;
+      comes = all_made separators parts cycle first_seen was bytes_are marks_are last_seen is_now old new before after word words_are joined none_is whole_is is;
+      heard = all_heard separators parts cycle first_seen was bytes_are marks_are last_seen is_now old new before after word words_are joined is;
       missing = missing_is;
-      unput = unput_made separators parts cycle first_seen was bytes_are marks_are last_seen is_now old new before after joined unput;
-      may = may_made separators parts cycle first_seen was bytes_are marks_are last_seen is_now old new before after joined unhindered_is unput
-          (subst (λ x. OnErr joined (MayJoin separators (are_right (missing_of separators x cycle parts)) first_seen last_seen before after)) root_is may);
-      changed = changed_made separators parts cycle first_seen was bytes_are marks_are last_seen is_now old new before after joined changed;
+      unheard = unheard;
+      unput = unput_made separators parts cycle first_seen was bytes_are marks_are last_seen is_now old new before after word words_are joined unput;
+      may = may_made separators parts cycle first_seen was bytes_are marks_are last_seen is_now old new before after word words_are joined unhindered_is unput
+          (subst (λ x. OnErr joined (MayJoin separators (are_right (missing_of separators x cycle parts)) first_seen last_seen before after)) root_is may) grew;
+      changed = changed_made separators parts cycle first_seen was bytes_are marks_are last_seen is_now old new before after word words_are joined changed;
       part = part;
       folders = (λ i. (files (f1 i)).folders) ∙ ap (λ x. x.folders) same.rest ∙ (λ i. (files (f0 i)).folders);
       others = (λ i. others_in (sym now i) (state (f1 i)).seen) ∙ ap (λ x. x.others) same.rest ∙ (λ i. others_in (e0 i) (state (f0 i)).seen);
@@ -127,6 +150,9 @@ module _ {D : Type 0} (files : D → PartFiles) (state : D → DiskState) (separ
       where
         now : c1 ≡ cycle
         now = ap (λ x. x.cycle) same.rest ∙ e0
+
+        word : Bool → Text → Text
+        word = (files disk).folders.word cycle
 
         old : first_seen.put ≡ was.put
         old = λ i. joined_in (e0 i) (state (f0 i)).seen
@@ -185,14 +211,21 @@ module _ {D : Type 0} (files : D → PartFiles) (state : D → DiskState) (separ
       changed_as_was (Ok j) h = tt
       changed_as_was (Err stop) h = stops_as separators first_found was bytes_are marks_are stop h
 
-      may_none : (result : Result Joined JoinStop) → OnErr result (MayCome separators parts cycle was is_now)
+      may_none : (result : Result Joined JoinStop) → OnErr result (MayCome separators parts cycle ((files disk).folders.word cycle) was is_now before after)
       may_none (Ok j) = tt
-      may_none (Err stop) = inl (unchanged cycle)
+      may_none (Err stop) = inl (unchanged cycle, grew)
 
-      pub compared_came : IfErr joined (IsChangedRightly separators first_found) → IfOk joined (λ j. IsJoined separators j.whole first_found last_found before after) → HasCome separators parts cycle (Some asked) (files disk) (files d) (state disk).seen (state d).seen joined
+      none_heard : (result : Result Joined JoinStop) → IfOk result (λ j. IsJoined separators j.whole first_found last_found before after)
+          → IfOk result (λ j. IsHeard separators ((files disk).folders.word cycle) (Some asked) (cycle_end.IsJoined j.whole) was before after)
+      none_heard (Ok j) is = is.could.said
+      none_heard (Err stop) is = tt
+
+      pub compared_came : IfErr joined (IsChangedRightly separators first_found) → IfOk joined (λ j. IsJoined separators j.whole first_found last_found before after) → HasCome separators parts cycle (Some asked) (files disk) (files d) (state disk).seen (state d).seen before after joined
       compared_came changed is = record {
         comes = all_found joined none_is whole_is is;
+        heard = none_heard joined is;
         missing = missing_is;
+        unheard = unheard;
         unput = none_put joined;
         may = may_none joined;
         changed = changed_as_was joined changed;
@@ -206,7 +239,10 @@ module _ {D : Type 0} (files : D → PartFiles) (state : D → DiskState) (separ
 pub none_noted : (f : Folders) → f ≡ with_noted [] f
 none_noted f = λ i. record { bytes = f.bytes; marks = f.marks; found = f.found; has_said = f.has_said; packed = f.packed; word = f.word; path = f.path; noted = sym (append-nil f.noted) i }
 
-module _ (separators : List Place) (k : List (Option KnownPart)) (cycle : ℕ) (made : Option Bool) (names : Bool) (files mid now : PartFiles) (s t : Stored) (same : mid.folders ≡ files.folders) where
+module _ (separators : List Place) (k : List (Option KnownPart)) (cycle : ℕ) (made : Option Bool) (names : Bool) (files mid now : PartFiles) (s t : Stored) (before after : Said) (same : mid.folders ≡ files.folders) where
+  abbrev word_is : Bool → Text → Text
+  word_is = files.folders.word cycle
+
   abbrev path_is : Text
   path_is = files.folders.path cycle false
 
@@ -238,15 +274,33 @@ module _ (separators : List Place) (k : List (Option KnownPart)) (cycle : ℕ) (
   at_no_part : (stop : JoinStop) → IsCallStop (λ _. ⊥) stop → IsStopRight (part_count separators k) separators (reports_in cycle files s) stop
   at_no_part stop h = call_right 0 (part_count separators k) separators (reports_in cycle files s) stop (omega arith) (at_none 0 stop h)
 
-  may_of : (over : Option Bool) (w : Bool) → ComesTo separators k cycle over (cycle_end.IsJoined w) (reports_in cycle files s) (reports_in cycle mid t) → MayCome separators k cycle (reports_in cycle files s) (reports_in cycle now t)
-  may_of None w h = inr (w, h)
-  may_of (Some asked) w h = inl h.1.1.1
+  heard_end : (joined : Result Joined JoinStop) (whole : Result (Option Bool) JoinStop) → IfOk joined (λ j. IsHeard separators word_is made (cycle_end.IsJoined j.whole) (reports_in cycle files s) before after)
+      → IfErr joined (λ stop. is_missing stop ≡ true → after ≡ before) → IfOk whole (EndsAs joined) → IfOk whole (λ w. IsHeard separators word_is made (end_of names w) (reports_in cycle files s) before after)
+  heard_end joined (Err stop) h u e = tt
+  heard_end (Ok j) (Ok w) h u e = subst (λ v. IsHeard separators word_is made (end_of names v) (reports_in cycle files s) before after) (sym e) h
+  heard_end (Err (Missing found)) (Ok w) h u e = subst (λ v. IsHeard separators word_is made (end_of names v) (reports_in cycle files s) before after) (sym e.0) (u refl)
+  heard_end (Err (Changed found)) (Ok w) h u e = absurd (let no = e.1 in cc)
+  heard_end (Err (Part part why)) (Ok w) h u e = absurd (let no = e.1 in cc)
+  heard_end (Err (Output why)) (Ok w) h u e = absurd (let no = e.1 in cc)
+  heard_end (Err Unsaid) (Ok w) h u e = absurd (let no = e.1 in cc)
+  heard_end (Err Memory) (Ok w) h u e = absurd (let no = e.1 in cc)
+
+  may_of : (over : Option Bool) (w : Bool) → ComesTo separators k cycle over (cycle_end.IsJoined w) (reports_in cycle files s) (reports_in cycle mid t)
+      → IsHeard separators word_is over (cycle_end.IsJoined w) (reports_in cycle files s) before after → MayCome separators k cycle word_is (reports_in cycle files s) (reports_in cycle now t) before after
+  may_of None w h heard = inr (record { whole = w; could = h.0; put = h.1; said = heard })
+  may_of (Some asked) w h heard = inl (h.1.1.1, subst (Grows before) (sym heard) (grows_none before))
+
+  -- what is said after it is no joined report
+  may_now : MayCome separators k cycle word_is (reports_in cycle files s) (reports_in cycle mid t) before after → MayCome separators k cycle word_is (reports_in cycle files s) (reports_in cycle now t) before after
+  may_now (inl none) = inl none
+  may_now (inr p) = inr (record { whole = p.whole; could = p.could; put = p.put; said = p.said })
 
   may_end : (joined : Result Joined JoinStop) (whole : Result (Option Bool) JoinStop) → IfOk joined (λ j. ComesTo separators k cycle made (cycle_end.IsJoined j.whole) (reports_in cycle files s) (reports_in cycle mid t))
-      → OnErr joined (MayCome separators k cycle (reports_in cycle files s) (reports_in cycle mid t)) → OnErr whole (MayCome separators k cycle (reports_in cycle files s) (reports_in cycle now t))
-  may_end joined (Ok w) h m = tt
-  may_end (Ok j) (Err stop) h m = may_of made j.whole h
-  may_end (Err why) (Err stop) h m = m
+      → IfOk joined (λ j. IsHeard separators word_is made (cycle_end.IsJoined j.whole) (reports_in cycle files s) before after)
+      → OnErr joined (MayCome separators k cycle word_is (reports_in cycle files s) (reports_in cycle mid t) before after) → OnErr whole (MayCome separators k cycle word_is (reports_in cycle files s) (reports_in cycle now t) before after)
+  may_end joined (Ok w) h heard m = tt
+  may_end (Ok j) (Err stop) h heard m = may_of made j.whole h heard
+  may_end (Err why) (Err stop) h heard m = may_now m
 
   why_end : (joined : Result Joined JoinStop) (whole : Result (Option Bool) JoinStop) → IfErr joined (IsChangedRightly separators (reports_in cycle files s)) → IfErr joined (IsOfPart separators)
       → IfErr whole (StopsAs joined) → IfErr whole (IsStopRight (part_count separators k) separators (reports_in cycle files s))
@@ -259,28 +313,29 @@ module _ (separators : List Place) (k : List (Option KnownPart)) (cycle : ℕ) (
   silent_end (Ok w) silent = tt
   silent_end (Err stop) silent = silent ∙ same
 
-pub has_ended : (separators : List Place) (facts : List (Option Facts)) (k : List (Option KnownPart)) (cycle : ℕ) (made : Option Bool) (names : Bool) (files first mid now : PartFiles) (s begun t end : Stored)
-    (joined : Result Joined JoinStop) (whole : Result (Option Bool) JoinStop) → k ≡ known_parts files.folders facts cycle → first ≡ files → begun ≡ s → HasCome separators k cycle made first mid begun t joined
+pub has_ended : (separators : List Place) (facts : List (Option Facts)) (k : List (Option KnownPart)) (cycle : ℕ) (made : Option Bool) (names : Bool) (files first mid now : PartFiles) (s begun t end : Stored) (before after : Said)
+    (joined : Result Joined JoinStop) (whole : Result (Option Bool) JoinStop) → k ≡ known_parts files.folders facts cycle → first ≡ files → begun ≡ s → HasCome separators k cycle made first mid begun t before after joined
     → IfOk whole (EndsAs joined) → OnOk whole (now.folders ≡ with_noted (said_of k cycle names (mid.folders.path cycle false) joined) mid.folders) → OnErr whole (now.folders ≡ mid.folders) → IfErr whole (StopsAs joined) → end ≡ t
-    → HasEnded separators facts cycle made names files now s end whole
-has_ended separators facts k cycle made names files first mid now s begun t end joined whole known same_files same_s come ends said silent stops last =
-    subst (λ x. HasEnded separators facts cycle made names files now s x whole) (sym last) (record {
-      comes = comes_end separators all cycle made names files mid now s t same joined whole here.comes here.missing here.unput ends;
-      said = said_end separators all cycle made names files mid now s t same joined whole here.missing ends
+    → HasEnded separators facts cycle made names files now s end before after whole
+has_ended separators facts k cycle made names files first mid now s begun t end before after joined whole known same_files same_s come ends said silent stops last =
+    subst (λ x. HasEnded separators facts cycle made names files now s x before after whole) (sym last) (record {
+      comes = comes_end separators all cycle made names files mid now s t before after same joined whole here.comes here.missing here.unput ends;
+      heard = heard_end separators all cycle made names files mid now s t before after same joined whole here.heard here.unheard ends;
+      said = said_end separators all cycle made names files mid now s t before after same joined whole here.missing ends
           (subst (λ x. OnOk whole (now.folders ≡ with_noted (said_of x cycle names (mid.folders.path cycle false) joined) mid.folders)) known said);
-      may = may_end separators all cycle made names files mid now s t same joined whole here.comes here.may;
-      why = why_end separators all cycle made names files mid now s t same joined whole here.changed here.part stops;
-      silent = silent_end separators all cycle made names files mid now s t same whole silent;
+      may = may_end separators all cycle made names files mid now s t before after same joined whole here.comes here.heard here.may;
+      why = why_end separators all cycle made names files mid now s t before after same joined whole here.changed here.part stops;
+      silent = silent_end separators all cycle made names files mid now s t before after same whole silent;
       others = here.others;
     })
   where
     all : List (Option KnownPart)
     all = known_parts files.folders facts cycle
 
-    here : HasCome separators all cycle made files mid s t joined
-    here = subst (λ x. HasCome separators all cycle made files mid x t joined) same_s
-        (subst (λ x. HasCome separators all cycle made x mid begun t joined) same_files
-        (subst (λ x. HasCome separators x cycle made first mid begun t joined) known come))
+    here : HasCome separators all cycle made files mid s t before after joined
+    here = subst (λ x. HasCome separators all cycle made files mid x t before after joined) same_s
+        (subst (λ x. HasCome separators all cycle made x mid begun t before after joined) same_files
+        (subst (λ x. HasCome separators x cycle made first mid begun t before after joined) known come))
 
     same : mid.folders ≡ files.folders
     same = here.folders
@@ -290,12 +345,13 @@ length_numbers zero = refl
 length_numbers (suc n) = let e = length_numbers n in let m = length-append (numbers n) ((n + 1) ∷ []) in omega (arith, e, m)
 
 -- a call before the joining failed
-pub has_failed : (separators : List Place) (facts : List (Option Facts)) (cycle : ℕ) (made : Option Bool) (names : Bool) (files now : PartFiles) (s t : Stored) (stop : JoinStop) → now ≡ files → t ≡ s
-    → IsCallStop (IsUpTo (length facts)) stop → HasEnded separators facts cycle made names files now s t (Err stop)
-has_failed separators facts cycle made names files now s t stop same still call = record {
+pub has_failed : (separators : List Place) (facts : List (Option Facts)) (cycle : ℕ) (made : Option Bool) (names : Bool) (files now : PartFiles) (s t : Stored) (said : Said) (stop : JoinStop) → now ≡ files → t ≡ s
+    → IsCallStop (IsUpTo (length facts)) stop → HasEnded separators facts cycle made names files now s t said said (Err stop)
+has_failed separators facts cycle made names files now s t said stop same still call = record {
   comes = tt;
+  heard = tt;
   said = tt;
-  may = inl (ap (joined_in cycle) still);
+  may = inl (ap (joined_in cycle) still, grows_none said);
   why =
       let known = length-map (numbers (length facts)) (λ number. known_by files.folders cycle number (facts_at facts number)) ∙ length_numbers (length facts) in
       call_right (length facts) (part_count separators (known_parts files.folders facts cycle)) separators (reports_in cycle files s) stop (omega (arith, known)) call;
@@ -316,20 +372,22 @@ known_same text f cycle number (Some facts) = refl
 parts_same : (facts : List (Option Facts)) (text : Text) (f g : Folders) → g ≡ with_noted text f → known_parts g facts ≡ known_parts f facts
 parts_same facts text f g same = ap (λ h. known_parts h facts) same ∙ (λ i cycle. map (λ number. known_same text f cycle number (facts_at facts number) i) (numbers (length facts)))
 
-module _ (separators : List Place) (facts : List (Option Facts)) (files now : PartFiles) (text : Text) (same : now.folders ≡ with_noted text files.folders) (s t : Stored) where
+module _ (separators : List Place) (facts : List (Option Facts)) (files now : PartFiles) (text : Text) (same : now.folders ≡ with_noted text files.folders) (s t : Stored) (before after : Said) where
   abbrev cycles_before : SeenCycles
-  cycles_before = cycles_in separators facts files s
+  cycles_before = cycles_in separators facts files s before
 
   abbrev cycles_after : SeenCycles
-  cycles_after = cycles_in separators facts now t
+  cycles_after = cycles_in separators facts now t after
 
   pub beside_cycle : (cycle : ℕ) → others_in cycle t ≡ others_in cycle s → IsBeside cycle cycles_before cycles_after
   beside_cycle cycle others = record {
     separators = refl;
     parts = parts_same facts text files.folders now.folders same;
-    closed = ap (λ f. (cycles_in separators facts (record { folders = f; opened = [] }) s).closed) same;
-    packed = ap (λ f. (cycles_in separators facts (record { folders = f; opened = [] }) s).packed) same;
-    path = ap (λ f. (cycles_in separators facts (record { folders = f; opened = [] }) s).path) same;
+    closed = ap (λ f. (cycles_in separators facts (record { folders = f; opened = [] }) s before).closed) same;
+    packed = ap (λ f. (cycles_in separators facts (record { folders = f; opened = [] }) s before).packed) same;
+    path = ap (λ f. (cycles_in separators facts (record { folders = f; opened = [] }) s before).path) same;
+    word = ap (λ f. f.word) same;
+    there = refl;
     others = λ other apart.
         let put : joined_in other t ≡ joined_in other s = none_other (cycle == other) (joined_in other t) (joined_in other s) (ne_eqb cycle other (λ e. apart (sym e))) (λ i. others i other) in
         λ i. record {
@@ -344,30 +402,33 @@ module _ (separators : List Place) (facts : List (Option Facts)) (files now : Pa
         };
   }
 
-  pub said_cycles : t ≡ s → cycles_after ≡ with_said text cycles_before
-  said_cycles still = λ i. record {
+  pub said_cycles : t ≡ s → after ≡ before → cycles_after ≡ with_said text cycles_before
+  said_cycles still silent = λ i. record {
     separators = separators;
     parts = parts_same facts text files.folders now.folders same i;
     closed = λ cycle part. is_some ((same i).found cycle part) && (same i).has_said cycle part;
     packed = λ cycle. (same i).packed cycle true || (same i).packed cycle false;
     path = λ cycle. (same i).path cycle false;
+    word = (same i).word;
     reports = λ cycle. reports_in cycle (record { folders = same i; opened = [] }) (still i);
     noted = (same i).noted;
+    said = silent i;
+    there = true;
   }
 
 -- ---- over a disk that is lent to the joining
 
-module _ {D : Type 0} (files : D → PartFiles) (state : D → DiskState) (separators : List Place) (facts : List (Option Facts)) (cycle : ℕ) (made : Option Bool) (names : Bool) (disk last : D) (whole : Result (Option Bool) JoinStop)
-    (h : HasEnded separators facts cycle made names (files disk) (files last) (state disk).seen (state last).seen whole) (o n : Option D) (o_is : o ≡ Some disk) (n_is : n ≡ Some last) (separators_now : List Place) (facts_now : List (Option Facts)) (s_is : separators_now ≡ separators) (f_is : facts_now ≡ facts) where
+module _ {D : Type 0} (files : D → PartFiles) (state : D → DiskState) (separators : List Place) (facts : List (Option Facts)) (cycle : ℕ) (made : Option Bool) (names : Bool) (disk last : D) (before after : Said) (whole : Result (Option Bool) JoinStop)
+    (h : HasEnded separators facts cycle made names (files disk) (files last) (state disk).seen (state last).seen before after whole) (o n : Option D) (o_is : o ≡ Some disk) (n_is : n ≡ Some last) (separators_now : List Place) (facts_now : List (Option Facts)) (s_is : separators_now ≡ separators) (f_is : facts_now ≡ facts) where
   abbrev lent : SeenCycles
-  lent = cycles_in separators facts (files disk) (state disk).seen
+  lent = cycles_in separators facts (files disk) (state disk).seen before
 
   abbrev returned : SeenCycles
-  returned = cycles_in separators facts (files last) (state last).seen
+  returned = cycles_in separators facts (files last) (state last).seen after
 
-  on : (P : SeenCycles → SeenCycles → Type 0) → P lent returned → P (cycles_on files state separators facts o) (cycles_on files state separators_now facts_now n)
-  on P p = subst (λ x. P (cycles_on files state separators facts x) (cycles_on files state separators_now facts_now n)) (sym o_is)
-      (subst (λ y. P lent y) (sym (λ i. cycles_on files state (s_is i) (f_is i) (n_is i))) p)
+  on : (P : SeenCycles → SeenCycles → Type 0) → P lent returned → P (cycles_on files state separators facts before o) (cycles_on files state separators_now facts_now after n)
+  on P p = subst (λ x. P (cycles_on files state separators facts before x) (cycles_on files state separators_now facts_now after n)) (sym o_is)
+      (subst (λ y. P lent y) (sym (λ i. cycles_on files state (s_is i) (f_is i) after (n_is i))) p)
 
   said_then : (w : Result (Option Bool) JoinStop) → IfOk w (λ v. (files last).folders ≡ with_noted (end_text separators (known_parts (files disk).folders facts cycle) cycle ((files disk).folders.path cycle false) (end_of names v)) (files disk).folders)
       → IfOk w (λ v. returned.noted ≡ lent.noted ++ end_text lent.separators (lent.parts cycle) cycle (lent.path cycle) (end_of names v))
@@ -380,35 +441,41 @@ module _ {D : Type 0} (files : D → PartFiles) (state : D → DiskState) (separ
 
   beside_then : (w : Result (Option Bool) JoinStop) → IfOk w (λ v. (files last).folders ≡ with_noted (end_text separators (known_parts (files disk).folders facts cycle) cycle ((files disk).folders.path cycle false) (end_of names v)) (files disk).folders)
       → OnErr w ((files last).folders ≡ (files disk).folders) → IsBeside cycle lent returned
-  beside_then (Ok v) said silent = beside_cycle separators facts (files disk) (files last) _ said (state disk).seen (state last).seen cycle h.others
-  beside_then (Err stop) said silent = beside_cycle separators facts (files disk) (files last) [] (silent ∙ none_noted (files disk).folders) (state disk).seen (state last).seen cycle h.others
+  beside_then (Ok v) said silent = beside_cycle separators facts (files disk) (files last) _ said (state disk).seen (state last).seen before after cycle h.others
+  beside_then (Err stop) said silent = beside_cycle separators facts (files disk) (files last) [] (silent ∙ none_noted (files disk).folders) (state disk).seen (state last).seen before after cycle h.others
 
-  pub comes_seen : IfOk whole (λ w. ComesTo (cycles_on files state separators facts o).separators ((cycles_on files state separators facts o).parts cycle) cycle made (end_of names w)
-      ((cycles_on files state separators facts o).reports cycle) ((cycles_on files state separators_now facts_now n).reports cycle))
+  pub comes_seen : IfOk whole (λ w. ComesTo (cycles_on files state separators facts before o).separators ((cycles_on files state separators facts before o).parts cycle) cycle made (end_of names w)
+      ((cycles_on files state separators facts before o).reports cycle) ((cycles_on files state separators_now facts_now after n).reports cycle))
   comes_seen = on (λ a b. IfOk whole (λ w. ComesTo a.separators (a.parts cycle) cycle made (end_of names w) (a.reports cycle) (b.reports cycle))) h.comes
 
-  pub said_seen : IfOk whole (λ w. (cycles_on files state separators_now facts_now n).noted ≡ (cycles_on files state separators facts o).noted
-      ++ end_text (cycles_on files state separators facts o).separators ((cycles_on files state separators facts o).parts cycle) cycle ((cycles_on files state separators facts o).path cycle) (end_of names w))
+  pub said_seen : IfOk whole (λ w. (cycles_on files state separators_now facts_now after n).noted ≡ (cycles_on files state separators facts before o).noted
+      ++ end_text (cycles_on files state separators facts before o).separators ((cycles_on files state separators facts before o).parts cycle) cycle ((cycles_on files state separators facts before o).path cycle) (end_of names w))
   said_seen = on (λ a b. IfOk whole (λ w. b.noted ≡ a.noted ++ end_text a.separators (a.parts cycle) cycle (a.path cycle) (end_of names w))) (said_then whole h.said)
 
-  pub may_seen : OnErr whole (MayCome (cycles_on files state separators facts o).separators ((cycles_on files state separators facts o).parts cycle) cycle
-      ((cycles_on files state separators facts o).reports cycle) ((cycles_on files state separators_now facts_now n).reports cycle))
-  may_seen = on (λ a b. OnErr whole (MayCome a.separators (a.parts cycle) cycle (a.reports cycle) (b.reports cycle))) h.may
+  pub heard_seen : IfOk whole (λ w. IsHeard (cycles_on files state separators facts before o).separators ((cycles_on files state separators facts before o).word cycle) made (end_of names w)
+      ((cycles_on files state separators facts before o).reports cycle) (cycles_on files state separators facts before o).said (cycles_on files state separators_now facts_now after n).said)
+  heard_seen = on (λ a b. IfOk whole (λ w. IsHeard a.separators (a.word cycle) made (end_of names w) (a.reports cycle) a.said b.said)) h.heard
 
-  pub why_seen : IfErr whole (IsStopRight (part_count (cycles_on files state separators facts o).separators ((cycles_on files state separators facts o).parts cycle))
-      (cycles_on files state separators facts o).separators ((cycles_on files state separators facts o).reports cycle))
+  pub may_seen : OnErr whole (MayCome (cycles_on files state separators facts before o).separators ((cycles_on files state separators facts before o).parts cycle) cycle ((cycles_on files state separators facts before o).word cycle)
+      ((cycles_on files state separators facts before o).reports cycle) ((cycles_on files state separators_now facts_now after n).reports cycle)
+      (cycles_on files state separators facts before o).said (cycles_on files state separators_now facts_now after n).said)
+  may_seen = on (λ a b. OnErr whole (MayCome a.separators (a.parts cycle) cycle (a.word cycle) (a.reports cycle) (b.reports cycle) a.said b.said)) h.may
+
+  pub why_seen : IfErr whole (IsStopRight (part_count (cycles_on files state separators facts before o).separators ((cycles_on files state separators facts before o).parts cycle))
+      (cycles_on files state separators facts before o).separators ((cycles_on files state separators facts before o).reports cycle))
   why_seen = on (λ a b. IfErr whole (IsStopRight (part_count a.separators (a.parts cycle)) a.separators (a.reports cycle))) h.why
 
-  pub silent_seen : OnErr whole ((cycles_on files state separators_now facts_now n).noted ≡ (cycles_on files state separators facts o).noted)
+  pub silent_seen : OnErr whole ((cycles_on files state separators_now facts_now after n).noted ≡ (cycles_on files state separators facts before o).noted)
   silent_seen = on (λ a b. OnErr whole (b.noted ≡ a.noted)) (silent_then whole h.silent)
 
-  pub beside_seen : IsBeside cycle (cycles_on files state separators facts o) (cycles_on files state separators_now facts_now n)
+  pub beside_seen : IsBeside cycle (cycles_on files state separators facts before o) (cycles_on files state separators_now facts_now after n)
   beside_seen = on (IsBeside cycle) (beside_then whole h.said h.silent)
 
 -- a text more was said, and nothing else
-pub said_on : {D : Type 0} (files : D → PartFiles) (state : D → DiskState) (separators : List Place) (facts : List (Option Facts)) (disk last : D) (o n : Option D) (text : Text) → o ≡ Some disk → n ≡ Some last
-    → (files last).folders ≡ with_noted text (files disk).folders → (state last).seen ≡ (state disk).seen → cycles_on files state separators facts n ≡ with_said text (cycles_on files state separators facts o)
-said_on files state separators facts disk last o n text o_is n_is same still =
-    ap (cycles_on files state separators facts) n_is
-    ∙ said_cycles separators facts (files disk) (files last) text same (state disk).seen (state last).seen still
-    ∙ ap (λ x. with_said text (cycles_on files state separators facts x)) (sym o_is)
+pub said_on : {D : Type 0} (files : D → PartFiles) (state : D → DiskState) (separators : List Place) (facts : List (Option Facts)) (said : Said) (disk last : D) (o n : Option D) (text : Text) → o ≡ Some disk → n ≡ Some last
+    → (files last).folders ≡ with_noted text (files disk).folders → (state last).seen ≡ (state disk).seen
+    → cycles_on files state separators facts said n ≡ with_said text (cycles_on files state separators facts said o)
+said_on files state separators facts said disk last o n text o_is n_is same still =
+    ap (cycles_on files state separators facts said) n_is
+    ∙ said_cycles separators facts (files disk) (files last) text same (state disk).seen (state last).seen said said still refl
+    ∙ ap (λ x. with_said text (cycles_on files state separators facts said x)) (sym o_is)

@@ -1,28 +1,33 @@
 -- What is seen of the cycles of parts on a disk, and what came of a joining there.
 use Rattle.std.specs.Prelude.{◌≡◌, ◌⊎◌, ◌&&◌, ◌||◌, ℕ, List, [], Bool, true, false, if◌then◌else◌, is_some, Option, Some, None, Result, Ok, Err}
 use Rattle.ocfl_tree.specs.Place.{Text, Place}
+use Rattle.ocfl_say.specs.Said.{Said}
 use Rattle.ocfl_disk.specs.{Names.{Stored}, PowerCut.{DiskState}}
 use Rattle.ocfl_joining.specs.{Cycles.{SeenCycles, no_cycles}, Facts.{known_parts}, Missing.{KnownPart}, Saying.{lacking_text, missing_text}, Stops.{IsCallStop, is_missing}}
 use Rattle.ocfl_joining.specs.declared.{facts.Facts.{Facts}, joining.{Joined.{Joined}, JoinStop.{JoinStop}}}
 use Rattle.ocfl_joining.specs.declared.joining.JoinStop.TheVariants.{Missing, Changed, Part, Output, Unsaid, Memory}
 use Rattle.ocfl_join_disk.specs.Shown.{PartFiles, reports_in}
 
--- of the parts that the separators make, whose checkpoints say these facts
-abbrev pub cycles_in : List Place → List (Option Facts) → PartFiles → Stored → SeenCycles
-cycles_in separators facts parts s = record {
+-- of the parts that the separators make, whose checkpoints say these facts, beside what the output was
+-- given
+abbrev pub cycles_in : List Place → List (Option Facts) → PartFiles → Stored → Said → SeenCycles
+cycles_in separators facts parts s said = record {
   separators = separators;
   parts = known_parts parts.folders facts;
   closed = λ cycle part. is_some (parts.folders.found cycle part) && parts.folders.has_said cycle part;
   packed = λ cycle. parts.folders.packed cycle true || parts.folders.packed cycle false;
   path = λ cycle. parts.folders.path cycle false;
+  word = parts.folders.word;
   reports = λ cycle. reports_in cycle parts s;
   noted = parts.folders.noted;
+  said = said;
+  there = true;
 }
 
 -- of a disk, if it is there
-abbrev pub cycles_on : {D : Type 0} → (D → PartFiles) → (D → DiskState) → List Place → List (Option Facts) → Option D → SeenCycles
-cycles_on parts state separators facts None = no_cycles
-cycles_on parts state separators facts (Some disk) = cycles_in separators facts (parts disk) (state disk).seen
+abbrev pub cycles_on : {D : Type 0} → (D → PartFiles) → (D → DiskState) → List Place → List (Option Facts) → Said → Option D → SeenCycles
+cycles_on parts state separators facts said None = no_cycles
+cycles_on parts state separators facts said (Some disk) = cycles_in separators facts (parts disk) (state disk).seen said
 
 -- whether the joined report is whole, and none if parts keep the cycle from being joined
 abbrev pub EndsAs : Result Joined JoinStop → Option Bool → Type 0

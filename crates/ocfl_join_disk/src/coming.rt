@@ -1,10 +1,10 @@
 //! The joining of one cycle on a disk.
 ghost use Rattle.std.specs.Prelude.{◌≡◌, [], false, if◌then◌else◌, Some, None};
 ghost use Rattle.std.specs.Prelude.{IsTrue, IfErr, IfOk, OnErr, OnOk};
-ghost use Rattle.ocfl_joining.specs.{Folders.{with_noted}, Joined.{IsWordSaid, joined_text}};
-ghost use Rattle.ocfl_joining.specs.{Saying.{lacking_text, missing_text}, Stops.{IsCallStop}};
+ghost use Rattle.ocfl_joining.specs.{Folders.{with_noted}, Saying.{lacking_text, missing_text}};
+ghost use Rattle.ocfl_joining.specs.Stops.{IsCallStop};
 ghost use Rattle.ocfl_join_disk.specs.Cycles.{EndsAs, StopsAs, said_of};
-ghost use Rattle.ocfl_join_disk.specs.Shown.{reports_in, with_text};
+ghost use Rattle.ocfl_join_disk.specs.Shown.{with_text};
 ghost use Rattle.ocfl_join_disk.specs.Internal.Coming.{HasCome, HasEnded};
 
 use crate::comparing::ComparedReports;
@@ -53,11 +53,8 @@ fn make<D: JoinDisk + Drop, S: Say>(
     out: &mut S,
 ) -> Came<D>
     ensures came { IsTrue D.told → HasCome separators.now parts.now cycle None (D.parts disk)
-        (D.parts result.disk) (D.state disk).seen (D.state result.disk).seen result.joined }
-    ensures said { IsTrue D.told → IfOk result.joined (λ joined. IsWordSaid
-        (Some ((D.parts disk).folders.word cycle joined.whole
-        (joined_text separators.now (reports_in cycle (D.parts disk) (D.state disk).seen))))
-        (S.said out.old) (S.said out.new)) }
+        (D.parts result.disk) (D.state disk).seen (D.state result.disk).seen
+        (S.said out.old) (S.said out.new) result.joined }
 {
     let mut reports = MakingReports::over(alloc, disk, cycle);
     let root = find_root(parts);
@@ -78,7 +75,7 @@ fn compare<D: JoinDisk + Drop, S: Say>(
 ) -> Came<D>
     ensures came { IsTrue D.told → HasCome separators.now parts.now cycle (Some whole)
         (D.parts disk) (D.parts result.disk) (D.state disk).seen (D.state result.disk).seen
-        result.joined }
+        (S.said out.old) (S.said out.new) result.joined }
 {
     let mut reports = ComparedReports::over(alloc, disk, cycle, whole);
     let root = find_root(parts);
@@ -101,7 +98,8 @@ fn join_on<D: JoinDisk + Drop, S: Say>(
     out: &mut S,
 ) -> Came<D>
     ensures came { IsTrue D.told → HasCome separators.now parts.now cycle made (D.parts disk)
-        (D.parts result.disk) (D.state disk).seen (D.state result.disk).seen result.joined }
+        (D.parts result.disk) (D.state disk).seen (D.state result.disk).seen
+        (S.said out.old) (S.said out.new) result.joined }
 {
     match made {
         Some(whole) => compare(alloc, separators, disk, cycle, whole, parts, out),
@@ -243,7 +241,8 @@ pub(crate) fn join_one<D: JoinDisk + Drop, S: Say>(
 ) -> Ended<D>
     ensures ended { IsTrue D.told → HasEnded separators.now facts.now asked.cycle asked.made
         asked.names (D.parts disk) (D.parts result.disk)
-        (D.state disk).seen (D.state result.disk).seen result.whole }
+        (D.state disk).seen (D.state result.disk).seen
+        (S.said out.old) (S.said out.new) result.whole }
 {
     let mut disk = disk;
     let parts = match find_parts(alloc, &mut disk, facts, asked.cycle) {

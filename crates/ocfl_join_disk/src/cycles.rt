@@ -54,12 +54,13 @@ impl<'a, D: JoinDisk + Drop, S: Say + Drop> DiskCycles<'a, D, S> {
         }
     }
 
-    /// The disk, unless a joining still has it.
-    pub fn into_disk(self) -> Option<D>
-        ensures { result ≡ self.entry.disk }
+    /// The disk, unless a joining still has it, and the output.
+    pub fn into_given(self) -> (Option<D>, S)
+        ensures disk { result.0 ≡ self.entry.disk }
+        ensures out { result.1 ≡ self.entry.out }
     {
-        let DiskCycles { disk, .. } = self;
-        disk
+        let DiskCycles { disk, out, .. } = self;
+        (disk, out)
     }
 }
 
@@ -130,7 +131,8 @@ fn closed(part: usize, made: Result<bool, ReportTrouble>) -> Result<bool, JoinSt
 impl<D: JoinDisk + Drop, S: Say + Drop> PartCycles for DiskCycles<'_, D, S> {
     ghost told = { D.told };
 
-    ghost seen = { λ s. cycles_on D.parts D.state s.separators.now s.facts.now s.disk };
+    ghost seen = { λ s.
+        cycles_on D.parts D.state s.separators.now s.facts.now (S.said s.out) s.disk };
 
     fn look(&mut self, cycle: u64) -> Result<JoinedLook, JoinStop> {
         match &mut self.disk {

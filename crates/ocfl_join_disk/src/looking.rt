@@ -96,8 +96,8 @@ fn find_part<D: JoinDisk>(
     let Some(found) = disk.find_closed(cycle, number)? else {
         return Ok(None);
     };
-    let told = disk.has_said(cycle, number)?;
-    Ok(Some(known_part(alloc, facts, cycle, told, &found)?))
+    let has_said = disk.has_said(cycle, number)?;
+    Ok(Some(known_part(alloc, facts, cycle, has_said, &found)?))
 }
 
 /// Why a joining stops at the part with this number, at which a call was not done.

@@ -10,7 +10,7 @@ use Rattle.ocfl_separators.specs.Separators.{start_of_part, end_of_part}
 use Rattle.ocfl_joining.specs.Missing.{KnownPart, check_same, closed_fault, fault_of, further_of, has_ends, hindering_of, hinders, is_few, is_part, missing_at, most_names, named, numbers, part_at, part_count}
 use Rattle.ocfl_joining.specs.declared.part.MissingPart.{MissingPart}
 use Rattle.ocfl_joining.specs.declared.part.PartFault.{PartFault}
-use Rattle.ocfl_joining.specs.declared.part.PartFault.TheVariants.{NoPart, OtherRoot, OtherPart, OtherAudit, OtherCycle, Untold, FewNames, Incomplete}
+use Rattle.ocfl_joining.specs.declared.part.PartFault.TheVariants.{NoPart, OtherRoot, OtherPart, OtherAudit, OtherCycle, ClosingUnsaid, FewNames, Incomplete}
 use Rattle.ocfl_joining.proofs.{Numbers.{flat_more}, Parts.{same_checked}}
 
 -- those of a list that keep parts from being joined
@@ -26,7 +26,7 @@ both_none (x ∷ xs) ys e = cc
 -- what is wrong with a part whose audit checks the same
 abbrev rest_fault : ℕ → ℕ → KnownPart → Option PartFault
 rest_fault cycle most part =
-    cond (not (part.cycle == cycle)) (Some OtherCycle) (cond (not part.told) (Some Untold) (cond (is_few most part.names) (Some FewNames) (cond (not part.whole) (Some Incomplete) None)))
+    cond (not (part.cycle == cycle)) (Some OtherCycle) (cond (not part.has_said) (Some ClosingUnsaid) (cond (is_few most part.names) (Some FewNames) (cond (not part.whole) (Some Incomplete) None)))
 
 third_test : (number : ℕ) (a b h : Bool) (rest : Option PartFault)
     → kept_from (named number (cond (not a) (Some OtherRoot) (cond (not b) (Some OtherPart) (cond (not h) (Some OtherAudit) rest)))) ≡ [] → h ≡ true

@@ -3,7 +3,9 @@ use Rattle.std.proofs.Common.{◌≡◌, ◌⊎◌, inl, inr, ℕ, ◌+◌, ◌-
 use Rattle.std.specs.Prelude.{◌==◌, ◌&&◌, not, max, flat_map, if◌then◌else◌}
 use Rattle.std.proofs.lemmas.Grind.{flat_map-append}
 use Rattle.ocfl_tree.specs.Place.{Text}
-use Rattle.ocfl_joining.specs.Cycles.{SeenCycles, Round, passed, ended, stopped, Comes, ComesTo, IsStopped, IsBeside, IsEarlier, IsLast, MayCome, NamesAs, AreEarlier, AreJoined, TellsStop, have_all, is_there, is_due, is_none, last_part, look_of, whole_of, made_of, oldest, end_by, end_of, end_text, ends_of, with_said, said_by}
+use Rattle.ocfl_say.specs.Said.{Said, Grows}
+use Rattle.ocfl_say.proofs.Outputs.{grows_none}
+use Rattle.ocfl_joining.specs.Cycles.{SeenCycles, Round, passed, ended, stopped, Comes, ComesTo, IsStopped, IsBeside, IsEarlier, IsHeard, IsLast, MayCome, NamesAs, AreEarlier, AreJoined, TellsStop, have_all, is_there, is_due, is_none, last_part, look_of, whole_of, made_of, oldest, end_by, end_of, end_text, ends_of, with_said, said_by}
 use Rattle.ocfl_joining.specs.{Failing.{more_of}, Missing.{part_count}, Reports.{Seen}, Status.{status_of}, Stops.{IsCallStop, IsStopRight, IsUpTo}}
 use Rattle.ocfl_joining.specs.declared.{failing.JoinEnd.{JoinEnd}, joining.JoinStop.{JoinStop}, status.CycleEnd.{CycleEnd}}
 use Rattle.ocfl_joining.proofs.Stopping.{at_none, call_right, right_more}
@@ -24,13 +26,15 @@ all_beside cycle old new same = record {
   closed = ap (λ s. s.closed) same;
   packed = ap (λ s. s.packed) same;
   path = ap (λ s. s.path) same;
+  word = ap (λ s. s.word) same;
+  there = ap (λ s. s.there) same;
   others = λ other apart. ap (λ s. s.reports other) same;
 }
 
 pub none_joined : (parts cycle : ℕ) (old new : SeenCycles) (why : JoinStop) → new ≡ old → IsCallStop (IsUpTo parts) why → JoinsNone parts cycle old new why
 none_joined parts cycle old new why same call = record {
   noted = ap (λ s. s.noted) same;
-  may = inl (ap (λ s. (s.reports cycle).put) same);
+  may = inl (ap (λ s. (s.reports cycle).put) same, subst (λ s. Grows old.said s.said) (sym same) (grows_none old.said));
   right = call_right parts (last_part old parts cycle) old.separators (old.reports cycle) why (omega arith) call;
   beside = all_beside cycle old new same;
 }
@@ -53,16 +57,18 @@ named_as names (Some whole) = tt
 
 pub joins_of : (cycle : ℕ) (made whole : Option Bool) (names : Bool) (old new : SeenCycles) (end : CycleEnd) (status : ℕ)
     → ComesTo old.separators (old.parts cycle) cycle made (end_of names whole) (old.reports cycle) (new.reports cycle)
-    → new.noted ≡ old.noted ++ end_text old.separators (old.parts cycle) cycle (old.path cycle) (end_of names whole) → end ≡ end_of names whole → status ≡ status_of end → Joins cycle made names old new status
-joins_of cycle made whole names old new end status c n e s = record {
+    → new.noted ≡ old.noted ++ end_text old.separators (old.parts cycle) cycle (old.path cycle) (end_of names whole)
+    → IsHeard old.separators (old.word cycle) made (end_of names whole) (old.reports cycle) old.said new.said → end ≡ end_of names whole → status ≡ status_of end → Joins cycle made names old new status
+joins_of cycle made whole names old new end status c n h e s = record {
   end = end_of names whole;
   text = end_text old.separators (old.parts cycle) cycle (old.path cycle) (end_of names whole);
-  comes = record { named = named_as names whole; comes = c; said = refl };
+  comes = record { named = named_as names whole; comes = c; said = refl; heard = h };
   noted = n;
   status_is = s ∙ ap status_of e;
 }
 
-pub none_of : (cycle : ℕ) (old new : SeenCycles) (why : JoinStop) → new.noted ≡ old.noted → MayCome old.separators (old.parts cycle) cycle (old.reports cycle) (new.reports cycle)
+pub none_of : (cycle : ℕ) (old new : SeenCycles) (why : JoinStop) → new.noted ≡ old.noted
+    → MayCome old.separators (old.parts cycle) cycle (old.word cycle) (old.reports cycle) (new.reports cycle) old.said new.said
     → IsStopRight (part_count old.separators (old.parts cycle)) old.separators (old.reports cycle) why → IsBeside cycle old new → JoinsNone 0 cycle old new why
 none_of cycle old new why silent may right b = record {
   noted = silent;
@@ -81,7 +87,7 @@ joins_then cycle made other names named old mid new status same e f j =
 pub passed_by : (parts cycle : ℕ) (old new : SeenCycles) → new ≡ old → is_due old parts cycle ≡ false → TriesEarlier parts cycle old new (record { status = 0; said = true })
 passed_by parts cycle old new same e = record {
   round = passed;
-  is = (e, ap (λ s. s.reports cycle) same);
+  is = (e, (ap (λ s. s.reports cycle) same, ap (λ s. s.said) same));
   noted = ap (λ s. s.noted) same ∙ sym (append-nil old.noted);
   result_is = refl;
   beside = all_beside cycle old new same;
@@ -99,9 +105,9 @@ due_joined parts cycle old mid new status same e j b = let k = subst (λ s. Join
 
 -- it stopped, and then why was said
 module _ (parts cycle : ℕ) (old mid new : SeenCycles) (why : JoinStop) (result : JoinEnd) (n : JoinsNone parts cycle old mid why) (text : Text) (tells : TellsStop cycle why result text) (same : new ≡ with_said text mid) where
-  stops_then : IsStopped old parts cycle why result text (new.reports cycle)
+  stops_then : IsStopped old parts cycle why result text (new.reports cycle) old.said new.said
   stops_then = record {
-    may = subst (λ s. MayCome old.separators (old.parts cycle) cycle (old.reports cycle) (s.reports cycle)) (sym same) n.may;
+    may = subst (λ s. MayCome old.separators (old.parts cycle) cycle (old.word cycle) (old.reports cycle) (s.reports cycle) old.said s.said) (sym same) n.may;
     right = n.right;
     told = tells;
   }
@@ -116,6 +122,8 @@ module _ (parts cycle : ℕ) (old mid new : SeenCycles) (why : JoinStop) (result
     closed = ap (λ s. s.closed) same ∙ n.beside.closed;
     packed = ap (λ s. s.packed) same ∙ n.beside.packed;
     path = ap (λ s. s.path) same ∙ n.beside.path;
+    word = ap (λ s. s.word) same ∙ n.beside.word;
+    there = ap (λ s. s.there) same ∙ n.beside.there;
     others = λ other apart. ap (λ s. s.reports other) same ∙ n.beside.others other apart;
   }
 
@@ -146,52 +154,60 @@ last_failed cycle old mid new why result n said = record {
 -- ---- one after the other
 
 -- a joining that began with the reports of the cycle as they were before
-module _ (a b : SeenCycles) (cycle : ℕ) (separators : b.separators ≡ a.separators) (parts : b.parts ≡ a.parts) (path : b.path ≡ a.path) (reports : b.reports cycle ≡ a.reports cycle) (new : Seen) where
-  comes_same : (made : Option Bool) (names : Bool) (end : CycleEnd) (text : Text) → Comes b cycle made names end text new → Comes a cycle made names end text new
+module _ (a b : SeenCycles) (cycle : ℕ) (separators : b.separators ≡ a.separators) (parts : b.parts ≡ a.parts) (path : b.path ≡ a.path) (word : b.word ≡ a.word) (reports : b.reports cycle ≡ a.reports cycle)
+    (new : Seen) (before after : Said) where
+  comes_same : (made : Option Bool) (names : Bool) (end : CycleEnd) (text : Text) → Comes b cycle made names end text new before after → Comes a cycle made names end text new before after
   comes_same made names end text c = record {
     named = c.named;
     comes = subst (λ r. ComesTo a.separators (a.parts cycle) cycle made end r new) reports
         (subst (λ p. ComesTo a.separators (p cycle) cycle made end (b.reports cycle) new) parts
         (subst (λ s. ComesTo s (b.parts cycle) cycle made end (b.reports cycle) new) separators c.comes));
     said = c.said ∙ (λ i. end_text (separators i) (parts i cycle) cycle (path i cycle) end);
+    heard = subst (λ r. IsHeard a.separators (a.word cycle) made end r before after) reports
+        (subst (λ w. IsHeard a.separators (w cycle) made end (b.reports cycle) before after) word
+        (subst (λ s. IsHeard s (b.word cycle) made end (b.reports cycle) before after) separators c.heard));
   }
 
-  stops_same : (count : ℕ) (why : JoinStop) (result : JoinEnd) (text : Text) → IsStopped b count cycle why result text new → IsStopped a count cycle why result text new
+  stops_same : (count : ℕ) (why : JoinStop) (result : JoinEnd) (text : Text) → IsStopped b count cycle why result text new before after → IsStopped a count cycle why result text new before after
   stops_same count why result text h = record {
-    may = subst (λ r. MayCome a.separators (a.parts cycle) cycle r new) reports
-        (subst (λ p. MayCome a.separators (p cycle) cycle (b.reports cycle) new) parts
-        (subst (λ s. MayCome s (b.parts cycle) cycle (b.reports cycle) new) separators h.may));
+    may = subst (λ r. MayCome a.separators (a.parts cycle) cycle (a.word cycle) r new before after) reports
+        (subst (λ w. MayCome a.separators (a.parts cycle) cycle (w cycle) (b.reports cycle) new before after) word
+        (subst (λ p. MayCome a.separators (p cycle) cycle (b.word cycle) (b.reports cycle) new before after) parts
+        (subst (λ s. MayCome s (b.parts cycle) cycle (b.word cycle) (b.reports cycle) new before after) separators h.may)));
     right = subst (λ r. IsStopRight (last_part a count cycle) a.separators r why) reports
         (subst (λ p. IsStopRight (max count (part_count a.separators (p cycle))) a.separators (b.reports cycle) why) parts
         (subst (λ s. IsStopRight (max count (part_count s (b.parts cycle))) s (b.reports cycle) why) separators h.right));
     told = h.told;
   }
 
-  earlier_same : (count : ℕ) (r : Round) → is_due b count cycle ≡ is_due a count cycle → IsEarlier b count cycle new r → IsEarlier a count cycle new r
-  earlier_same count passed e h = (sym e ∙ h.0, h.1 ∙ reports)
+  earlier_same : (count : ℕ) (r : Round) → is_due b count cycle ≡ is_due a count cycle → IsEarlier b count cycle new before after r → IsEarlier a count cycle new before after r
+  earlier_same count passed e h = (sym e ∙ h.0, (h.1.0 ∙ reports, h.1.1))
   earlier_same count (ended end text) e h = (sym e ∙ h.0, comes_same None false end text h.1)
   earlier_same count (stopped why result text) e h = stops_same count why result text h
 
-  last_same : (r : Round) → made_of b cycle ≡ made_of a cycle → IsLast b cycle new r → IsLast a cycle new r
+  last_same : (r : Round) → made_of b cycle ≡ made_of a cycle → IsLast b cycle new before after r → IsLast a cycle new before after r
   last_same passed e h = h
-  last_same (ended end text) e h = comes_same (made_of a cycle) (is_none (made_of a cycle)) end text (subst (λ m. Comes b cycle m (is_none m) end text new) e h)
+  last_same (ended end text) e h = comes_same (made_of a cycle) (is_none (made_of a cycle)) end text (subst (λ m. Comes b cycle m (is_none m) end text new before after) e h)
   last_same (stopped why result text) e h = stops_same 0 why result text h
 
 -- later joinings leave the reports of these cycles as they are
-earlier_still : (s : SeenCycles) (now later : ℕ → Seen) (parts first : ℕ) (rounds : List Round) → ((other : ℕ) → first ≤ other → other < first + length rounds → later other ≡ now other)
-    → AreEarlier s now parts first rounds → AreEarlier s later parts first rounds
-earlier_still s now later parts first [] same h = tt
-earlier_still s now later parts first (r ∷ rounds) same h = (
-  subst (λ n. IsEarlier s parts first n r) (sym (same first (omega arith) (omega arith))) h.0,
-  earlier_still s now later parts (first + 1) rounds (λ other from below. same other (omega (arith, from)) (omega (arith, below))) h.1,
+earlier_still : (s : SeenCycles) (now later : ℕ → Seen) (parts first : ℕ) (before after : Said) (rounds : List Round) → ((other : ℕ) → first ≤ other → other < first + length rounds → later other ≡ now other)
+    → AreEarlier s now parts first before after rounds → AreEarlier s later parts first before after rounds
+earlier_still s now later parts first before after [] same h = h
+earlier_still s now later parts first before after (r ∷ rounds) same h = (
+  h.0,
+  (
+    subst (λ n. IsEarlier s parts first n before h.0 r) (sym (same first (omega arith) (omega arith))) h.1.0,
+    earlier_still s now later parts (first + 1) h.0 after rounds (λ other from below. same other (omega (arith, from)) (omega (arith, below))) h.1.1,
+  ),
 )
 
-earlier_more : (s : SeenCycles) (new : ℕ → Seen) (parts first next : ℕ) (rounds : List Round) (r : Round) → AreEarlier s new parts first rounds → first + length rounds ≡ next → IsEarlier s parts next (new next) r
-    → AreEarlier s new parts first (rounds ++ r ∷ [])
-earlier_more s new parts first next [] r h e is =
+earlier_more : (s : SeenCycles) (new : ℕ → Seen) (parts first next : ℕ) (before mid after : Said) (rounds : List Round) (r : Round) → AreEarlier s new parts first before mid rounds → first + length rounds ≡ next
+    → IsEarlier s parts next (new next) mid after r → AreEarlier s new parts first before after (rounds ++ r ∷ [])
+earlier_more s new parts first next before mid after [] r h e is =
     let number : next ≡ first = omega (arith, e) in
-    (subst (λ n. IsEarlier s parts n (new n) r) number is, tt)
-earlier_more s new parts first next (q ∷ rounds) r h e is = (h.0, earlier_more s new parts (first + 1) next rounds r h.1 (omega (arith, e)) is)
+    (after, (subst (λ n. IsEarlier s parts n (new n) before after r) number (subst (λ m. IsEarlier s parts next (new next) m after r) h is), refl))
+earlier_more s new parts first next before mid after (q ∷ rounds) r h e is = (h.0, (h.1.0, earlier_more s new parts (first + 1) next h.0 mid after rounds r h.1.1 (omega (arith, e)) is))
 
 and_true : (p : Bool) → (p && true) ≡ p
 and_true true = refl
@@ -216,7 +232,7 @@ said_more rounds r = flat_map-append said_by rounds (r ∷ []) ∙ ap (λ js. fl
 pub none_tried : (parts first : ℕ) (s : SeenCycles) → AreTried parts first first s s (record { status = 0; said = true })
 none_tried parts first s = record {
   rounds = [];
-  are = tt;
+  are = refl;
   all = omega arith;
   noted = sym (append-nil s.noted);
   result_is = refl;
@@ -225,6 +241,8 @@ none_tried parts first s = record {
   closed = refl;
   packed = refl;
   path = refl;
+  word = refl;
+  there = refl;
   others = λ other out. refl;
 }
 
@@ -236,9 +254,9 @@ pub tried_more : (parts first next : ℕ) (old mid new : SeenCycles) (status one
     → AreTried parts first (next + 1) old new all
 tried_more parts first next old mid new status one all h t e = let still = next_same parts first next old mid status h in record {
   rounds = h.rounds ++ t.round ∷ [];
-  are = earlier_more old new.reports parts first next h.rounds t.round
-      (earlier_still old mid.reports new.reports parts first h.rounds (λ other from below. t.beside.others other (λ same. let n = h.all in omega (arith, n, below, same))) h.are) h.all
-      (earlier_same old mid next h.separators h.known h.path still (new.reports next) parts t.round
+  are = earlier_more old new.reports parts first next old.said mid.said new.said h.rounds t.round
+      (earlier_still old mid.reports new.reports parts first old.said mid.said h.rounds (λ other from below. t.beside.others other (λ same. let n = h.all in omega (arith, n, below, same))) h.are) h.all
+      (earlier_same old mid next h.separators h.known h.path h.word still (new.reports next) mid.said new.said parts t.round
       (λ i. not (is_there (look_of (h.packed i next) (still i).put)) && have_all (h.closed i) parts next) t.is);
   all = let n = h.all in let m = length-append h.rounds (t.round ∷ []) in omega (arith, n, m);
   noted = t.noted ∙ ap (λ js. js ++ said_by t.round) h.noted ∙ append_assoc old.noted (flat_map said_by h.rounds) (said_by t.round)
@@ -249,6 +267,8 @@ tried_more parts first next old mid new status one all h t e = let still = next_
   closed = t.beside.closed ∙ h.closed;
   packed = t.beside.packed ∙ h.packed;
   path = t.beside.path ∙ h.path;
+  word = t.beside.word ∙ h.word;
+  there = t.beside.there ∙ h.there;
   others = λ other out.
       t.beside.others other (λ same. out (let n = h.all in omega (arith, n, same)) (omega (arith, same)))
       ∙ h.others other (λ from below. out from (omega (arith, below)));
@@ -278,12 +298,14 @@ pub all_joined : (parts last next : ℕ) (old mid new : SeenCycles) (status one 
 all_joined parts last next old mid new status one all bound over h t e = let still = h.others last (outside (oldest last) next last bound) in record {
   rounds = h.rounds;
   end = t.round;
-  are = earlier_still old mid.reports new.reports parts (oldest last) h.rounds
+  heard = mid.said;
+  are = earlier_still old mid.reports new.reports parts (oldest last) old.said mid.said h.rounds
       (λ other from below. t.beside.others other (not_last (oldest last) next last other bound from (let n = h.all in omega (arith, n, below)))) h.are;
   all = count_is (oldest last) next last (length h.rounds) bound over h.all;
-  end_is = last_same old mid last h.separators h.known h.path still (new.reports last) t.round (λ i. if last == 0 then None else whole_of (look_of (h.packed i last) (still i).put)) t.is;
+  end_is = last_same old mid last h.separators h.known h.path h.word still (new.reports last) mid.said new.said t.round (λ i. if last == 0 then None else whole_of (look_of (h.packed i last) (still i).put)) t.is;
   noted = t.noted ∙ ap (λ js. js ++ said_by t.round) h.noted ∙ append_assoc old.noted (flat_map said_by h.rounds) (said_by t.round)
       ∙ ap (λ js. old.noted ++ js) (sym (said_more h.rounds t.round));
   result_is = e ∙ (λ i. more_of (h.result_is i) (t.result_is i)) ∙ sym (ends_more h.rounds t.round);
+  there = t.beside.there ∙ h.there;
   others = λ other out apart. t.beside.others other apart ∙ h.others other (not_tried (oldest last) next last other bound out);
 }

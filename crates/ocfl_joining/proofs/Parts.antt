@@ -12,7 +12,7 @@ use Rattle.ocfl_joining.specs.Missing.{KnownPart, check_same, further_of, same_e
 use Rattle.ocfl_joining.proofs.Numbers.{flat_more}
 use Rattle.ocfl_joining.specs.declared.part.MissingPart.{MissingPart}
 use Rattle.ocfl_joining.specs.declared.part.PartFault.{PartFault}
-use Rattle.ocfl_joining.specs.declared.part.PartFault.TheVariants.{NoPart, OtherRoot, OtherPart, OtherAudit, OtherCycle, Untold, FewNames, Incomplete}
+use Rattle.ocfl_joining.specs.declared.part.PartFault.TheVariants.{NoPart, OtherRoot, OtherPart, OtherAudit, OtherCycle, ClosingUnsaid, FewNames, Incomplete}
 
 -- ---- one more part
 
@@ -32,7 +32,7 @@ missing_step separators root further cycle most parts n old new fault part k m e
 -- ---- a part without a fault
 
 seven_tests : (a b h c d f g : Bool)
-    → cond (not a) (Some OtherRoot) (cond (not b) (Some OtherPart) (cond (not h) (Some OtherAudit) (cond (not c) (Some OtherCycle) (cond (not d) (Some Untold) (cond f (Some FewNames) (cond (not g) (Some Incomplete) None)))))) ≡ None
+    → cond (not a) (Some OtherRoot) (cond (not b) (Some OtherPart) (cond (not h) (Some OtherAudit) (cond (not c) (Some OtherCycle) (cond (not d) (Some ClosingUnsaid) (cond f (Some FewNames) (cond (not g) (Some Incomplete) None)))))) ≡ None
     → (a ≡ true) × ((b ≡ true) × ((h ≡ true) × ((c ≡ true) × ((d ≡ true) × ((f ≡ false) × (g ≡ true))))))
 seven_tests true true true true true false true e = (refl, (refl, (refl, (refl, (refl, (refl, refl))))))
 seven_tests true true true true true false false e = cc
@@ -59,11 +59,11 @@ module _ (separators : List Place) (root : Text) (further : Further) (cycle most
   abbrev right : Type 0
   right =
       (part.root ≡ root)
-      × ((part.from ≡ start_of_part separators number) × ((part.below ≡ end_of_part separators number) × ((part.further ≡ further) × ((part.cycle ≡ cycle) × ((part.told ≡ true) × (part.whole ≡ true))))))
+      × ((part.from ≡ start_of_part separators number) × ((part.below ≡ end_of_part separators number) × ((part.further ≡ further) × ((part.cycle ≡ cycle) × ((part.has_said ≡ true) × (part.whole ≡ true))))))
 
   closed_right : closed_fault root further cycle most (start_of_part separators number) (end_of_part separators number) part ≡ None → right
   closed_right e =
-      let k = seven_tests (text_eq part.root root) (has_ends part (start_of_part separators number) (end_of_part separators number)) (check_same part.further further) (part.cycle == cycle) part.told (is_few most part.names) part.whole e in
+      let k = seven_tests (text_eq part.root root) (has_ends part (start_of_part separators number) (end_of_part separators number)) (check_same part.further further) (part.cycle == cycle) part.has_said (is_few most part.names) part.whole e in
       let from = same_end part.from (start_of_part separators number) in
       let below = same_end part.below (end_of_part separators number) in (
         (text_eq-Decides part.root root).0 k.0,

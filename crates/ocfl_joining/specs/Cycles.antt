@@ -2,7 +2,8 @@
 use Rattle.std.specs.Prelude.{◌≡◌, ◌≢◌, ◌⊎◌, ℕ, zero, suc, ◌+◌, ◌-◌, ◌<◌, ◌==◌, ◌&&◌, ◌||◌, max, List, [], ◌∷◌, ◌++◌, length, All, flat_map, Bool, true, false, not, if◌then◌else◌, Option, Some, None, ⊤}
 use Rattle.std.specs.List.{Contains}
 use Rattle.ocfl_tree.specs.Place.{Text, Place}
-use Rattle.ocfl_joining.specs.{Joined.{IsRight, all_parts, joined_of}, Missing.{KnownPart, are_right, hindering_of, missing_of, part_count, root_of}}
+use Rattle.ocfl_say.specs.Said.{Said, HasSaid, Grows, unknown}
+use Rattle.ocfl_joining.specs.{Joined.{IsRight, all_parts, joined_of, joined_text}, Missing.{KnownPart, are_right, hindering_of, missing_of, part_count, root_of}}
 use Rattle.ocfl_joining.specs.{Failing.{failed_status, more_of}, Reports.{Put, Seen, nothing_seen}, Status.{status_of}, Stops.{IsStopRight}}
 use Rattle.ocfl_joining.specs.Saying.{lacking_text, missing_text, stop_text, words_of}
 use Rattle.ocfl_joining.specs.declared.{cycles.JoinedLook.{JoinedLook}, part.MissingPart.{MissingPart}, status.CycleEnd.{CycleEnd}}
@@ -12,32 +13,39 @@ use Rattle.ocfl_joining.specs.declared.status.CycleEnd.TheVariants.{IsJoined, Is
 
 -- The separators of the parts. Of each cycle: what is known of the reports that the parts have closed;
 -- which part, by its number, has a closed report and has said what that found; whether a joined report is
--- there compressed; how the path of one is shown that is not whole; and the closed reports, with the
--- joined ones that are there. And what was said of cycles that were not joined, or not whole.
+-- there compressed; how the path of one is shown that is not whole; the word on one that has these bytes;
+-- and the closed reports, with the joined ones that are there. What was said of cycles that were not
+-- joined, or not whole. What the output was given for words on joined reports. And whether the folders
+-- are there that show all this.
 pub record SeenCycles : Type 0 where
   pub separators : List Place
   pub parts : ℕ → List (Option KnownPart)
   pub closed : ℕ → ℕ → Bool
   pub packed : ℕ → Bool
   pub path : ℕ → Text
+  pub word : ℕ → Bool → Text → Text
   pub reports : ℕ → Seen
   pub noted : Text
+  pub said : Said
+  pub there : Bool
 
 -- of cycles of which nothing is known
 abbrev pub no_cycles : SeenCycles
-no_cycles = record { separators = []; parts = λ _. []; closed = λ _ _. false; packed = λ _. false; path = λ _. []; reports = λ _. nothing_seen; noted = [] }
+no_cycles = record { separators = []; parts = λ _. []; closed = λ _ _. false; packed = λ _. false; path = λ _. []; word = λ _ _ _. []; reports = λ _. nothing_seen; noted = []; said = unknown; there = false }
 
 -- one more text was said
 abbrev pub with_said : Text → SeenCycles → SeenCycles
-with_said text s = record { separators = s.separators; parts = s.parts; closed = s.closed; packed = s.packed; path = s.path; reports = s.reports; noted = s.noted ++ text }
+with_said text s = record { separators = s.separators; parts = s.parts; closed = s.closed; packed = s.packed; path = s.path; word = s.word; reports = s.reports; noted = s.noted ++ text; said = s.said; there = s.there }
 
--- all but the joined reports of one cycle, and what was said, is as it was
+-- all but the joined reports of one cycle, and what was said, is as it was; the folders are still there
 pub record IsBeside (cycle : ℕ) (old new : SeenCycles) : Type 0 where
   pub separators : new.separators ≡ old.separators
   pub parts : new.parts ≡ old.parts
   pub closed : new.closed ≡ old.closed
   pub packed : new.packed ≡ old.packed
   pub path : new.path ≡ old.path
+  pub word : new.word ≡ old.word
+  pub there : new.there ≡ old.there
   pub others : (other : ℕ) → other ≢ cycle → new.reports other ≡ old.reports other
 
 -- ---- which cycles
@@ -122,10 +130,27 @@ abbrev pub ComesTo : List Place → List (Option KnownPart) → ℕ → Option B
 ComesTo separators parts cycle made (IsJoined whole) old new = CanJoin separators parts cycle whole old × IsPutOrFound made (joined_of separators whole old) old.put new.put
 ComesTo separators parts cycle made (IsHindered named) old new = (hindering_in separators parts cycle ≢ []) × (new.put ≡ old.put)
 
--- a call failed: nothing is put, or the joined report, which could be put
-abbrev pub MayCome : List Place → List (Option KnownPart) → ℕ → Seen → Seen → Type 0
-MayCome separators parts cycle old new =
-    (new.put ≡ old.put) ⊎ ((whole : Bool) × (CanJoin separators parts cycle whole old × (new.put ≡ old.put ++ joined_of separators whole old ∷ [])))
+-- the word on a joined report was said if it was made, and nothing if it was compared with the one there
+abbrev pub HasWord : Option Bool → Text → Said → Said → Type 0
+HasWord None word before after = HasSaid word before after
+HasWord (Some made) word before after = after ≡ before
+
+-- what the output was given at the end of a joining, by what the words on joined reports are
+abbrev pub IsHeard : List Place → (Bool → Text → Text) → Option Bool → CycleEnd → Seen → Said → Said → Type 0
+IsHeard separators word made (IsJoined whole) old before after = HasWord made (word whole (joined_text separators old)) before after
+IsHeard separators word made (IsHindered named) old before after = after ≡ before
+
+-- the joined report is put, which could be put, after its word was said
+pub record IsPut (separators : List Place) (parts : List (Option KnownPart)) (cycle : ℕ) (word : Bool → Text → Text) (old new : Seen) (before after : Said) : Type 0 where
+  pub whole : Bool
+  pub could : CanJoin separators parts cycle whole old
+  pub put : new.put ≡ old.put ++ joined_of separators whole old ∷ []
+  pub said : HasSaid (word whole (joined_text separators old)) before after
+
+-- a call failed: nothing is put, whatever the output was given, or the joined report is
+abbrev pub MayCome : List Place → List (Option KnownPart) → ℕ → (Bool → Text → Text) → Seen → Seen → Said → Said → Type 0
+MayCome separators parts cycle word old new before after =
+    ((new.put ≡ old.put) × Grows before after) ⊎ IsPut separators parts cycle word old new before after
 
 -- what is said of the end: what the joined report lacks, or which parts keep the cycle from being joined
 abbrev pub end_text : List Place → List (Option KnownPart) → ℕ → Text → CycleEnd → Text
@@ -146,11 +171,12 @@ abbrev pub NamesAs : Bool → CycleEnd → Type 0
 NamesAs names (IsJoined whole) = ⊤
 NamesAs names (IsHindered named) = named ≡ names
 
--- the joining of a cycle ended so, over what was made of it before
-pub record Comes (s : SeenCycles) (cycle : ℕ) (made : Option Bool) (names : Bool) (end : CycleEnd) (text : Text) (new : Seen) : Type 0 where
+-- the joining of a cycle ended so, over what was made of it before and what the output was given
+pub record Comes (s : SeenCycles) (cycle : ℕ) (made : Option Bool) (names : Bool) (end : CycleEnd) (text : Text) (new : Seen) (before after : Said) : Type 0 where
   pub named : NamesAs names end
   pub comes : ComesTo s.separators (s.parts cycle) cycle made end (s.reports cycle) new
   pub said : text ≡ end_text s.separators (s.parts cycle) cycle (s.path cycle) end
+  pub heard : IsHeard s.separators (s.word cycle) made end (s.reports cycle) before after
 
 -- It was said why a cycle stopped, with what the system said of a call that failed, if that is known;
 -- or that could not be said.
@@ -164,29 +190,29 @@ abbrev pub last_part : SeenCycles → ℕ → ℕ → ℕ
 last_part s parts cycle = max parts (part_count s.separators (s.parts cycle))
 
 -- the joining of a cycle stopped, for a reason that holds, which was said
-pub record IsStopped (s : SeenCycles) (parts cycle : ℕ) (why : JoinStop) (end : JoinEnd) (text : Text) (new : Seen) : Type 0 where
-  pub may : MayCome s.separators (s.parts cycle) cycle (s.reports cycle) new
+pub record IsStopped (s : SeenCycles) (parts cycle : ℕ) (why : JoinStop) (end : JoinEnd) (text : Text) (new : Seen) (before after : Said) : Type 0 where
+  pub may : MayCome s.separators (s.parts cycle) cycle (s.word cycle) (s.reports cycle) new before after
   pub right : IsStopRight (last_part s parts cycle) s.separators (s.reports cycle) why
   pub told : TellsStop cycle why end text
 
--- A cycle before the last one, with the reports that are there of it then: if it is due it is made, and
--- no part is named; else it is passed by.
-abbrev pub IsEarlier : SeenCycles → ℕ → ℕ → Seen → Round → Type 0
-IsEarlier s parts cycle new passed = (is_due s parts cycle ≡ false) × (new ≡ s.reports cycle)
-IsEarlier s parts cycle new (ended end text) = (is_due s parts cycle ≡ true) × Comes s cycle None false end text new
-IsEarlier s parts cycle new (stopped why end text) = IsStopped s parts cycle why end text new
+-- A cycle before the last one, with the reports that are there of it then, and what the output was given
+-- before it and after it: if it is due it is made, and no part is named; else it is passed by.
+abbrev pub IsEarlier : SeenCycles → ℕ → ℕ → Seen → Said → Said → Round → Type 0
+IsEarlier s parts cycle new before after passed = (is_due s parts cycle ≡ false) × ((new ≡ s.reports cycle) × (after ≡ before))
+IsEarlier s parts cycle new before after (ended end text) = (is_due s parts cycle ≡ true) × Comes s cycle None false end text new before after
+IsEarlier s parts cycle new before after (stopped why end text) = IsStopped s parts cycle why end text new before after
 
 -- the last one: it is compared with what was made of it, or made, and then the parts that keep it from
 -- it are named
-abbrev pub IsLast : SeenCycles → ℕ → Seen → Round → Type 0
-IsLast s cycle new passed = ⊥
-IsLast s cycle new (ended end text) = Comes s cycle (made_of s cycle) (is_none (made_of s cycle)) end text new
-IsLast s cycle new (stopped why end text) = IsStopped s 0 cycle why end text new
+abbrev pub IsLast : SeenCycles → ℕ → Seen → Said → Said → Round → Type 0
+IsLast s cycle new before after passed = ⊥
+IsLast s cycle new before after (ended end text) = Comes s cycle (made_of s cycle) (is_none (made_of s cycle)) end text new before after
+IsLast s cycle new before after (stopped why end text) = IsStopped s 0 cycle why end text new before after
 
 -- cycles before the last one, one after the other, from a number on
-abbrev pub AreEarlier : SeenCycles → (ℕ → Seen) → ℕ → ℕ → List Round → Type 0
-AreEarlier s new parts first [] = ⊤
-AreEarlier s new parts first (r ∷ rounds) = IsEarlier s parts first (new first) r × AreEarlier s new parts (first + 1) rounds
+abbrev pub AreEarlier : SeenCycles → (ℕ → Seen) → ℕ → ℕ → Said → Said → List Round → Type 0
+AreEarlier s new parts first before after [] = after ≡ before
+AreEarlier s new parts first before after (r ∷ rounds) = (then_said : Said) × (IsEarlier s parts first (new first) before then_said r × AreEarlier s new parts (first + 1) then_said after rounds)
 
 abbrev pub said_by : Round → Text
 said_by passed = []
@@ -204,13 +230,15 @@ ends_of [] = record { status = 0; said = true }
 ends_of (r ∷ rounds) = more_of (end_by r) (ends_of rounds)
 
 -- Each cycle up to the last one of so many parts, in order, with the greatest status, and whether all
--- was said. Nothing else was joined or said.
+-- was said. Nothing else was joined or said, and the folders are still there.
 pub record AreJoined (old new : SeenCycles) (parts last : ℕ) (result : JoinEnd) : Type 0 where
   pub rounds : List Round
   pub end : Round
-  pub are : AreEarlier old new.reports parts (oldest last) rounds
+  pub heard : Said
+  pub are : AreEarlier old new.reports parts (oldest last) old.said heard rounds
   pub all : length rounds ≡ last - oldest last
-  pub end_is : IsLast old last (new.reports last) end
+  pub end_is : IsLast old last (new.reports last) heard new.said end
   pub noted : new.noted ≡ old.noted ++ flat_map said_by (rounds ++ end ∷ [])
   pub result_is : result ≡ ends_of (rounds ++ end ∷ [])
+  pub there : new.there ≡ old.there
   pub others : (cycle : ℕ) → (cycle < oldest last) ⊎ (last < cycle) → cycle ≢ last → new.reports cycle ≡ old.reports cycle

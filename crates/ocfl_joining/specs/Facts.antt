@@ -146,22 +146,22 @@ known_runs count = number_or_none count.runs
 -- ---- what is known of the report that a part closed in a cycle
 
 abbrev pub known_of : Facts → ℕ → Bool → FoundReport → KnownPart
-known_of facts cycle told found = record {
+known_of facts cycle has_said found = record {
   root = facts.root.items;
   from = facts.from;
   below = facts.below;
   further = facts.further;
   cycle = cycle;
   whole = found.whole;
-  told = told;
+  has_said = has_said;
   names = names_in found.kept;
   left = left_in found.kept;
 }
 
 -- if its report is there
 abbrev pub known_if : Facts → ℕ → Bool → Option FoundReport → Option KnownPart
-known_if facts cycle told None = None
-known_if facts cycle told (Some found) = Some (known_of facts cycle told found)
+known_if facts cycle has_said None = None
+known_if facts cycle has_said (Some found) = Some (known_of facts cycle has_said found)
 
 -- if the part has a checkpoint, which says this
 abbrev pub known_by : Folders → ℕ → ℕ → Option Facts → Option KnownPart

@@ -7,7 +7,7 @@ use Rattle.ocfl_report.specs.declared.further.Further.TheVariants.{Nothing, Inve
 use Rattle.ocfl_separators.specs.Separators.{start_of_part, end_of_part}
 use Rattle.ocfl_joining.specs.declared.part.MissingPart.{MissingPart}
 use Rattle.ocfl_joining.specs.declared.part.PartFault.{PartFault}
-use Rattle.ocfl_joining.specs.declared.part.PartFault.TheVariants.{NoPart, NotClosed, OtherRoot, OtherPart, OtherAudit, OtherCycle, Untold, FewNames, Incomplete}
+use Rattle.ocfl_joining.specs.declared.part.PartFault.TheVariants.{NoPart, NotClosed, OtherRoot, OtherPart, OtherAudit, OtherCycle, ClosingUnsaid, FewNames, Incomplete}
 
 -- What is known of the report that a part closed in a cycle: which storage root the part is of, in
 -- whatever form; where it begins, and below which place it stays; what its audit checks further; the
@@ -20,7 +20,7 @@ pub record KnownPart : Type 0 where
   pub further : Further
   pub cycle : ℕ
   pub whole : Bool
-  pub told : Bool
+  pub has_said : Bool
   pub names : Option ℕ
   pub left : List Place
 
@@ -64,7 +64,7 @@ closed_fault root further cycle most from below part =
     else (if not (has_ends part from below) then Some OtherPart
     else (if not (check_same part.further further) then Some OtherAudit
     else (if not (part.cycle == cycle) then Some OtherCycle
-    else (if not part.told then Some Untold
+    else (if not part.has_said then Some ClosingUnsaid
     else (if is_few most part.names then Some FewNames
     else (if not part.whole then Some Incomplete else None))))))
 
@@ -146,7 +146,7 @@ hinders OtherRoot = true
 hinders OtherPart = true
 hinders OtherAudit = true
 hinders OtherCycle = true
-hinders Untold = true
+hinders ClosingUnsaid = true
 hinders FewNames = true
 
 -- the parts that keep all of them from being joined

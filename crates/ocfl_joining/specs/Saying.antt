@@ -11,7 +11,7 @@ use Rattle.ocfl_joining.specs.declared.part.{MissingPart.{MissingPart}, PartFaul
 use Rattle.ocfl_joining.specs.declared.reports.ReportTrouble.{ReportTrouble}
 use Rattle.ocfl_joining.specs.declared.reports.ReportTrouble.TheVariants as trouble
 use Rattle.ocfl_joining.specs.declared.reports.ReportTrouble.TheVariants.{Failed}
-use Rattle.ocfl_joining.specs.declared.part.PartFault.TheVariants.{NoPart, NotClosed, OtherRoot, OtherPart, OtherAudit, OtherCycle, Untold, FewNames, Incomplete}
+use Rattle.ocfl_joining.specs.declared.part.PartFault.TheVariants.{NoPart, NotClosed, OtherRoot, OtherPart, OtherAudit, OtherCycle, ClosingUnsaid, FewNames, Incomplete}
 
 abbrev pub fault_text : PartFault → Text
 fault_text NoPart = codes "there is no such part"
@@ -20,7 +20,7 @@ fault_text OtherRoot = codes "it is of another storage root"
 fault_text OtherPart = codes "it is of another part"
 fault_text OtherAudit = codes "it does not check the same as another part"
 fault_text OtherCycle = codes "its report is of another cycle"
-fault_text Untold = codes "its closing was not said yet"
+fault_text ClosingUnsaid = codes "its closing was not said yet"
 fault_text FewNames = codes "it saw less than half of the names that another part saw in the storage root"
 fault_text Incomplete = codes "its report is not whole"
 
@@ -55,7 +55,7 @@ reason_text cycle most part OtherRoot = fault_text OtherRoot
 reason_text cycle most part OtherPart = fault_text OtherPart
 reason_text cycle most part OtherAudit = other_audit_text part
 reason_text cycle most part OtherCycle = fault_text OtherCycle
-reason_text cycle most part Untold = codes "its closing of cycle " ++ decimal cycle ++ codes " was not said yet"
+reason_text cycle most part ClosingUnsaid = codes "its closing of cycle " ++ decimal cycle ++ codes " was not said yet"
 reason_text cycle most part FewNames = few_text cycle most part
 reason_text cycle most part Incomplete = fault_text Incomplete
 

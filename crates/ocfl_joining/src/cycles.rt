@@ -2,8 +2,8 @@
 ghost use Rattle.std.specs.Prelude.{◌≡◌, ◌⊎◌, ◌≤◌, ◌&&◌, ◌++◌, ℕ, Bool, false, true, IsTrue};
 ghost use Rattle.std.specs.Prelude.{IfErr, IfOk, OnErr};
 ghost use Rattle.ocfl_tree.specs.Place.{Text};
-ghost use Rattle.ocfl_joining.specs.Cycles.{AreJoined, ComesTo, IsBeside, MayCome, SeenCycles};
-ghost use Rattle.ocfl_joining.specs.Cycles.{TellsStop};
+ghost use Rattle.ocfl_joining.specs.Cycles.{AreJoined, ComesTo, IsBeside, IsHeard, MayCome};
+ghost use Rattle.ocfl_joining.specs.Cycles.{SeenCycles, TellsStop};
 ghost use Rattle.ocfl_joining.specs.Cycles.{end_of as end_by, end_text, have_all as have_all_of};
 ghost use Rattle.ocfl_joining.specs.Cycles.{is_due as is_due_by, is_none as is_none_of};
 ghost use Rattle.ocfl_joining.specs.Cycles.{is_there as is_there_by, look_at, made_of, no_cycles};
@@ -72,9 +72,13 @@ pub trait PartCycles {
             ≡ (seen self.old).noted ++ end_text (seen self.old).separators
             ((seen self.old).parts cycle) cycle ((seen self.old).path cycle)
             (end_by names whole)) }
+        ensures heard { IsTrue told → IfOk result (λ whole. IsHeard (seen self.old).separators
+            ((seen self.old).word cycle) made (end_by names whole)
+            ((seen self.old).reports cycle) (seen self.old).said (seen self.new).said) }
         ensures may { IsTrue told → OnErr result (MayCome (seen self.old).separators
-            ((seen self.old).parts cycle) cycle
-            ((seen self.old).reports cycle) ((seen self.new).reports cycle)) }
+            ((seen self.old).parts cycle) cycle ((seen self.old).word cycle)
+            ((seen self.old).reports cycle) ((seen self.new).reports cycle)
+            (seen self.old).said (seen self.new).said) }
         ensures why { IsTrue told → IfErr result (IsStopRight
             (part_count (seen self.old).separators ((seen self.old).parts cycle))
             (seen self.old).separators ((seen self.old).reports cycle)) }
@@ -128,7 +132,6 @@ fn oldest_of(last: u64) -> u64
 }
 
 /// Joins a cycle before the last one, if it is due, or says why that fails. Gives the status.
-#[tactic(auto, using(crate::proofs::Cycling::earlier_failed))]
 fn join_or_fail<C: PartCycles>(cycles: &mut C, parts: usize, cycle: u64) -> JoinEnd
     ensures tried { IsTrue C.told
         → TriesEarlier parts cycle (C.seen cycles.old) (C.seen cycles.new) result }
@@ -241,7 +244,7 @@ pub fn end_of(names: bool, whole: Option<bool>) -> CycleEnd
 }
 
 /// Joins the last cycle, or says why that fails. Gives the status.
-#[tactic(auto, using(crate::proofs::Cycling::last_joined, crate::proofs::Cycling::last_failed))]
+#[tactic(auto, using(crate::proofs::Cycling::last_joined))]
 fn join_last_or_fail<C: PartCycles>(cycles: &mut C, last: u64) -> JoinEnd
     ensures tried { IsTrue C.told
         → TriesLast last (C.seen cycles.old) (C.seen cycles.new) result }

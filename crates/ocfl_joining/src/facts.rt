@@ -362,10 +362,10 @@ pub fn known_part(
     alloc: Global,
     facts: &Facts,
     cycle: u64,
-    told: bool,
+    has_said: bool,
     found: &FoundReport,
 ) -> Result<ClosedPart, AllocError>
-    ensures { IfOk result (λ part. part ≡ known_of facts.now cycle told found.now) }
+    ensures { IfOk result (λ part. part ≡ known_of facts.now cycle has_said found.now) }
 {
     Ok(ClosedPart {
         root: facts.root.to_vec(alloc)?,
@@ -374,7 +374,7 @@ pub fn known_part(
         further: facts.further,
         cycle,
         whole: found.whole,
-        told,
+        has_said,
         names: names_of(&found.kept),
         left: left_out(alloc, &found.kept)?,
     })

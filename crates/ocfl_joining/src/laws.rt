@@ -20,7 +20,7 @@ pub fn a_part_without_fault_is_right()
         → fault_of separators root further cycle most number (Some part) ≡ None
         → (part.root ≡ root) × ((part.from ≡ start_of_part separators number)
         × ((part.below ≡ end_of_part separators number) × ((part.further ≡ further)
-        × ((part.cycle ≡ cycle) × ((part.told ≡ true) × (part.whole ≡ true)))))) }
+        × ((part.cycle ≡ cycle) × ((part.has_said ≡ true) × (part.whole ≡ true)))))) }
 {}
 
 /// Suppose that the closed report of each part is what the audit has there that its checkpoint says

@@ -13,8 +13,9 @@
 //! - `join_cycles` joins the last cycle that all parts have closed, and of the 1,000 before it, the
 //!   oldest first, each that all of them have closed and that is not joined; it has the greatest
 //!   status. Of each that is joined there is a report then that has the closed reports of all
-//!   parts, each right, and nothing is put of one that parts keep from it. That is so if the cycles
-//!   are as the trait [`PartCycles`] says.
+//!   parts, each right, and nothing is put of one that parts keep from it. The output is given the
+//!   word on each report that is made, and nothing for one that is compared. That is so if the
+//!   cycles are as the trait [`PartCycles`] says.
 //! - `say_missing` and `say_lacking` are what is said of parts that keep a cycle from being joined,
 //!   and of a joined report that is not whole. `say_stop` is what is said of a cycle whose joining
 //!   stopped: a line for each part whose report is not as it was closed, or one for the part, or

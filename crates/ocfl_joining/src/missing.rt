@@ -60,8 +60,8 @@ fn find_closed_fault(
     if part.cycle != cycle {
         return Some(PartFault::OtherCycle);
     }
-    if !part.told {
-        return Some(PartFault::Untold);
+    if !part.has_said {
+        return Some(PartFault::ClosingUnsaid);
     }
     if saw_few(most, part.names) {
         return Some(PartFault::FewNames);

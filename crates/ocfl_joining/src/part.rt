@@ -23,7 +23,7 @@ pub struct ClosedPart {
     /// Nothing of the report was lost, and nothing was left out.
     pub whole: bool,
     /// What the report has new and gone was said.
-    pub told: bool,
+    pub has_said: bool,
     /// How many names the top folder of the storage root had when the cycle began, if that is
     /// known.
     pub names: Option<u64>,
@@ -41,7 +41,7 @@ impl Drop for ClosedPart {
             further: _further,
             cycle: _cycle,
             whole: _whole,
-            told: _told,
+            has_said: _has_said,
             names: _names,
             left: _left,
         } = self;
@@ -60,7 +60,7 @@ impl Model for ClosedPart {
       further = part.further;
       cycle = part.cycle;
       whole = part.whole;
-      told = part.told;
+      has_said = part.has_said;
       names = part.names;
       left = part.left.items;
     } };
@@ -83,7 +83,7 @@ pub enum PartFault {
     /// Its report is of another cycle.
     OtherCycle,
     /// What its report has new and gone was not said yet.
-    Untold,
+    ClosingUnsaid,
     /// It saw less than half of the names that another part saw in the storage root.
     FewNames,
     /// Its report is not whole.
@@ -101,7 +101,7 @@ fn words_of(fault: PartFault) -> &'static str
         PartFault::OtherPart => "it is of another part",
         PartFault::OtherAudit => "it does not check the same as another part",
         PartFault::OtherCycle => "its report is of another cycle",
-        PartFault::Untold => "its closing was not said yet",
+        PartFault::ClosingUnsaid => "its closing was not said yet",
         PartFault::FewNames =>
             "it saw less than half of the names that another part saw in the storage root",
         PartFault::Incomplete => "its report is not whole",

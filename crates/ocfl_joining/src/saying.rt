@@ -98,7 +98,9 @@ fn reason(
         ≡ reason_text cycle most (option_map (λ p. p.now) part.entry) fault) }
 {
     match fault {
-        PartFault::Untold => { format!(in alloc; "its closing of cycle {cycle} was not said yet") }
+        PartFault::ClosingUnsaid => {
+            format!(in alloc; "its closing of cycle {cycle} was not said yet")
+        }
         PartFault::FewNames => few(alloc, cycle, most, part),
         PartFault::OtherAudit => other_audit(alloc, part),
         PartFault::NoPart

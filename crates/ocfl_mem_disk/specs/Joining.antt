@@ -27,7 +27,7 @@ has_said_in closed cycle part = by (closed_of closed cycle part)
   where
     by : Option MemClosed → Bool
     by None = false
-    by (Some one) = one.told
+    by (Some one) = one.has_said
 
 -- those that are compressed are whole
 abbrev pub is_packed_in : List ℕ → ℕ → Bool → Bool

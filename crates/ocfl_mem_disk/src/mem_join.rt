@@ -22,7 +22,7 @@ pub struct MemClosed {
     /// Whether the closed report is whole.
     pub whole: bool,
     /// Whether the part has said what it found.
-    pub told: bool,
+    pub has_said: bool,
 }
 
 /// Closed reports of parts in memory, with the same bytes in each cycle, and a disk in memory on
@@ -163,7 +163,7 @@ fn has_said_in(closed: &[MemClosed], cycle: u64, part: usize) -> bool
     ensures { result ≡ has_said_in closed.now cycle part }
 {
     match closed_in(closed, cycle, part) {
-        Some(one) => one.told,
+        Some(one) => one.has_said,
         None => false,
     }
 }

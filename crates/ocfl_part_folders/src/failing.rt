@@ -1,4 +1,4 @@
-//! What is said of a call that failed, and what a joining is told of it.
+//! What is said of a call that failed, and which trouble that is for a joining.
 ghost use Rattle.std.specs.Prelude.{◌≡◌, ◌≢◌, ◌++◌, List, ℕ, IfOk, IfSome, codes, string_bytes};
 ghost use Rattle.std.specs.IoError.{error_kind};
 ghost use Rattle.ocfl_files.specs.Failing.{OrMemory, Says, StopsOn, out_of_memory, stopped_status};
@@ -99,7 +99,7 @@ pub(crate) fn call_of(alloc: Global, failure: &Failure) -> Option<FailedCall>
     }
 }
 
-/// What a joining is told of a failure.
+/// The trouble that a failure is for a joining.
 pub(crate) fn trouble_of(failure: &Failure) -> ReportTrouble
     ensures { result ≡ trouble_by failure.now }
 {

@@ -81,14 +81,24 @@ fn read_from<F: Read + Drop>(alloc: Global, opened: io::Result<F>) -> Result<Sep
     }
 }
 
-/// What came of a joining over calls, which are given back.
+/// What came of a joining over calls. They are given back, and the output.
 #[derive(Drop)]
-pub struct Joining<C: Drop> {
-    /// The calls, unless they were lost.
+pub struct Joining<C: Drop, S: Drop> {
+    /// The calls; there are none only if those that were given do not tell their state.
     pub calls: Option<C>,
+    /// The output.
+    pub out: S,
     /// The exit status, and whether it was said of each cycle that stopped why it did; or why none
     /// was gone through.
     pub came: Result<JoinEnd, Failure>,
+}
+
+/// The calls and the output after cycles were gone through, and how that ended.
+#[derive(Drop)]
+struct Joined<C: Drop, S: Drop> {
+    calls: Option<C>,
+    out: S,
+    end: JoinEnd,
 }
 
 /// The calls of folders that a joining gave back.
@@ -108,15 +118,18 @@ fn join_known<C: PartCalls + Drop, S: Say + Drop>(
     separators: &Separators,
     facts: &[Option<Facts>],
     out: S,
-) -> (Option<C>, JoinEnd)
+) -> Joined<C, S>
     ensures { IsTrue C.told → ComesTo C.folder C.disk separators.now facts.now
-        (C.folder calls) (C.disk calls).seen (length facts.now) result.0 result.1 }
+        (C.folder calls) (C.disk calls).seen (S.said out) (length facts.now)
+        result.calls (S.said result.out) result.end }
 {
     let alloc = calls.global();
     let disk = FolderDisk::new(calls, facts);
     let mut cycles = DiskCycles::over(alloc, separators, facts, disk, out);
     let end = join_cycles(&mut cycles, facts.len(), last_of_all(facts));
-    (calls_of(cycles.into_disk()), end)
+    let (disk, out) = cycles.into_given();
+    let calls = calls_of(disk);
+    Joined { calls, out, end }
 }
 
 /// Reads what the checkpoints of all parts say, and joins each cycle that they have closed and that
@@ -128,23 +141,26 @@ pub fn join_over<C: PartCalls + Drop, S: Say + Drop>(
     calls: C,
     separators: &Separators,
     out: S,
-) -> Joining<C>
-    ensures joined { IsTrue C.told → IfOk result.came (λ end.
-        HasJoined C.folder C.disk separators.now calls result.calls end) }
+) -> Joining<C, S>
+    ensures joined { IsTrue C.told → IfOk result.came (λ end. HasJoined C.folder C.disk
+        separators.now calls (S.said out) result.calls (S.said result.out) end) }
+    ensures silent { OnErr result.came (result.out ≡ out) }
     ensures failed { IsTrue C.told → OnErr result.came (IsSomeAnd result.calls (λ after.
         (C.folder after ≡ C.folder calls) × Calm (C.disk calls) (C.disk after))) }
 {
     let mut calls = calls;
     match read_all(&mut calls, separators.len().saturating_add(1)) {
         Ok(facts) => {
-            let (calls, end) = join_known(calls, separators, &facts, out);
+            let Joined { calls, out, end } = join_known(calls, separators, &facts, out);
             Joining {
                 calls,
+                out,
                 came: Ok(end),
             }
         }
         Err(failure) => Joining {
             calls: Some(calls),
+            out,
             came: Err(failure),
         },
     }

@@ -5,8 +5,8 @@
 //! - What is counted of a joined report is what its lines count, each read once and in order. A
 //!   text that is no line stops that, unless it begins as the line of what is right.
 //! - What is said of separators that were not read, of a call that failed and of a file that is not
-//!   the joined report, but for the system's words; what a joining is told of it; and the exit
-//!   status of each end.
+//!   the joined report, but for the system's words; which trouble that is for a joining; and the
+//!   exit status of each end.
 //!
 //! And if the calls of the system in the folder of all parts are as the trait [`PartCalls`] says,
 //! each for the path that it is given:
@@ -18,7 +18,8 @@
 //!   has what its bytes count, and the runs of all parts.
 //! - So `join_over` goes through the cycles up to the last one that all parts have closed, as
 //!   `join_cycles` says: what each ends as, which joined reports are there then, and what was said
-//!   on standard error. If a checkpoint cannot be read, nothing is changed.
+//!   on standard error. The output is given the word on each report that is made, and no other
+//!   text. Folder and output are given back. If a checkpoint cannot be read, nothing is changed.
 //!
 //! `MemParts` of `ocfl_mem_disk` meets the trait.
 #![tactic(auto)]

@@ -9,21 +9,21 @@ use Rattle.ocfl_joining.specs.declared.{failing.JoinEnd.{JoinEnd}, joining.JoinS
 pub record Joins (cycle : ℕ) (made : Option Bool) (names : Bool) (old new : SeenCycles) (status : ℕ) : Type 0 where
   pub end : CycleEnd
   pub text : Text
-  pub comes : Comes old cycle made names end text (new.reports cycle)
+  pub comes : Comes old cycle made names end text (new.reports cycle) old.said new.said
   pub noted : new.noted ≡ old.noted ++ text
   pub status_is : status ≡ status_of end
 
 -- its joining stopped for this reason, which is not said yet
 pub record JoinsNone (parts cycle : ℕ) (old new : SeenCycles) (why : JoinStop) : Type 0 where
   pub noted : new.noted ≡ old.noted
-  pub may : MayCome old.separators (old.parts cycle) cycle (old.reports cycle) (new.reports cycle)
+  pub may : MayCome old.separators (old.parts cycle) cycle (old.word cycle) (old.reports cycle) (new.reports cycle) old.said new.said
   pub right : IsStopRight (last_part old parts cycle) old.separators (old.reports cycle) why
   pub beside : IsBeside cycle old new
 
 -- what came of a cycle before the last one
 pub record TriesEarlier (parts cycle : ℕ) (old new : SeenCycles) (result : JoinEnd) : Type 0 where
   pub round : Round
-  pub is : IsEarlier old parts cycle (new.reports cycle) round
+  pub is : IsEarlier old parts cycle (new.reports cycle) old.said new.said round
   pub noted : new.noted ≡ old.noted ++ said_by round
   pub result_is : result ≡ end_by round
   pub beside : IsBeside cycle old new
@@ -31,7 +31,7 @@ pub record TriesEarlier (parts cycle : ℕ) (old new : SeenCycles) (result : Joi
 -- what came of the last one
 pub record TriesLast (cycle : ℕ) (old new : SeenCycles) (result : JoinEnd) : Type 0 where
   pub round : Round
-  pub is : IsLast old cycle (new.reports cycle) round
+  pub is : IsLast old cycle (new.reports cycle) old.said new.said round
   pub noted : new.noted ≡ old.noted ++ said_by round
   pub result_is : result ≡ end_by round
   pub beside : IsBeside cycle old new
@@ -39,7 +39,7 @@ pub record TriesLast (cycle : ℕ) (old new : SeenCycles) (result : JoinEnd) : T
 -- what came of the cycles from a number on, and below another one
 pub record AreTried (parts first next : ℕ) (old new : SeenCycles) (result : JoinEnd) : Type 0 where
   pub rounds : List Round
-  pub are : AreEarlier old new.reports parts first rounds
+  pub are : AreEarlier old new.reports parts first old.said new.said rounds
   pub all : first + length rounds ≡ next
   pub noted : new.noted ≡ old.noted ++ flat_map said_by rounds
   pub result_is : result ≡ ends_of rounds
@@ -48,4 +48,6 @@ pub record AreTried (parts first next : ℕ) (old new : SeenCycles) (result : Jo
   pub closed : new.closed ≡ old.closed
   pub packed : new.packed ≡ old.packed
   pub path : new.path ≡ old.path
+  pub word : new.word ≡ old.word
+  pub there : new.there ≡ old.there
   pub others : (other : ℕ) → (first ≤ other → other < next → ⊥) → new.reports other ≡ old.reports other

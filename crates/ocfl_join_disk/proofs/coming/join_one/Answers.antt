@@ -16,7 +16,7 @@ returns g c = record {
       let said = subst (λ p. OnOk c.say_end-whole.result ((files last).folders ≡ with_noted (said_of p cycle c.args.asked.names ((files came.disk).folders.path cycle false) came.joined) (files came.disk).folders))
       (c.as_slice-2.ensures.value ∙ sym c.as_slice.ensures.value) (c.say_end-whole.ensures.said told) in
       has_ended c.args.separators.now c.args.facts.now c.as_slice.result.now cycle c.args.asked.made c.args.asked.names (files c.args.disk) (files c.find_parts.new.disk) (files came.disk) (files last)
-      (state c.args.disk).seen (state c.find_parts.new.disk).seen (state came.disk).seen (state last).seen came.joined c.say_end-whole.result
+      (state c.args.disk).seen (state c.find_parts.new.disk).seen (state came.disk).seen (state last).seen (g.S.Say.said c.args.out.now) (g.S.Say.said c.join_on-came.new.out) came.joined c.say_end-whole.result
       (c.as_slice.ensures.value ∙ c.in-Ok.ensures.known told) (c.find_parts.ensures.parts told) (c.find_parts.ensures.seen told) (c.join_on-came.ensures.came told) c.say_end-whole.ensures.ends said
       (c.say_end-whole.ensures.silent told) c.say_end-whole.ensures.why (c.say_end-whole.ensures.seen told);
 }
@@ -27,5 +27,5 @@ returns-in-Err g c = record {
       let files = g.D.JoinDisk.parts in
       let state = g.D.JoinDisk.state in
       has_failed c.args.separators.now c.args.facts.now c.args.asked.cycle c.args.asked.made c.args.asked.names (files c.args.disk) (files c.find_parts.new.disk)
-      (state c.args.disk).seen (state c.find_parts.new.disk).seen c.in-Err.stop (c.find_parts.ensures.parts told) (c.find_parts.ensures.seen told) c.in-Err.ensures.why;
+      (state c.args.disk).seen (state c.find_parts.new.disk).seen (g.S.Say.said c.args.out.now) c.in-Err.stop (c.find_parts.ensures.parts told) (c.find_parts.ensures.seen told) c.in-Err.ensures.why;
 }

@@ -9,7 +9,7 @@ returns-in-Some g c = record {
         s.0,
         (
           s.1.0,
-          said_on g.D.JoinDisk.parts g.D.JoinDisk.state c.args.self.now.separators.now c.args.self.now.facts.now c.in-Some.disk c.note_stop.new.disk c.args.self.now.disk (Some c.note_stop.new.disk) s.0
+          said_on g.D.JoinDisk.parts g.D.JoinDisk.state c.args.self.now.separators.now c.args.self.now.facts.now (g.S.Say.said c.args.self.now.out) c.in-Some.disk c.note_stop.new.disk c.args.self.now.disk (Some c.note_stop.new.disk) s.0
               c.in-Some.is refl s.1.1 (c.note_stop.ensures.seen told),
         ),
       );

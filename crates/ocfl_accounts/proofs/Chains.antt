@@ -7,7 +7,7 @@ use Rattle.ocfl_compare.specs.declared.change.ChangeAt.{ChangeAt}
 use Rattle.ocfl_say.specs.Said.{Said, Grows}
 use Rattle.ocfl_accounts.specs.{Changes.{Says}, Kept.{Kept, Account, HasAccount, account_of, is_some, with_account, with_list, with_lists}, Crash.{Outcomes, Passes, After}}
 use Rattle.ocfl_accounts.specs.Telling.{Stand, Outcome, IsAccountSaid, IsSettled, MayAccount, IsOutcomeFor, AreOutcomes, AreSaid, greatest_from}
-use Rattle.ocfl_accounts.specs.{Rounds.{Told, AreTold, MayAccounts, account_told}, Calls.{Call, AreCalls, left_by, IsSaidIn, WasSaid, IsDoneIn}}
+use Rattle.ocfl_accounts.specs.{Rounds.{SaidClosing, AreClosingsSaid, MayAccounts, account_of_closing}, Calls.{Call, AreCalls, left_by, IsSaidIn, WasSaid, IsDoneIn}}
 use Rattle.ocfl_accounts.specs.{declared.{closings.ClosingStop.{ClosingStop}, pair.Pair.{Pair}}}
 use Rattle.ocfl_accounts.specs.{Cycle.{is_there}, Pairs.{waits}, Unsaid.{NoneUnsaid, is_unsaid, oldest}}
 use Rattle.ocfl_say.proofs.Outputs.{grows_none, grows_on}
@@ -34,17 +34,17 @@ had_or_put (x ∷ accounts) lists a is = of (had_or_put accounts (with_list x li
     of (inr among) = inr (inr among)
 
 module _ (k : Kept) (says : Says) where
-  told_grows : (low high : ℕ) (s t : Said) (told : List Told) → AreTold k says low high s t told → Grows s t
-  told_grows low high s t [] h = h
-  told_grows low high s t (x ∷ told) h = grows_on s x.before t h.0.grew (grows_on x.before x.after t h.0.said.grew (told_grows (x.cycle + 1) high x.after t told h.1))
+  closings_grow : (low high : ℕ) (s t : Said) (closings : List SaidClosing) → AreClosingsSaid k says low high s t closings → Grows s t
+  closings_grow low high s t [] h = h
+  closings_grow low high s t (x ∷ closings) h = grows_on s x.before t h.0.grew (grows_on x.before x.after t h.0.said.grew (closings_grow (x.cycle + 1) high x.after t closings h.1))
 
   -- of the accounts of what was said each is that of one closing
-  told_among : (low high : ℕ) (s t : Said) (told : List Told) (a : Account) → AreTold k says low high s t told → IsAmong (map account_told told) a
-      → (x : Told) × ((a ≡ account_told x) × (Grows s x.before × (IsAccountSaid k x.cycle says x.before x.after x.pair x.changes × Grows x.after t)))
-  told_among low high s t [] a h is = absurd is
-  told_among low high s t (x ∷ told) a h (inl e) = (x, (e, (h.0.grew, (h.0.said, told_grows (x.cycle + 1) high x.after t told h.1))))
-  told_among low high s t (x ∷ told) a h (inr is) =
-      let r = told_among (x.cycle + 1) high x.after t told a h.1 is in
+  closing_among : (low high : ℕ) (s t : Said) (closings : List SaidClosing) (a : Account) → AreClosingsSaid k says low high s t closings → IsAmong (map account_of_closing closings) a
+      → (x : SaidClosing) × ((a ≡ account_of_closing x) × (Grows s x.before × (IsAccountSaid k x.cycle says x.before x.after x.pair x.changes × Grows x.after t)))
+  closing_among low high s t [] a h is = absurd is
+  closing_among low high s t (x ∷ closings) a h (inl e) = (x, (e, (h.0.grew, (h.0.said, closings_grow (x.cycle + 1) high x.after t closings h.1))))
+  closing_among low high s t (x ∷ closings) a h (inr is) =
+      let r = closing_among (x.cycle + 1) high x.after t closings a h.1 is in
       let y = r.0 in (y, (r.1.0, (grows_on s x.after y.before (grows_on s x.before x.after h.0.grew h.0.said.grew) r.1.1.0, (r.1.1.1.0, r.1.1.1.1))))
 
 module _ {F : Type 0} (seen : F → Kept) (may_leave : F → Outcomes) (moment : F → ℕ) (left_since : F → ℕ → Outcomes) (only_now : (f : F) (k : Kept) → left_since f (moment f) k → may_leave f k)
@@ -54,15 +54,15 @@ module _ {F : Type 0} (seen : F → Kept) (may_leave : F → Outcomes) (moment :
       → (k : Kept) → left_since c.ended (moment c.began) k → (a : Account) → HasAccount k a → WasKept (may_leave c.began) a ⊎ IsSaidIn seen says a c
   one_call c p k left a is = by (p.meanwhile (moment c.began) k (omega arith) left)
     where
-      from : (d : Kept) → may_leave c.began d → (told : List Told) → AreTold (seen c.began) says c.first c.end c.before c.after told → HasAccount d a ⊎ IsAmong (map account_told told) a → WasKept (may_leave c.began) a ⊎ IsSaidIn seen says a c
-      from d m told are (inl old) = inl (d, (m, old))
-      from d m told are (inr new) =
-          let r = told_among (seen c.began) says c.first c.end c.before c.after told a are new in
-          inr (record { told = r.0; is = r.1.0; grew = r.1.1.0; said = r.1.1.1.0; then = r.1.1.1.1 })
+      from : (d : Kept) → may_leave c.began d → (closings : List SaidClosing) → AreClosingsSaid (seen c.began) says c.first c.end c.before c.after closings → HasAccount d a ⊎ IsAmong (map account_of_closing closings) a → WasKept (may_leave c.began) a ⊎ IsSaidIn seen says a c
+      from d m closings are (inl old) = inl (d, (m, old))
+      from d m closings are (inr new) =
+          let r = closing_among (seen c.began) says c.first c.end c.before c.after closings a are new in
+          inr (record { closing = r.0; is = r.1.0; grew = r.1.1.0; said = r.1.1.1.0; then = r.1.1.1.1 })
 
       by : left_since c.began (moment c.began) k ⊎ After (MayAccounts (seen c.began) says c.first c.end c.before c.after) (may_leave c.began) k → WasKept (may_leave c.began) a ⊎ IsSaidIn seen says a c
       by (inl old) = inl (k, (only_now c.began k old, is))
-      by (inr h) = from h.0 h.1 h.2.0 h.2.1.0 (had_or_put (map account_told h.2.0) h.0.lists a (subst (λ d. HasAccount d a) h.2.1.1 is))
+      by (inr h) = from h.0 h.1 h.2.0 h.2.1.0 (had_or_put (map account_of_closing h.2.0) h.0.lists a (subst (λ d. HasAccount d a) h.2.1.1 is))
 
   -- or over several
   pub each_said : (outcomes : Outcomes) (calls : List (Call F)) → AreCalls seen may_leave moment left_since says outcomes calls
@@ -118,7 +118,7 @@ settled_before k after first cycle later kept settled = sym (unsaid_same k after
 module _ (says : Says) where
   outcome_grows : (stop : Option ClosingStop) (before after : Stand) (cycle status : ℕ) → IsOutcomeFor stop before cycle says after status → Grows before.said after.said
   outcome_grows None before after cycle status (inl alone) = subst (Grows before.said) (sym alone.silent) (grows_none before.said)
-  outcome_grows None before after cycle status (inr told) = told.said.grew
+  outcome_grows None before after cycle status (inr right) = right.said.grew
   outcome_grows (Some why) before after cycle status h = h.1.0
 
   outcomes_grow : (before after : Stand) (cycle : ℕ) (os : List Outcome) → AreOutcomes before cycle says os after → Grows before.said after.said
@@ -129,8 +129,8 @@ module _ (says : Says) where
   first_done : (stop : Option ClosingStop) (before next after : Stand) (cycle status : ℕ) → IsOutcomeFor stop before cycle says next status → Grows next.said after.said
       → is_unsaid after.kept cycle ≡ is_unsaid next.kept cycle → IsDoneIn before says after cycle ⊎ ((is_unsaid after.kept cycle ≡ true) × (status ≡ 3))
   first_done None before next after cycle status (inl alone) grew same = inl (inl alone.settled)
-  first_done None before next after cycle status (inr told) grew same =
-      inl (inr (record { pair = told.pair; changes = told.changes; before = before.said; after = next.said; grew = grows_none before.said; said = told.said; then = grew }))
+  first_done None before next after cycle status (inr right) grew same =
+      inl (inr (record { pair = right.pair; changes = right.changes; before = before.said; after = next.said; grew = grows_none before.said; said = right.said; then = grew }))
   first_done (Some why) before next after cycle status h grew same = by h.0
     where
       of : next.kept ≡ before.kept → (b : Bool) → is_unsaid before.kept cycle ≡ b → IsDoneIn before says after cycle ⊎ ((is_unsaid after.kept cycle ≡ true) × (status ≡ 3))
@@ -144,11 +144,11 @@ module _ (says : Says) where
   -- an outcome adds the account of its cycle at most
   kept_after : (stop : Option ClosingStop) (before after : Stand) (cycle status : ℕ) → IsOutcomeFor stop before cycle says after status → KeptAfter before.kept cycle after.kept
   kept_after None before after cycle status (inl alone) = inl alone.same
-  kept_after None before after cycle status (inr told) = by (waits told.pair) told.kept
+  kept_after None before after cycle status (inr right) = by (waits right.pair) right.kept
     where
-      by : (b : Bool) → after.kept ≡ cond b before.kept (with_account (account_of cycle told.changes) before.kept) → KeptAfter before.kept cycle after.kept
+      by : (b : Bool) → after.kept ≡ cond b before.kept (with_account (account_of cycle right.changes) before.kept) → KeptAfter before.kept cycle after.kept
       by true e = inl e
-      by false e = inr (told.changes, e)
+      by false e = inr (right.changes, e)
   kept_after (Some why) before after cycle status h = by h.0
     where
       by : MayAccount before.kept cycle says before.said after.said before.kept after.kept → KeptAfter before.kept cycle after.kept

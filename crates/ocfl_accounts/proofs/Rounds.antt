@@ -8,7 +8,7 @@ use Rattle.ocfl_say.specs.Said.{Said, Grows}
 use Rattle.ocfl_accounts.specs.Kept.{Kept, Account, is_some, with_account, with_accounts, with_list, with_lists}
 use Rattle.ocfl_accounts.specs.{Cycle.{Cycle}, Changes.{AreFound, IsSince, IsSinceWhole, Says}}
 use Rattle.ocfl_accounts.specs.{Crash.{Outcomes, Passes}, Telling.{IsAccountSaid, MayAccount}}
-use Rattle.ocfl_accounts.specs.{Rounds.{Told, AreTold, MayAccounts, account_told}, declared.pair.Pair.{Pair}}
+use Rattle.ocfl_accounts.specs.{Rounds.{SaidClosing, AreClosingsSaid, MayAccounts, account_of_closing}, declared.pair.Pair.{Pair}}
 use Rattle.ocfl_say.proofs.Outputs.{grows_none, grows_on}
 use Rattle.ocfl_accounts.proofs.Passing.{passes_then}
 
@@ -54,56 +54,56 @@ module _ (k : Kept) (says : Says) where
   }
 
   -- the output went on
-  told_on : (low n m : ℕ) (s t u : Said) (told : List Told) → n ≤ m → Grows t u → AreTold k says low n s t told → AreTold k says low m s u told
-  told_on low n m s t u [] le grew h = grows_on s t u h grew
-  told_on low n m s t u (x ∷ told) le grew h =
+  closings_on : (low n m : ℕ) (s t u : Said) (closings : List SaidClosing) → n ≤ m → Grows t u → AreClosingsSaid k says low n s t closings → AreClosingsSaid k says low m s u closings
+  closings_on low n m s t u [] le grew h = grows_on s t u h grew
+  closings_on low n m s t u (x ∷ closings) le grew h =
       let first = h.0 in
       let below = first.below in
-      (record { from = first.from; below = omega (arith, le, below); grew = first.grew; said = first.said }, told_on (x.cycle + 1) n m x.after t u told le grew h.1)
+      (record { from = first.from; below = omega (arith, le, below); grew = first.grew; said = first.said }, closings_on (x.cycle + 1) n m x.after t u closings le grew h.1)
 
   -- one more cycle was said
-  told_more : (low n : ℕ) (s t u : Said) (told : List Told) (x : Told) → low ≤ n → x.cycle ≡ n → Grows t x.before → Grows x.after u → IsAccountSaid k x.cycle says x.before x.after x.pair x.changes
-      → AreTold k says low n s t told → AreTold k says low (n + 1) s u (told ++ x ∷ [])
-  told_more low n s t u [] x le is before after said h = (record { from = omega (arith, le, is); below = omega (arith, is); grew = grows_on s t x.before h before; said = said }, after)
-  told_more low n s t u (y ∷ told) x le is before after said h =
+  closings_more : (low n : ℕ) (s t u : Said) (closings : List SaidClosing) (x : SaidClosing) → low ≤ n → x.cycle ≡ n → Grows t x.before → Grows x.after u → IsAccountSaid k x.cycle says x.before x.after x.pair x.changes
+      → AreClosingsSaid k says low n s t closings → AreClosingsSaid k says low (n + 1) s u (closings ++ x ∷ [])
+  closings_more low n s t u [] x le is before after said h = (record { from = omega (arith, le, is); below = omega (arith, is); grew = grows_on s t x.before h before; said = said }, after)
+  closings_more low n s t u (y ∷ closings) x le is before after said h =
       let first = h.0 in
       let below = first.below in (
         record { from = first.from; below = omega (arith, below); grew = first.grew; said = first.said },
-        told_more (y.cycle + 1) n y.after t u told x (omega (arith, below)) is before after said h.1,
+        closings_more (y.cycle + 1) n y.after t u closings x (omega (arith, below)) is before after said h.1,
       )
 
   -- no cycle comes after the last one
-  within : (low n end : ℕ) (s t : Said) (told : List Told) → (n ≤ end) ⊎ (n ≡ low) → AreTold k says low n s t told → AreTold k says low end s t told
-  within low n end s t told (inl le) h = told_on low n end s t t told le (grows_none t) h
+  within : (low n end : ℕ) (s t : Said) (closings : List SaidClosing) → (n ≤ end) ⊎ (n ≡ low) → AreClosingsSaid k says low n s t closings → AreClosingsSaid k says low end s t closings
+  within low n end s t closings (inl le) h = closings_on low n end s t t closings le (grows_none t) h
   within low n end s t [] (inr none) h = h
-  within low n end s t (x ∷ told) (inr none) h = let from = h.0.from in let below = h.0.below in absurd (omega (arith, from, below, none))
+  within low n end s t (x ∷ closings) (inr none) h = let from = h.0.from in let below = h.0.below in absurd (omega (arith, from, below, none))
 
   pub may_within : (low n end : ℕ) (s t : Said) → (n ≤ end) ⊎ (n ≡ low) → (x y : Kept) → MayAccounts k says low n s t x y → MayAccounts k says low end s t x y
   may_within low n end s t bound x y h = (h.0, (within low n end s t h.0 bound h.1.0, h.1.1))
 
-  map_more : (told : List Told) (x : Told) (d : Kept) → with_account (account_told x) (with_accounts (map account_told told) d) ≡ with_accounts (map account_told (told ++ x ∷ [])) d
-  map_more told x d = ap (λ l. record { sights = d.sights; reports = d.reports; listed = d.listed; lists = l }) (lists_more (map account_told told) (account_told x) d.lists ∙ ap (λ l. with_lists l d.lists) (mapped told))
+  map_more : (closings : List SaidClosing) (x : SaidClosing) (d : Kept) → with_account (account_of_closing x) (with_accounts (map account_of_closing closings) d) ≡ with_accounts (map account_of_closing (closings ++ x ∷ [])) d
+  map_more closings x d = ap (λ l. record { sights = d.sights; reports = d.reports; listed = d.listed; lists = l }) (lists_more (map account_of_closing closings) (account_of_closing x) d.lists ∙ ap (λ l. with_lists l d.lists) (mapped closings))
     where
-      mapped : (told : List Told) → map account_told told ++ account_told x ∷ [] ≡ map account_told (told ++ x ∷ [])
+      mapped : (closings : List SaidClosing) → map account_of_closing closings ++ account_of_closing x ∷ [] ≡ map account_of_closing (closings ++ x ∷ [])
       mapped [] = refl
-      mapped (y ∷ told) = ap (λ l. account_told y ∷ l) (mapped told)
+      mapped (y ∷ closings) = ap (λ l. account_of_closing y ∷ l) (mapped closings)
 
   module _ (low n : ℕ) (s t u : Said) (le : low ≤ n) (grew : Grows t u) where
     -- a crash before the cycle
     pub still_may : (x y : Kept) → MayAccounts k says low n s t x y → MayAccounts k says low (n + 1) s u x y
-    still_may x y h = (h.0, (told_on low n (n + 1) s t u h.0 (omega arith) grew h.1.0, h.1.1))
+    still_may x y h = (h.0, (closings_on low n (n + 1) s t u h.0 (omega arith) grew h.1.0, h.1.1))
 
     -- a crash in it or after it
     pub may_more : (now : Kept) → MayAccounts k says low n s t k now → (x y z : Kept) → MayAccounts k says low n s t x y → MayAccount now n says t u y z → MayAccounts k says low (n + 1) s u x z
     may_more now seen x y z h (inl same) = subst (MayAccounts k says low (n + 1) s u x) (sym same) (still_may x y h)
     may_more now seen x y z h (inr put) =
         let said = put.1.1.0 in
-        let one : Told = record { cycle = n; pair = put.0; changes = put.1.0; before = t; after = u } in
-        let here = said_before (map account_told seen.0) n t u put.0 put.1.0 (subst (λ d. IsAccountSaid d n says t u put.0 put.1.0) seen.1.1 said) in (
+        let one : SaidClosing = record { cycle = n; pair = put.0; changes = put.1.0; before = t; after = u } in
+        let here = said_before (map account_of_closing seen.0) n t u put.0 put.1.0 (subst (λ d. IsAccountSaid d n says t u put.0 put.1.0) seen.1.1 said) in (
           h.0 ++ one ∷ [],
           (
-            told_more low n s t u h.0 one le refl (grows_none t) (grows_none u) here h.1.0,
-            put.1.1.1 ∙ ap (with_account (account_told one)) h.1.1 ∙ map_more h.0 one x,
+            closings_more low n s t u h.0 one le refl (grows_none t) (grows_none u) here h.1.0,
+            put.1.1.1 ∙ ap (with_account (account_of_closing one)) h.1.1 ∙ map_more h.0 one x,
           ),
         )
 
@@ -114,5 +114,5 @@ module _ (k : Kept) (says : Says) where
         passes_then may_leave moment left_since (MayAccounts k says low n s t) (MayAccount now n says t u) (MayAccounts k says low (n + 1) s u) still_may (may_more now seen) a b c p q
 
   -- nothing was said yet
-  pub none_told : (low : ℕ) (s : Said) (x : Kept) → MayAccounts k says low low s s x x
-  none_told low s x = ([], (grows_none s, refl))
+  pub none_said : (low : ℕ) (s : Said) (x : Kept) → MayAccounts k says low low s s x x
+  none_said low s x = ([], (grows_none s, refl))

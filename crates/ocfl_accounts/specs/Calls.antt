@@ -4,7 +4,7 @@ use Rattle.ocfl_tree.specs.{Place.{Text}}
 use Rattle.ocfl_compare.specs.declared.change.ChangeAt.{ChangeAt}
 use Rattle.ocfl_say.specs.Said.{Said, Grows}
 use Rattle.ocfl_accounts.specs.{Changes.{Says}, Kept.{Kept, Account}, Crash.{Outcomes, Same, Follows, Passes}}
-use Rattle.ocfl_accounts.specs.{Telling.{Stand, IsAccountSaid, IsSettled}, Rounds.{Told, MayAccounts, account_told}}
+use Rattle.ocfl_accounts.specs.{Telling.{Stand, IsAccountSaid, IsSettled}, Rounds.{SaidClosing, MayAccounts, account_of_closing}}
 use Rattle.ocfl_accounts.specs.declared.pair.Pair.{Pair}
 
 -- a call: the closed reports when it began and when they were last seen, which cycles it was to say,
@@ -34,11 +34,11 @@ left_by moment left_since outcomes (c ∷ calls) = left_by moment left_since (le
 -- in one of these calls a text was said, that of the comparison with the right reports, and then the
 -- account was put
 pub record IsSaidIn {F : Type 0} (seen : F → Kept) (says : Says) (a : Account) (c : Call F) : Type 0 where
-  pub told : Told
-  pub is : a ≡ account_told told
-  pub grew : Grows c.before told.before
-  pub said : IsAccountSaid (seen c.began) told.cycle says told.before told.after told.pair told.changes
-  pub then : Grows told.after c.after
+  pub closing : SaidClosing
+  pub is : a ≡ account_of_closing closing
+  pub grew : Grows c.before closing.before
+  pub said : IsAccountSaid (seen c.began) closing.cycle says closing.before closing.after closing.pair closing.changes
+  pub then : Grows closing.after c.after
 
 abbrev pub WasSaid : {F : Type 0} → (F → Kept) → Says → Account → List (Call F) → Type 0
 WasSaid seen says a [] = ⊥

@@ -29,7 +29,7 @@ abbrev pub kept_then : Pair → Account → Kept → Kept
 kept_then pair account k = if waits pair then k else with_account account k
 
 -- it was said and kept, and this is the status
-pub record IsToldRightly (k : Kept) (cycle : ℕ) (says : Says) (after : Kept) (old new : Said) (status : ℕ) : Type 0 where
+pub record IsSaidRightly (k : Kept) (cycle : ℕ) (says : Says) (after : Kept) (old new : Said) (status : ℕ) : Type 0 where
   pub pair : Pair
   pub changes : List ChangeAt
   pub said : IsAccountSaid k cycle says old new pair changes
@@ -71,7 +71,7 @@ outcome_of after status stop = record { after = after; status = status; stop = s
 -- a cycle was said, or left alone; or not for a reason, and then its account may be kept if its text
 -- was said, and the status is 3
 abbrev pub IsOutcomeFor : Option ClosingStop → Stand → ℕ → Says → Stand → ℕ → Type 0
-IsOutcomeFor None before cycle says after status = IsLeftAlone before.kept cycle after.kept before.said after.said status ⊎ IsToldRightly before.kept cycle says after.kept before.said after.said status
+IsOutcomeFor None before cycle says after status = IsLeftAlone before.kept cycle after.kept before.said after.said status ⊎ IsSaidRightly before.kept cycle says after.kept before.said after.said status
 IsOutcomeFor (Some why) before cycle says after status =
     MayAccount before.kept cycle says before.said after.said before.kept after.kept
     × (Grows before.said after.said × ((status ≡ 3) × IsReason before.faults after.faults before.said after.said why))

@@ -4,7 +4,8 @@ ghost use Rattle.ocfl_accounts.specs.{Causes.{HasCause, HasReason}, Crash.{MayPu
 ghost use Rattle.ocfl_accounts.specs.{Cycle.{there}, Kept.{account_with, has_account}, Rounds.{MayAccounts}};
 ghost use Rattle.ocfl_say.specs.Said.{Grows, HasFailed, HasSaid};
 ghost use Rattle.ocfl_accounts.specs.Telling.{kept_then};
-ghost use Rattle.ocfl_accounts.specs.Telling.{AreSaid, IsLeftAlone, IsOutcome, IsToldRightly, MayAccount};
+ghost use Rattle.ocfl_accounts.specs.Telling.{AreSaid, IsLeftAlone, IsOutcome};
+ghost use Rattle.ocfl_accounts.specs.Telling.{IsSaidRightly, MayAccount};
 ghost use Rattle.ocfl_accounts.specs.Telling.{outcome_of, stand_of};
 ghost use Rattle.ocfl_accounts.specs.declared.closings.ClosingStop.{ClosingStop as ModelStop};
 
@@ -24,10 +25,10 @@ pub fn say_cycle<C: Closings, S: Say>(
     cycle: u64,
     out: &mut S,
 ) -> Result<u8, ClosingStop>
-    ensures told { IsTrue C.told → IfOk result (λ status.
+    ensures said { IsTrue C.told → IfOk result (λ status.
         IsLeftAlone (C.seen closings.old) cycle (C.seen closings.new)
         (S.said out.old) (S.said out.new) status
-        ⊎ IsToldRightly (C.seen closings.old) cycle C.says (C.seen closings.new)
+        ⊎ IsSaidRightly (C.seen closings.old) cycle C.says (C.seen closings.new)
         (S.said out.old) (S.said out.new) status) }
     ensures may { IsTrue C.told → MayAccount (C.seen closings.old) cycle C.says
         (S.said out.old) (S.said out.new) (C.seen closings.old) (C.seen closings.new) }
@@ -54,9 +55,9 @@ fn say_closed<C: Closings, S: Say>(
     now: ClosedCycle,
     out: &mut S,
 ) -> Result<u8, ClosingStop>
-    ensures told { IsTrue C.told → (C.seen closings.old).sights now.cycle ≡ there now
+    ensures said { IsTrue C.told → (C.seen closings.old).sights now.cycle ≡ there now
         → has_account (C.seen closings.old) now.cycle ≡ false → IfOk result (λ status.
-        IsToldRightly (C.seen closings.old) now.cycle C.says (C.seen closings.new)
+        IsSaidRightly (C.seen closings.old) now.cycle C.says (C.seen closings.new)
         (S.said out.old) (S.said out.new) status) }
     ensures may { IsTrue C.told → (C.seen closings.old).sights now.cycle ≡ there now
         → has_account (C.seen closings.old) now.cycle ≡ false

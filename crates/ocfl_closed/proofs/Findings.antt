@@ -14,7 +14,8 @@ use Rattle.ocfl_words.specs.{Counted.{AreCounted, counted, is_news}, Kept.{none_
 use Rattle.ocfl_words.specs.{Held.{HasFound, AreHeld, Held, held_after, none_held}, News.{AreNews}}
 use Rattle.ocfl_words.specs.declared.{changes.Changes.{Changes}, compared.ComparedLines.{ComparedLines}, findings.Findings.{Findings}, noting.Part.{Part}}
 use Rattle.ocfl_closed.specs.{Files.{Files, kept_of}, Internal.{AllTaken, Took, SeenOf.{IsSeenMissing, IsSeenSince, IsSeenSinceWhole}, Takes.{within}}, Taken.{HasTaken, Stand}}
-use Rattle.ocfl_closed.specs.Words.{AreNewsOf, AreOf, AreParts, AreSince, AreSinceWhole, Beside, HasText, News, Parts, all_of, counted_in, news_in, no_finding, no_parts, said_beside}
+use Rattle.ocfl_closed.specs.Words.{AreNewsOf, AreOf, AreParts, AreSince, AreSinceWhole, Beside, HasText, IsAccount, IsAccountOf, News, Parts, all_of, counted_in, news_in, no_finding, no_parts, said_beside}
+use Rattle.ocfl_closed.specs.declared.account.Account.{Account}
 use Rattle.ocfl_closed.proofs.HeldIn.{news_compared, news_of_none, news_within}
 use Rattle.ocfl_closed.proofs.NotedIn.{all_compared, changes_noted, changes_of_no_findings, changes_of_noted, changes_of_within, changes_seen_all, noted_missing, noted_whole, noted_within}
 
@@ -322,6 +323,29 @@ found_in known k pair p h = record {
   listed = h.missing.listed;
 }
 
+-- which findings are new, of all changes that were taken
+news_taken : {Are : Parts → Type 0} (old new : Stand) (t : AllTaken Are old new) → AreNewsOf new.since.found new.whole.found (news_in old.said t.parts)
+news_taken old new t = record {
+  before = old.said;
+  new_since = t.parts.since;
+  lines = t.parts.lines;
+  new_again = t.parts.whole;
+  again = t.parts.again;
+  is = refl;
+  of_since = t.found;
+  of_whole = t.again;
+}
+
+-- what is kept of all changes that were taken
+pub account_in : (b : Beside) (f : Files) (pair : Pair) (a : Account) (old new : Stand) → old.known ≡ b.known → old.said ≡ b.said → AllTaken (AreParts old.known (kept_of f) pair) old new
+    → ((p : Parts) (n : News) → AreCounted new.since.changes (counted p.since) → AreCounted new.whole.changes (counted p.whole) → AreCounted new.noting (counted p.missing)
+    → AreNewsOf new.since.found new.whole.found n → IsAccount b f pair (counted_in p) n a) → IsAccountOf b f pair a
+account_in b f pair a old new names again t is = record {
+  parts = t.parts;
+  are = subst (λ known. AreParts known (kept_of f) pair t.parts) names t.are;
+  account = subst (λ before. IsAccount b f pair (counted_in t.parts) (news_in before t.parts) a) again (is t.parts (news_in old.said t.parts) t.since t.whole t.missing (news_taken old new t));
+}
+
 -- what is found, of an empty list and no change on
 pub finds_of : (k : Kept) (pair : Pair) (b : Beside) (text : Text) (is_grave : Bool) (beside : Text) (old new : Stand)
     → old.list ≡ Some [] → old.is_grave ≡ false → old.known ≡ b.known → old.said ≡ b.said → AllTaken (AreParts old.known k pair) old new
@@ -335,16 +359,7 @@ finds_of k pair b text is_grave beside old new empty calm names again t written 
     parts = t.parts;
     are = (t.are.0, λ kept. without_accounts b.known k pair t.parts (subst (λ known. AreOf known k pair t.parts) names (t.are.1 kept)));
     is = refl;
-    said = subst (λ before. HasText b pair (counted_in t.parts) (news_in before t.parts) text) again (said t.parts (news_in old.said t.parts) t.since t.whole t.missing (record {
-      before = old.said;
-      new_since = t.parts.since;
-      lines = t.parts.lines;
-      new_again = t.parts.whole;
-      again = t.parts.again;
-      is = refl;
-      of_since = t.found;
-      of_whole = t.again;
-    }));
+    said = subst (λ before. HasText b pair (counted_in t.parts) (news_in before t.parts) text) again (said t.parts (news_in old.said t.parts) t.since t.whole t.missing (news_taken old new t));
     grave = grave ∙ t.grave ∙ ap (λ g. g || list_any is_news (all_of t.parts)) calm;
   };
   listed = written (gone_text (changes_of (all_of t.parts))) (in_list new.list (subst (λ l. Appends l new.list (gone_text (changes_of (all_of t.parts)))) empty t.list));

@@ -15,3 +15,5 @@ mod Backing
 mod Partings
 mod ByPlaces
 mod HeldIn
+mod RowTexts
+mod Saying

@@ -49,12 +49,12 @@ none_taken start old = record {
   kept = λ all e. e ∙ ap (take most_objects) (sym (append-nil all));
 }
 
-pub one_taken : (start left after : Option Text) (old mid new : List Place) (row : Text) (c : ChangeAt) → AreTaken start left old mid → Consumes left after row → row ≡ gone_row c → IsPlace c.place
-    → ((all : List Place) → mid ≡ take most_objects all → new ≡ take most_objects (all ++ lost_object c)) → AreTaken start after old new
-one_taken start left after old mid new row c t read is place kept = record {
+pub one_taken : (start left after : Option Text) (old mid new : List Place) (row slice : Text) → AreTaken start left old mid → Consumes left after row → slice ≡ row
+    → (c : ChangeAt) × (IsPlace c.place × ((slice ≡ gone_row c) × ((all : List Place) → mid ≡ take most_objects all → new ≡ take most_objects (all ++ lost_object c)))) → AreTaken start after old new
+one_taken start left after old mid new row slice t read same (c, (place, (is, kept))) = record {
   rows = t.rows ++ c ∷ [];
   places = All-append (λ (c : ChangeAt). IsPlace c.place) t.rows (c ∷ []) t.places (All-cons (λ (c : ChangeAt). IsPlace c.place) c [] place (All-nil (λ (c : ChangeAt). IsPlace c.place)));
-  read = subst (Consumes start after) (ap (λ b. gone_text t.rows ++ b) (is ∙ sym (append-nil (gone_row c))) ∙ sym (flat_map-append gone_row t.rows (c ∷ []))) (Consumes-trans start left after _ row t.read read);
+  read = subst (Consumes start after) (ap (λ b. gone_text t.rows ++ b) (sym same ∙ is ∙ sym (append-nil (gone_row c))) ∙ sym (flat_map-append gone_row t.rows (c ∷ []))) (Consumes-trans start left after _ row t.read read);
   kept = λ all e. kept (all ++ lost_objects t.rows) (t.kept all e)
       ∙ ap (take most_objects) (append_assoc all (lost_objects t.rows) (lost_object c) ∙ ap (λ ps. all ++ ps) (ap (λ ps. lost_objects t.rows ++ ps) (sym (append-nil (lost_object c))) ∙ sym (flat_map-append lost_object t.rows (c ∷ []))));
 }

@@ -3,12 +3,12 @@
 -- The lists of what is gone of earlier cycles are read, the last one first. An object that one of
 -- them calls gone or no longer declared is back if the report before has no line of an object there
 -- and this one has one: so it is said once.
-use Rattle.std.specs.Prelude.{◌≡◌, ℕ, ◌-◌, ◌==◌, ◌&&◌, List, [], ◌∷◌, ◌++◌, All, Bool, true, false, Option, Some, None, filter, flat_map, take, if◌then◌else◌, zero, suc}
+use Rattle.std.specs.Prelude.{◌≡◌, ◌≢◌, ℕ, ◌-◌, ◌==◌, ◌&&◌, List, [], ◌∷◌, ◌++◌, All, Bool, true, false, Option, Some, None, filter, flat_map, take, if◌then◌else◌, zero, suc}
 use Rattle.std.specs.List.{list_any}
 use Rattle.ocfl_tree.specs.{Place.{Text, Place, place_cmp}, Ascending.{ascending}, Name.{IsPlace}}
 use Rattle.ocfl_report.specs.Line.{Line}
 use Rattle.ocfl_codes.specs.Kinds.{tells_object}
-use Rattle.ocfl_compare.specs.{Changes.{lines_at}, Compared.{IsReport}, Expected.{is_missing}, Gone.{gone_text}}
+use Rattle.ocfl_compare.specs.{Changes.{lines_at}, Compared.{IsReport}, Expected.{is_missing}, Gone.{gone_row, gone_text, gone_word}}
 use Rattle.ocfl_compare.specs.declared.change.{Change.{Change}, ChangeAt.{ChangeAt}}
 use Rattle.ocfl_compare.specs.declared.change.Change.TheVariants.{Gone, Undeclared, FileGone, Unlooked, Found, Repaired, Missing, Rewritten, WentBack, NewVersion}
 use Rattle.ocfl_accounts.specs.{Cycle.{Cycle}, Kept.{Kept}, declared.pair.Pair.{Pair}}
@@ -38,6 +38,21 @@ lost_objects cs = flat_map lost_object cs
 pub record IsListOf (list : Text) (cs : List ChangeAt) : Type 0 where
   pub places : All (λ c. IsPlace c.place) cs
   pub is : list ≡ gone_text cs
+
+-- the row of one of them, with its line feed: not each change has one
+pub record IsRowOf (row : Text) (c : ChangeAt) : Type 0 where
+  pub place : IsPlace c.place
+  pub word : gone_word c.change ≢ []
+  pub is : row ≡ gone_row c
+
+-- no list has these bytes
+abbrev pub IsNoList : Text → Type 0
+IsNoList list = (cs : List ChangeAt) → IsListOf list cs → ⊥
+
+-- a list is there, and it is none
+abbrev pub IsBadList : Option Text → Type 0
+IsBadList None = ⊥
+IsBadList (Some list) = IsNoList list
 
 -- a list, if it is there, calls these objects gone or no longer declared
 abbrev pub AreLost : Option Text → List Place → Type 0

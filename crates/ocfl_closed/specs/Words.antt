@@ -1,5 +1,5 @@
 -- What is said of the changes of a closed cycle.
-use Rattle.std.specs.Prelude.{◌≡◌, ℕ, ◌+◌, ◌^◌, ◌<◌, ◌||◌, nat_lt, ◌==◌, ◌&&◌, List, [], ◌++◌, Bool, true, false, Option, Some, None, length, codes, decimal, filter, map, if◌then◌else◌}
+use Rattle.std.specs.Prelude.{◌≡◌, ℕ, ◌+◌, ◌-◌, ◌^◌, ◌<◌, ◌||◌, nat_lt, ◌==◌, ◌&&◌, List, [], ◌++◌, Bool, true, false, Option, Some, None, length, codes, decimal, filter, map, string_bytes, if◌then◌else◌}
 use Rattle.std.specs.List.{list_any}
 use Rattle.ocfl_tree.specs.Place.{Text, Place}
 use Rattle.ocfl_report.specs.{Line.{Line, line_of}, Text.{escape}}
@@ -9,10 +9,11 @@ use Rattle.ocfl_accounts.specs.declared.pair.Pair.{Pair}
 use Rattle.ocfl_messages.specs.{Closing.{closing_text}, Finding.{Finding}, Gravest.{IsOf, by_weight}}
 use Rattle.ocfl_messages.specs.Tally.{IsCount, IsTally, bytes_in, objects_in, right_in, wrong_in}
 use Rattle.ocfl_messages.specs.declared.{closing.Closing.{Closing}, known.KnownEntry.{KnownEntry}, tally.Counts.{Counts}}
-use Rattle.ocfl_words.specs.{Counted.{Counted, counted, gone_in, is_news, joined, shown_of}, Noted.{AreNoted, Noted, changes_of, noted}}
-use Rattle.ocfl_words.specs.{News.{AreNews, again_in, new_lines, news}, declared.findings.Findings.{Findings}}
+use Rattle.ocfl_words.specs.{Counted.{AreCounted, Counted, counted, gone_in, is_news, joined, shown_of}, Noted.{AreNoted, Noted, changes_of, noted}}
+use Rattle.ocfl_words.specs.{News.{AreNews, again_in, findings_in, new_lines, news}, declared.findings.Findings.{Findings}}
 use Rattle.ocfl_state.specs.Checkpoint.{Checkpoint}
-use Rattle.ocfl_closed.specs.{Files.{Files}, declared.words.SaidWith.{SaidWith}}
+use Rattle.ocfl_closed.specs.Files.{Files, kept_of}
+use Rattle.ocfl_closed.specs.declared.{account.{Account.{Account}, CycleMade.{CycleMade}}, words.SaidWith.{SaidWith}}
 
 -- ---- which changes
 
@@ -86,10 +87,11 @@ news_of before ps ls qs ms = record {
 abbrev pub news_in : List Line → Parts → News
 news_in before p = news_of before p.since p.lines p.whole p.again
 
--- as they are kept: the most serious of them
+-- as they are kept: the most serious of them, and how many findings the report has
 pub record AreIn (f : Findings) (n : News) : Type 0 where
   pub gravest : IsOf f.gravest n.findings
   pub again : IsCount f.said n.again
+  pub count : IsCount f.count (findings_in n.lines)
   pub tally : IsTally f.tally n.lines
 
 -- and as those of two comparisons are
@@ -189,6 +191,26 @@ runs_by (Some c) = c.cursor.runs
 abbrev pub runs_in : Files → Pair → ℕ
 runs_in f pair = runs_by (f.checkpoint pair.closed.cycle)
 
+-- how many lines its report had when it was closed, and what its runs had read of files: bytes, and
+-- how many; 0 if that is not known
+abbrev pub lines_by : Option Checkpoint → ℕ
+lines_by None = 0
+lines_by (Some c) = c.report.lines
+
+abbrev pub bytes_read_by : Option Checkpoint → ℕ
+bytes_read_by None = 0
+bytes_read_by (Some c) = c.cursor.spent - c.cursor.files
+
+abbrev pub files_read_by : Option Checkpoint → ℕ
+files_read_by None = 0
+files_read_by (Some c) = c.cursor.files
+
+pub record IsMade (m : CycleMade) (c : Option Checkpoint) : Type 0 where
+  pub lines : m.lines ≡ lines_by c
+  pub runs : m.runs ≡ runs_by c
+  pub bytes : IsCount m.bytes (bytes_read_by c)
+  pub files : IsCount m.files (files_read_by c)
+
 -- what a closing has of a cycle of which so much is counted and shown, and these findings are new
 pub record IsClosing (b : Beside) (pair : Pair) (w : Counted) (n : News) (c : Closing) : Type 0 where
   pub root : c.root.now ≡ b.root
@@ -220,6 +242,24 @@ IsTextOf c fs text = length (by_weight fs) < 2 ^ 64 → text ≡ closing_text c 
 -- the text is that of a closing of so much
 abbrev pub HasText : Beside → Pair → Counted → News → Text → Type 0
 HasText b pair w n text = (c : Closing) × (IsClosing b pair w n c × IsTextOf c n.findings text)
+
+-- ---- what is kept for the log
+
+-- of a cycle of which so much is counted, and these findings are new
+pub record IsAccount (b : Beside) (f : Files) (pair : Pair) (w : Counted) (n : News) (a : Account) : Type 0 where
+  pub changes : AreCounted a.changes w
+  pub gone : a.gone.items ≡ shown_of w
+  pub findings : AreIn a.findings n
+  pub made : IsMade a.made (f.checkpoint pair.closed.cycle)
+  pub why : string_bytes a.why ≡ why_text b.state pair
+
+-- the numbers are those of the changes of these comparisons
+pub record IsAccountOf (b : Beside) (f : Files) (pair : Pair) (a : Account) : Type 0 where
+  pub parts : Parts
+  pub are : AreParts b.known (kept_of f) pair parts
+  pub account : IsAccount b f pair (counted_in parts) (news_in b.said parts) a
+
+-- ---- what is found
 
 -- the changes are those of these comparisons, and their text is said
 pub record IsSaidOf (b : Beside) (k : Kept) (pair : Pair) (changes : List ChangeAt) (text : Text) (is_grave : Bool) : Type 0 where

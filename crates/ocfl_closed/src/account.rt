@@ -50,11 +50,11 @@ pub struct CycleMade {
 }
 
 impl CycleMade {
-    ghost use Rattle.ocfl_closed.specs.Words.{runs_by};
+    ghost use Rattle.ocfl_closed.specs.Words.{IsMade};
 
     /// By the checkpoint that closed the cycle, if there is one.
     pub(crate) fn by(kept: &Option<Checkpoint>) -> CycleMade
-        ensures { result.runs ≡ runs_by kept.now }
+        ensures { IsMade result kept.now }
     {
         let Some(checkpoint) = kept else {
             return CycleMade {

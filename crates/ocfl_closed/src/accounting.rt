@@ -3,7 +3,7 @@ ghost use Rattle.std.specs.Prelude.{◌≡◌, IsTrue, IfOk, OnOk, string_bytes}
 ghost use Rattle.ocfl_accounts.specs.Causes.{HasCause};
 ghost use Rattle.ocfl_words.specs.Counted.{AreCounted, Counted, joined, shown_of};
 ghost use Rattle.ocfl_closed.specs.{Back.{AreBack}, Cut.{Still}, Files.{kept_of}};
-ghost use Rattle.ocfl_closed.specs.Words.{AreIn, AreNewsOf, News, runs_in, why_text};
+ghost use Rattle.ocfl_closed.specs.Words.{AreIn, AreNewsOf, IsMade, News, why_text};
 
 use crate::account::{Account, CycleMade, why_not};
 use crate::back::find_back;
@@ -32,8 +32,8 @@ pub(crate) fn account_of<D: ClosedDisk>(
     ensures gone { IfOk result (λ a. (w : Counted) → AreCounted a.changes w
         → a.gone.items ≡ shown_of w) }
     ensures why { IfOk result (λ a. string_bytes a.why ≡ why_text with.now.state.now pair.now) }
-    ensures runs { IsTrue D.told → IfOk result (λ a.
-        a.made.runs ≡ runs_in (D.state disk.old).files pair.now) }
+    ensures made { IsTrue D.told → IfOk result (λ a.
+        IsMade a.made ((D.state disk.old).files.checkpoint pair.now.closed.cycle)) }
     ensures back { IsTrue D.told → IfOk result (λ a.
         AreBack (kept_of (D.state disk.old).files) pair.now a.back.items) }
     ensures still { IsTrue D.told → Still (D.state disk.old) (D.state disk.new) }

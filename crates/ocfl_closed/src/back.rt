@@ -1,6 +1,7 @@
 //! Objects that earlier accounts call gone, of which some may be back.
 ghost use Rattle.std.specs.Prelude.{◌≡◌, ◌++◌, ◌∷◌, [], IsTrue, IfOk, IfSome, OnOk, List};
 ghost use Rattle.std.specs.Prelude.{Some, take};
+ghost use Rattle.std.specs.Option.{option_map};
 ghost use Rattle.std.proofs.Common.{sym, append-nil};
 ghost use Rattle.ocfl_tree.specs.Place.{Place as ModelPlace};
 ghost use Rattle.ocfl_accounts.specs.Causes.{HasCause};
@@ -13,7 +14,7 @@ use crate::apart::without;
 use crate::disk::ClosedDisk;
 use crate::finding::{copy_of, left_by_both};
 use crate::opening::open_reader;
-use crate::rows::take_rows;
+use crate::rows::{RowsStop, take_rows};
 use ocfl_accounts::{ClosedCycle, ClosingStop, Pair};
 use ocfl_compare::{Change, Side, TakeChange, TakeStop, find_expected};
 use ocfl_report::Line;
@@ -88,7 +89,8 @@ fn take_list<D: ClosedDisk>(
     }
 }
 
-/// Takes the objects that an opened list of a cycle calls gone. One that cannot be read is refused.
+/// Takes the objects that the opened list of a cycle calls gone. A list that cannot be read is
+/// refused, and so is one that is no such list.
 fn take_opened<D: ClosedDisk>(
     alloc: Global,
     disk: &mut D,
@@ -96,6 +98,8 @@ fn take_opened<D: ClosedDisk>(
     list: D::Rows,
     gone: &mut Vec<Place>,
 ) -> Result<(), ClosingStop>
+    requires list { IsTrue D.told → Some (D.Rows.remaining list)
+        ≡ option_map Some ((D.state disk.old).files.lists cycle) }
     ensures taken { OnOk result (IfSome (D.Rows.remaining list) (λ bytes.
         (more : List ModelPlace) × (AreLost (Some bytes) more × ((all : List ModelPlace)
         → gone.old.items ≡ take most_objects all
@@ -107,7 +111,8 @@ fn take_opened<D: ClosedDisk>(
     let mut list = list;
     match take_rows(alloc, &mut list, gone) {
         Ok(()) => Ok(()),
-        Err(error) => Err(disk.refuse_list(cycle, error)),
+        Err(RowsStop::Bad) => Err(disk.refuse_rows(cycle)),
+        Err(RowsStop::Failed(error)) => Err(disk.refuse_list(cycle, error)),
     }
 }
 

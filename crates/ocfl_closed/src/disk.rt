@@ -5,6 +5,7 @@ ghost use Rattle.std.specs.Option.{option_map};
 ghost use Rattle.ocfl_tree.specs.Place.{Text};
 ghost use Rattle.ocfl_state.specs.Calls.{IsReadOf, bytes_of};
 ghost use Rattle.ocfl_accounts.specs.{Causes.{HasCause, IsCause}, Kept.{is_some}};
+ghost use Rattle.ocfl_closed.specs.Back.{IsBadList};
 ghost use Rattle.ocfl_closed.specs.{Cut.{AreNamed, Calm, ClosedState, IsClosedDisk, Names, Still, untold}, Files.{report_named}};
 
 use crate::account::{Account, Paths};
@@ -62,7 +63,7 @@ pub trait ClosedDisk {
         ensures cause { IsTrue told
             → HasCause (state self.old).faults (state self.new).faults result };
 
-    /// Opens the list of what is gone at the end of a cycle. `None` if there is none.
+    /// Opens the list of what is gone at the end of a cycle. `None` if no list is there.
     fn open_list(&mut self, cycle: u64) -> Result<Option<Self::Rows>, ClosingStop>
         ensures still { IsTrue told → Still (state self.old) (state self.new) }
         ensures value { IsTrue told → IfOk result (λ found. option_map Self.Rows.remaining found
@@ -125,10 +126,19 @@ pub trait ClosedDisk {
         ensures still { IsTrue told → Still (state self.old) (state self.new) }
         ensures cause { IsTrue told → IsCause (state self.old).faults (state self.new).faults result };
 
-    /// Keeps why the list of what is gone at the end of a cycle was not read.
+    /// Keeps why the list of what is gone at the end of a cycle was not read: a call failed, or
+    /// memory was refused.
     fn refuse_list(&mut self, cycle: u64, error: io::Error) -> ClosingStop
         ensures still { IsTrue told → Still (state self.old) (state self.new) }
         ensures cause { IsTrue told → IsCause (state self.old).faults (state self.new).faults result };
+
+    /// Keeps that what was read in place of the list of what is gone at the end of a cycle is no
+    /// such list: it has a row that is that of no change.
+    fn refuse_rows(&mut self, cycle: u64) -> ClosingStop
+        requires bad { IsTrue told → IsBadList ((state self.old).files.lists cycle) }
+        ensures still { IsTrue told → Still (state self.old) (state self.new) }
+        ensures cause { IsTrue told
+            → IsCause (state self.old).faults (state self.new).faults result };
 
     /// Keeps why the lines of the report of a cycle were not counted, which is compared with none;
     /// and why a read of it failed, if that is why.

@@ -5,7 +5,7 @@ ghost use Rattle.ocfl_closed.specs.{Cut.{Calm, Passes, with_listed}, Files.{kept
 
 use crate::account::Account;
 use crate::disk::ClosedDisk;
-use crate::finding::{Told, find_changes};
+use crate::finding::{ChangesFound, find_changes};
 use crate::looking::look_at;
 use crate::words::SaidWith;
 use ocfl_accounts::{ClosingStop, Closings, Found, Look, Pair};
@@ -116,7 +116,12 @@ impl<D: ClosedDisk> Closings for DiskClosings<'_, D> {
     }
 
     fn find(&mut self, pair: &Pair) -> Result<Found, ClosingStop> {
-        let Told { found, account } = find_changes(self.alloc, &mut self.disk, &self.with, pair)?;
+        let ChangesFound { found, account } = find_changes(
+            self.alloc,
+            &mut self.disk,
+            &self.with,
+            pair,
+        )?;
         self.account = Some(account);
         Ok(found)
     }

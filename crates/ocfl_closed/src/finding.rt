@@ -12,8 +12,8 @@ ghost use Rattle.ocfl_closed.specs.Taken.{HasTaken};
 ghost use Rattle.ocfl_closed.specs.Unchanged.{AreAllUnchanged, AreUnchanged, IsBeforeUnchanged};
 ghost use Rattle.ocfl_closed.specs.Unchanged.{IsUnchangedSince, IsWholeUnchanged};
 ghost use Rattle.ocfl_closed.specs.Unchanged.{is_unchanged};
-ghost use Rattle.ocfl_closed.specs.Words.{AreNewsOf, AreOf, AreParts, HasText, News, beside_of};
-ghost use Rattle.ocfl_closed.specs.Words.{runs_in};
+ghost use Rattle.ocfl_closed.specs.Words.{AreNewsOf, AreOf, AreParts, HasText, IsAccount};
+ghost use Rattle.ocfl_closed.specs.Words.{IsAccountOf, News, beside_of, runs_in};
 ghost use Rattle.ocfl_closed.specs.{Words.{said_beside}, Internal.{Took, AllTaken}};
 ghost use Rattle.ocfl_closed.specs.Internal.SeenOf.{IsSeenMissing, IsSeenSince, IsSeenSinceWhole};
 ghost use Rattle.ocfl_closed.specs.Internal.Stands.{stand_of};
@@ -34,7 +34,7 @@ use std::alloc::{AllocError, Global};
 
 /// What was found of a closed cycle, and its parts.
 #[derive(Drop)]
-pub struct Told {
+pub struct ChangesFound {
     pub found: Found,
     pub account: Account,
 }
@@ -49,11 +49,14 @@ pub fn find_changes<D: ClosedDisk>(
     disk: &mut D,
     with: &SaidWith<'_>,
     pair: &Pair,
-) -> Result<Told, ClosingStop>
+) -> Result<ChangesFound, ClosingStop>
     ensures finds { IsTrue D.told → IfOk result (λ it.
         Finds (kept_of (D.state disk.old).files) pair.now
         (said_beside (beside_of with.now (runs_in (D.state disk.old).files pair.now)
         it.account.back.items)) it.found.text.items it.found.is_grave (D.state disk.new).beside) }
+    ensures account { IsTrue D.told → IfOk result (λ it. IsAccountOf
+        (beside_of with.now (runs_in (D.state disk.old).files pair.now) it.account.back.items)
+        (D.state disk.old).files pair.now it.account) }
     ensures back { IsTrue D.told → IfOk result (λ it.
         AreBack (kept_of (D.state disk.old).files) pair.now it.account.back.items) }
     ensures unchanged { IsTrue D.told
@@ -69,8 +72,8 @@ pub fn find_changes<D: ClosedDisk>(
         is_grave: false,
     };
     let taking = take_changes(alloc, disk, pair, taking)?;
-    let told = end_changes(alloc, disk, with, pair, taking)?;
-    Ok(told)
+    let found = end_changes(alloc, disk, with, pair, taking)?;
+    Ok(found)
 }
 
 /// Ends the list of what is gone, and makes the text of the changes that were taken.
@@ -80,7 +83,7 @@ fn end_changes<D: ClosedDisk>(
     with: &SaidWith<'_>,
     pair: &Pair,
     taking: Taking<'_, D::List>,
-) -> Result<Told, ClosingStop>
+) -> Result<ChangesFound, ClosingStop>
     ensures list { IsTrue D.told → OnOk result ((bytes : Text)
         → D.List.contents taking.entry.list.out ≡ Some bytes → (D.state disk.new).beside ≡ bytes) }
     ensures text { IsTrue D.told → IfOk result (λ it. (v w x : Counted) (n : News)
@@ -89,6 +92,13 @@ fn end_changes<D: ClosedDisk>(
         → AreNewsOf taking.entry.words.since.found taking.entry.words.whole.found n → HasText
         (beside_of with.now (runs_in (D.state disk.old).files pair.now) it.account.back.items)
         pair.now (joined (joined v w) x) n it.found.text.items) }
+    ensures account { IsTrue D.told → IfOk result (λ it. (v w x : Counted) (n : News)
+        → AreCounted taking.entry.words.since.changes v
+        → AreCounted taking.entry.words.noting.changes w
+        → AreCounted taking.entry.words.whole.changes x
+        → AreNewsOf taking.entry.words.since.found taking.entry.words.whole.found n → IsAccount
+        (beside_of with.now (runs_in (D.state disk.old).files pair.now) it.account.back.items)
+        (D.state disk.old).files pair.now (joined (joined v w) x) n it.account) }
     ensures back { IsTrue D.told → IfOk result (λ it.
         AreBack (kept_of (D.state disk.old).files) pair.now it.account.back.items) }
     ensures grave { IfOk result (λ it. it.found.is_grave ≡ taking.entry.is_grave) }
@@ -104,7 +114,7 @@ fn end_changes<D: ClosedDisk>(
     disk.end_list(&list.out)?;
     let account = account_of(alloc, disk, with, pair, words)?;
     match text_of(alloc, with, pair, &account) {
-        Ok(text) => Ok(Told {
+        Ok(text) => Ok(ChangesFound {
             found: Found { text, is_grave },
             account,
         }),

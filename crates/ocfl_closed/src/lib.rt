@@ -23,6 +23,6 @@ mod words;
 pub use account::{Account, CycleMade, Paths, compared, compared_whole, count_of};
 pub use disk::{ClosedDisk, OpenReport};
 pub use disk_closings::DiskClosings;
-pub use finding::{Told, find_changes};
+pub use finding::{ChangesFound, find_changes};
 pub use looking::look_at;
 pub use words::SaidWith;

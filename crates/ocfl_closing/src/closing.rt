@@ -3,7 +3,19 @@
 //! The list of what is gone is put in its place once all was said. While it is not there, the next
 //! night compares again.
 
+ghost use Rattle.std.specs.Prelude.{◌≡◌, [], ℕ, Err, IfErr, IfOk, IfSome, IsTrue, Ok, OnOk};
+ghost use Rattle.std.specs.Prelude.{Option, Some, is_some, string_bytes};
+ghost use Rattle.std.specs.{Io.KnownBytes.{Appends}, Option.{option_map}};
 ghost use Rattle.std.proofs.lemmas.Bool.{false≢true};
+ghost use Rattle.ocfl_tree.specs.Place.{Text};
+ghost use Rattle.ocfl_cursor.specs.declared.ends.PartEnds.{PartEnds as ModelEnds};
+ghost use Rattle.ocfl_files.specs.Failing.{OrMemory, StopsOn, out_of_memory, stopped_status};
+ghost use Rattle.ocfl_kept.specs.FilePaths.{list_path as path_of_list};
+ghost use Rattle.ocfl_kept.specs.FilePaths.{new_list_path as path_of_new_list};
+ghost use Rattle.ocfl_kept.specs.FilePaths.{report_path as path_of_report};
+ghost use Rattle.ocfl_kept.specs.Keeping.{AreEndsBy};
+ghost use Rattle.ocfl_accounts.specs.declared.closings.ClosingStop.TheVariants.{Failed, Memory};
+ghost use Rattle.ocfl_closing.specs.{Listing.{places_in}, Logging.{IsLineOf, IsRowOf, why_said}};
 
 use crate::comparing::{changed_report, gone_report, refuse_changed_pair, uncompared, uncounted};
 use crate::naming::paths_of;
@@ -17,7 +29,7 @@ use ocfl_disk::StateFile;
 use ocfl_files::failing::{Failure, say_failure};
 use ocfl_files::making::failed_file;
 use ocfl_files::timing::seconds_now;
-use ocfl_kept::kept::{is_packed, is_told, list_path, new_list_path, read_ends, report_path};
+use ocfl_kept::kept::{is_packed, list_path, new_list_path, read_ends, report_path, was_said};
 use ocfl_kept::names::About;
 use ocfl_kept::room::Room;
 use ocfl_kept::state::failed_folder;
@@ -29,22 +41,34 @@ use ocfl_say::Speaking;
 use ocfl_tree::Place;
 use std::alloc::{AllocError, Global};
 use std::fs::File;
-use std::io::{self, BufReader, Write};
+use std::io::{self, BufReader, ErrorKind, Write};
 use std::os::unix::fs::FileExt;
 use std::time::Clock;
 
-/// The line of the log on the closing of a cycle in a night.
-fn closing_line(
-    alloc: Global,
+/// Why it is not known what is new or gone in a cycle that was compared with none. Empty for one
+/// that was compared.
+fn why_of<'a>(pair: &Pair, account: &'a Account) -> &'a str
+    ensures { result.now ≡ why_said pair.now account.now }
+{
+    if compared(pair) == 0 {
+        account.why.as_str()
+    } else {
+        ""
+    }
+}
+
+/// The row of the log on the closing of a cycle in a night.
+fn row_of<'a>(
     time: u64,
     night: u64,
     pair: &Pair,
-    account: &Account,
-    list: &str,
-) -> Result<String, AllocError> {
-    let changes = &account.changes;
-    let (compared, made) = (compared(pair), account.made);
-    let row = ClosingRow {
+    account: &'a Account,
+    list: &'a str,
+) -> ClosingRow<'a>
+    ensures { IsRowOf time night pair.now account.now list.now result }
+{
+    let (changes, made) = (&account.changes, account.made);
+    ClosingRow {
         time,
         night,
         cycle: pair.closed.cycle(),
@@ -55,13 +79,9 @@ fn closing_line(
         runs: made.runs,
         read_bytes: made.bytes,
         read_files: made.files,
-        compared,
+        compared: compared(pair),
         compared_whole: compared_whole(pair),
-        why: if compared == 0 {
-            account.why.as_str()
-        } else {
-            ""
-        },
+        why: why_of(pair, account),
         appeared: changes.appeared_count,
         known: changes.known_count,
         repaired: changes.repaired_count,
@@ -74,7 +94,22 @@ fn closing_line(
         listed: account.listed,
         list,
         left: count_of(pair.closed.left()),
-    };
+    }
+}
+
+/// The line of the log on the closing of a cycle in a night.
+fn closing_line(
+    alloc: Global,
+    time: u64,
+    night: u64,
+    pair: &Pair,
+    account: &Account,
+    list: &str,
+) -> Result<String, AllocError>
+    ensures { IfOk result (λ line.
+        IsLineOf time night pair.now account.now list.now (string_bytes line)) }
+{
+    let row = row_of(time, night, pair, account, list);
     log_line(alloc, &LogRow::Closing(row))
 }
 
@@ -85,17 +120,23 @@ fn of_part<F: Folder>(
     folder: &mut F,
     state: &str,
     listed: Listed,
-) -> Result<Listed, Failure> {
+) -> Result<Listed, Failure>
+    ensures places { IsTrue F.shown → IfOk result (λ within. (ends : Option ModelEnds)
+        × (AreEndsBy (F.holding folder.old).checkpoint ends
+        × (within.places.items ≡ places_in ends listed.places.items))) }
+    ensures digits { IfOk result (λ within. within.digits ≡ listed.digits) }
+{
     match read_ends(alloc, folder, state)? {
         Some(ends) => Ok(listed.within(alloc, &ends)?),
         None => Ok(listed),
     }
 }
 
-/// By what the closings of a state folder are told.
+/// What the closings of a state folder are said with: the night that says them, and of which
+/// cycles.
 #[derive(Clone, Copy)]
-pub struct ToldBy<'n> {
-    /// The night that tells them.
+pub struct SaidBy<'n> {
+    /// The night that says them.
     pub about: About<'n>,
     /// The file of the objects that must be there.
     pub expected: Option<&'n str>,
@@ -107,9 +148,15 @@ pub struct ToldBy<'n> {
     pub closed: u64,
 }
 
-impl<'n> ToldBy<'n> {
+impl<'n> SaidBy<'n> {
     /// What is said is made with this.
-    fn with(&self) -> SaidWith<'n> {
+    fn with(&self) -> SaidWith<'n>
+        ensures root { result.root.now ≡ self.now.about.names.root.now }
+        ensures state { result.state.now ≡ self.now.about.names.state.now }
+        ensures part { result.is_part ≡ is_some self.now.about.names.part }
+        ensures known { result.known.now ≡ self.now.about.known.now }
+        ensures said { result.said.now ≡ self.now.said.now }
+    {
         SaidWith {
             root: self.about.names.root,
             state: self.about.names.state,
@@ -127,7 +174,12 @@ impl<'n> ToldBy<'n> {
         pair: &Pair,
         account: &Account,
         list: &str,
-    ) -> Result<(), Failure> {
+    ) -> Result<(), Failure>
+        ensures logged { OnOk result ((time : ℕ) × ((line : Text)
+            × (IsLineOf time self.now.about.began pair.now account.now list.now line
+            × Appends (F.log folder.old) (F.log folder.new) line))) }
+        ensures failed { IfErr result (λ failure. failure.status ≡ stopped_status) }
+    {
         let alloc = rt.global();
         let line = closing_line(
             alloc,
@@ -161,7 +213,10 @@ impl OpenReport for Opened {
 }
 
 /// That an open report could not be read.
-fn failed_report(alloc: Global, state: &str, report: &Opened, error: &io::Error) -> Failure {
+fn failed_report(alloc: Global, state: &str, report: &Opened, error: &io::Error) -> Failure
+    ensures { OrMemory (StopsOn
+        (path_of_report state.now report.now.cycle report.now.whole)) result }
+{
     match report_path(alloc, state, report.cycle, report.whole) {
         Ok(path) => failed_file(alloc, path.as_str(), error),
         Err(error) => Failure::from(error),
@@ -169,7 +224,9 @@ fn failed_report(alloc: Global, state: &str, report: &Opened, error: &io::Error)
 }
 
 /// That the list of what is gone at the end of a cycle could not be read.
-fn failed_list(alloc: Global, state: &str, cycle: u64, error: &io::Error) -> Failure {
+fn failed_list(alloc: Global, state: &str, cycle: u64, error: &io::Error) -> Failure
+    ensures { OrMemory (StopsOn (path_of_list state.now cycle)) result }
+{
     match list_path(alloc, state, cycle) {
         Ok(path) => failed_file(alloc, path.as_str(), error),
         Err(error) => Failure::from(error),
@@ -177,7 +234,9 @@ fn failed_list(alloc: Global, state: &str, cycle: u64, error: &io::Error) -> Fai
 }
 
 /// Brings a file, or the names in a folder, to the disk.
-fn sync_at<R: Room>(rt: &R, path: &str) -> Result<(), Failure> {
+fn sync_at<R: Room>(rt: &R, path: &str) -> Result<(), Failure>
+    ensures { IfErr result (OrMemory (StopsOn path.now)) }
+{
     match sync_opened(rt, path) {
         Ok(()) => Ok(()),
         Err(error) => Err(failed_file(rt.global(), path, &error)),
@@ -189,11 +248,11 @@ fn sync_opened<R: Room>(rt: &R, path: &str) -> io::Result<()> {
     opened.sync_all()
 }
 
-/// The closed reports of a state folder, and what its closings are told with.
+/// The closed reports of a state folder, and what its closings are said with.
 struct Telling<'t, 'n, R, F> {
     rt: &'t R,
     folder: &'t mut F,
-    told: ToldBy<'n>,
+    said_by: SaidBy<'n>,
     /// The path of the list that was made last.
     new_list: Option<String>,
     /// The digest of the bytes of the list of the objects that must be there; empty if none was read.
@@ -208,7 +267,7 @@ impl<R, F> Drop for Telling<'_, '_, R, F> {
         let Telling {
             rt: _rt,
             folder: _folder,
-            told: _told,
+            said_by: _said_by,
             new_list: _new_list,
             listed: _listed,
             failure: _failure,
@@ -218,7 +277,13 @@ impl<R, F> Drop for Telling<'_, '_, R, F> {
 
 impl<R: Room + Clock, F: Folder> Telling<'_, '_, R, F> {
     /// Keeps why a call failed.
-    fn keep<T>(&mut self, answer: Result<T, Failure>) -> Result<T, ClosingStop> {
+    fn keep<T>(&mut self, answer: Result<T, Failure>) -> Result<T, ClosingStop>
+        ensures given { IfOk answer (λ value. result ≡ Ok value) }
+        ensures failed { IfErr answer (λ failure. result ≡ Err Failed) }
+        ensures kept { IfErr answer (λ failure. self.new.failure ≡ Some failure) }
+        ensures same { IfOk answer (λ _. self.new.failure ≡ self.old.failure) }
+        ensures list { self.new.new_list ≡ self.old.new_list }
+    {
         match answer {
             Ok(value) => Ok(value),
             Err(failure) => {
@@ -229,8 +294,12 @@ impl<R: Room + Clock, F: Folder> Telling<'_, '_, R, F> {
     }
 
     /// Makes the file of a list of what is gone.
-    fn make_new_list(&mut self, cycle: u64) -> Result<File, Failure> {
-        let path = new_list_path(self.rt.global(), self.told.about.names.state, cycle)?;
+    fn make_new_list(&mut self, cycle: u64) -> Result<File, Failure>
+        ensures path { OnOk result (option_map string_bytes self.new.new_list
+            ≡ Some (path_of_new_list self.old.said_by.about.names.state.now cycle)) }
+        ensures none { OnOk result (string_bytes self.new.listed ≡ []) }
+    {
+        let path = new_list_path(self.rt.global(), self.said_by.about.names.state, cycle)?;
         self.listed = String::new(self.rt.global());
         let made = self.rt.make_file(path.as_str());
         self.new_list = Some(path);
@@ -248,12 +317,12 @@ impl<R: Room + Clock, F: Folder> Telling<'_, '_, R, F> {
 
     /// The objects that must be there: those of the list that are in the part of the state folder.
     fn read_list(&mut self) -> Result<Option<Vec<Place>>, Failure> {
-        let Some(file) = self.told.expected else {
+        let Some(file) = self.said_by.expected else {
             return Ok(None);
         };
         let alloc = self.rt.global();
         let listed = read_expected(alloc, file, self.rt.open_file(file))?;
-        let listed = of_part(alloc, self.folder, self.told.about.names.state, listed)?;
+        let listed = of_part(alloc, self.folder, self.said_by.about.names.state, listed)?;
         let Listed { places, digits } = listed;
         self.listed = digits;
         Ok(Some(places))
@@ -262,7 +331,7 @@ impl<R: Room + Clock, F: Folder> Telling<'_, '_, R, F> {
     /// Opens the list of what is gone at the end of a cycle.
     fn open_rows(&self, cycle: u64) -> io::Result<Option<BufReader<File>>> {
         let alloc = self.rt.global();
-        let path = list_path(alloc, self.told.about.names.state, cycle)?;
+        let path = list_path(alloc, self.said_by.about.names.state, cycle)?;
         match self.rt.find_file(path.as_str())? {
             Some(list) => Ok(Some(BufReader::new(alloc, list)?)),
             None => Ok(None),
@@ -275,7 +344,7 @@ impl<R: Room + Clock, F: Folder> Telling<'_, '_, R, F> {
             Ok(Some(file)) => Ok(Some(Opened { file, cycle, whole })),
             Ok(None) => Ok(None),
             Err(_) => {
-                let state = self.told.about.names.state;
+                let state = self.said_by.about.names.state;
                 Err(failed_folder(self.rt.global(), self.folder, state))
             }
         }
@@ -291,7 +360,7 @@ impl<R: Room + Clock, F: Folder> Telling<'_, '_, R, F> {
 
     /// Puts the list that was made last in the place of that of a cycle.
     fn rename_pending(&mut self, cycle: u64) -> Result<(), Failure> {
-        let list = list_path(self.rt.global(), self.told.about.names.state, cycle)?;
+        let list = list_path(self.rt.global(), self.said_by.about.names.state, cycle)?;
         match &self.new_list {
             Some(path) => self.rt.put_made(path.as_str(), list.as_str()),
             None => Ok(()),
@@ -300,13 +369,16 @@ impl<R: Room + Clock, F: Folder> Telling<'_, '_, R, F> {
 
     /// Brings the names in the folder of the closed reports to the disk.
     fn sync_reports(&mut self) -> Result<(), Failure> {
-        let state = self.told.about.names.state;
+        let state = self.said_by.about.names.state;
         let folder = format!(in self.rt.global(); "{state}/{}", StateFile::Reports)?;
         sync_at(self.rt, folder.as_str())
     }
 
     /// Why a closing was not said.
-    fn failure_of(&mut self, stop: ClosingStop) -> Failure {
+    fn failure_of(&mut self, stop: ClosingStop) -> Failure
+        ensures failed { stop ≡ Failed → IfSome self.old.failure (λ failure. result ≡ failure) }
+        ensures memory { stop ≡ Memory → result ≡ out_of_memory }
+    {
         let alloc = self.rt.global();
         match (stop, self.failure.take()) {
             (ClosingStop::Failed, Some(failure)) => failure,
@@ -328,7 +400,7 @@ impl<R: Room + Clock + Eprint, F: Folder> ClosedDisk for Telling<'_, '_, R, F> {
     ghost is_disk = { λ told disk. absurd (false≢true told) };
 
     fn has_list(&mut self, cycle: u64) -> Result<bool, ClosingStop> {
-        match is_told(self.rt, self.told.about.names.state, cycle) {
+        match was_said(self.rt, self.said_by.about.names.state, cycle) {
             Ok(is) => Ok(is),
             Err(_) => Err(ClosingStop::Memory),
         }
@@ -347,20 +419,20 @@ impl<R: Room + Clock + Eprint, F: Folder> ClosedDisk for Telling<'_, '_, R, F> {
     }
 
     fn find_paths(&mut self, pair: &Pair) -> Result<Paths, ClosingStop> {
-        match paths_of(self.rt.global(), self.told.about.names.state, pair) {
+        match paths_of(self.rt.global(), self.said_by.about.names.state, pair) {
             Ok(paths) => Ok(paths),
             Err(_) => Err(ClosingStop::Memory),
         }
     }
 
     fn miss_report(&mut self, cycle: u64) -> ClosingStop {
-        let state = self.told.about.names.state;
+        let state = self.said_by.about.names.state;
         self.failure = Some(gone_report(self.rt.global(), state, cycle));
         ClosingStop::Failed
     }
 
     fn refuse_report(&mut self, report: &Opened, error: io::Error) -> ClosingStop {
-        let state = self.told.about.names.state;
+        let state = self.said_by.about.names.state;
         self.failure = Some(failed_report(self.rt.global(), state, report, &error));
         ClosingStop::Failed
     }
@@ -372,7 +444,7 @@ impl<R: Room + Clock + Eprint, F: Folder> ClosedDisk for Telling<'_, '_, R, F> {
         stop: CompareStop,
         error: Option<io::Error>,
     ) -> ClosingStop {
-        let (alloc, state) = (self.rt.global(), self.told.about.names.state);
+        let (alloc, state) = (self.rt.global(), self.said_by.about.names.state);
         self.failure = Some(match refuse_changed_pair(alloc, self.folder, state, pair) {
             Ok(()) => uncompared(alloc, pair.closed.cycle(), before, stop, error),
             Err(failure) => failure,
@@ -398,9 +470,13 @@ impl<R: Room + Clock + Eprint, F: Folder> ClosedDisk for Telling<'_, '_, R, F> {
     }
 
     fn refuse_list(&mut self, cycle: u64, error: io::Error) -> ClosingStop {
-        let state = self.told.about.names.state;
+        let state = self.said_by.about.names.state;
         self.failure = Some(failed_list(self.rt.global(), state, cycle, &error));
         ClosingStop::Failed
+    }
+
+    fn refuse_rows(&mut self, cycle: u64) -> ClosingStop {
+        self.refuse_list(cycle, io::Error::from(ErrorKind::InvalidData))
     }
 
     fn refuse_lines(
@@ -409,7 +485,7 @@ impl<R: Room + Clock + Eprint, F: Folder> ClosedDisk for Telling<'_, '_, R, F> {
         stop: CompareStop,
         error: Option<io::Error>,
     ) -> ClosingStop {
-        let state = self.told.about.names.state;
+        let state = self.said_by.about.names.state;
         self.failure = Some(uncounted(self.rt.global(), state, cycle, stop, error));
         ClosingStop::Failed
     }
@@ -433,7 +509,7 @@ impl<R: Room + Clock + Eprint, F: Folder> ClosedDisk for Telling<'_, '_, R, F> {
         match self.folder.stored_at_closing(cycle) {
             Ok(bytes) => Ok(bytes),
             Err(_) => {
-                let state = self.told.about.names.state;
+                let state = self.said_by.about.names.state;
                 self.failure = Some(failed_folder(self.rt.global(), self.folder, state));
                 Err(ClosingStop::Failed)
             }
@@ -441,7 +517,7 @@ impl<R: Room + Clock + Eprint, F: Folder> ClosedDisk for Telling<'_, '_, R, F> {
     }
 
     fn is_packed(&mut self, cycle: u64) -> Result<bool, ClosingStop> {
-        match is_packed(self.rt, self.told.about.names.state, cycle, false) {
+        match is_packed(self.rt, self.said_by.about.names.state, cycle, false) {
             Ok(is) => Ok(is),
             Err(_) => Err(ClosingStop::Memory),
         }
@@ -471,7 +547,7 @@ impl<R: Room + Clock + Eprint, F: Folder> ClosedDisk for Telling<'_, '_, R, F> {
     fn log(&mut self, pair: &Pair, account: &Account) -> Result<(), ClosingStop> {
         let list = self.listed.as_str();
         let logged = self
-            .told
+            .said_by
             .log_closing(self.rt, self.folder, pair, account, list);
         self.keep(logged)
     }
@@ -485,7 +561,7 @@ impl<R: Room + Clock + Eprint, F: Folder> ClosedDisk for Telling<'_, '_, R, F> {
 /// Says what the cycles found whose closings were not said, from the first on of the 1,000 before
 /// the last one before the night, to the one that the night closed. Says why a closing was not said.
 /// Gives the greatest status.
-pub fn tell_closings<R, F, W>(rt: &R, folder: &mut F, told: ToldBy<'_>, out: &mut W) -> u8
+pub fn tell_closings<R, F, W>(rt: &R, folder: &mut F, said_by: SaidBy<'_>, out: &mut W) -> u8
 where
     R: Room + Clock + Eprint,
     F: Folder,
@@ -494,16 +570,16 @@ where
     let telling = Telling {
         rt,
         folder,
-        told,
+        said_by,
         new_list: None,
         listed: String::new(rt.global()),
         failure: None,
     };
-    let mut closings = DiskClosings::over(rt.global(), telling, told.with(), told.closed);
-    let mut first = told.before;
+    let mut closings = DiskClosings::over(rt.global(), telling, said_by.with(), said_by.closed);
+    let mut first = said_by.before;
     // A cycle that could not be looked at is the first: then it is said, or why it is not.
     let _ = find_unsaid(&mut closings, &mut first);
-    let end = told.before.max(told.closed).saturating_add(1);
+    let end = said_by.before.max(said_by.closed).saturating_add(1);
     say_cycles(
         rt.global(),
         &mut closings,

@@ -1,7 +1,7 @@
 mod Reports
 mod Sights
 mod Moves
-mod Tellings
+mod Summaries
 mod Around
 mod Groups
 mod SoFar

@@ -80,12 +80,12 @@ module _ {T : Type 0} (Takes : T → List Seen → T → Type 0) (joined : (t u 
     groups = h.groups ++ g ∷ [];
     before = half_more (λ g. g.before) h.groups g b c d b_next b_then b_count b_more b_taken b_below less;
     now = half_more (λ g. g.now) h.groups g n m o n_next n_then n_count n_more n_taken n_below less;
-    told = record {
-      are = All-append IsGroup h.groups (g ∷ []) h.told.are (All-cons IsGroup g [] (record { before = b_taken.here; now = n_taken.here; some = some next.0 b_taken.some n_taken.some }) (All-nil IsGroup));
-      ascend = ascend_one h.groups g h.told.ascend less;
-      followed = followed_more h.groups g (last_place n_next) (last_place n_then) h.told.followed (first_is is n_taken.here n_taken.some) lines;
-      shuts = subst (IsShutBy (h.groups ++ g ∷ [])) (sym shut_is) (shut_more h.groups g shut less h.told.shuts known);
-      taken = subst (λ cs. Takes w cs y) (sym (flat_one (group_seen asked left) h.groups g)) (joined w x y (flat_map (group_seen asked left) h.groups) (group_seen asked left g) h.told.taken said);
+    done = record {
+      are = All-append IsGroup h.groups (g ∷ []) h.done.are (All-cons IsGroup g [] (record { before = b_taken.here; now = n_taken.here; some = some next.0 b_taken.some n_taken.some }) (All-nil IsGroup));
+      ascend = ascend_one h.groups g h.done.ascend less;
+      followed = followed_more h.groups g (last_place n_next) (last_place n_then) h.done.followed (first_is is n_taken.here n_taken.some) lines;
+      shuts = subst (IsShutBy (h.groups ++ g ∷ [])) (sym shut_is) (shut_more h.groups g shut less h.done.shuts known);
+      taken = subst (λ cs. Takes w cs y) (sym (flat_one (group_seen asked left) h.groups g)) (joined w x y (flat_map (group_seen asked left) h.groups) (group_seen asked left g) h.done.taken said);
     };
   }
     where
@@ -132,7 +132,7 @@ begun asked left b c n m Taken b_next n_next b_count n_count shut h k e none = r
   groups = [];
   before = record { reading = h; below = All-nil (λ g. IsBelow g.place b_next) };
   now = record { reading = k; below = All-nil (λ g. IsBelow g.place n_next) };
-  told = record {
+  done = record {
     are = All-nil IsGroup;
     ascend = tt;
     followed = tt;
@@ -157,7 +157,7 @@ compared asked left b c n m Taken b_next n_next b_count n_count shut next h =
     let b_read : IsReading b c was None b_count = subst (λ o. IsReading b c was o b_count) next.0 h.before.reading.reading in
     let n_read : IsReading n m is None n_count = subst (λ o. IsReading n m is o n_count) next.1 h.now.reading.reading in
     both b n (whole b c was b_count b_read (h.before.reading.end next.0)) (whole n m is n_count n_read (h.now.reading.end next.1))
-    (subst Taken (groups_said asked left h.groups h.told.are h.told.ascend (subst (λ o. AreFollowed h.groups (last_place o)) next.1 h.told.followed) shut h.told.shuts) h.told.taken)
+    (subst Taken (groups_said asked left h.groups h.done.are h.done.ascend (subst (λ o. AreFollowed h.groups (last_place o)) next.1 h.done.followed) shut h.done.shuts) h.done.taken)
   where
     both : (k l : Option Text) → IfSome k (λ s. IsReport s (flat_map (λ g. g.before) h.groups)) → IfSome l (λ t. IsReport t (flat_map (λ g. g.now) h.groups))
         → Taken (all_seen asked left (flat_map (λ g. g.before) h.groups) (flat_map (λ g. g.now) h.groups)) → IfSome k (λ s. IfSome l (λ t. IsAnswered asked left s t Taken))

@@ -1,5 +1,5 @@
 pub mod Reading
-pub mod Telling
+pub mod Summing
 pub mod Turns
 pub mod Listing
 pub mod Gones

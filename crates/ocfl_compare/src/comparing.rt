@@ -5,7 +5,7 @@ ghost use Rattle.ocfl_compare.specs.Seen.{shown};
 ghost use Rattle.ocfl_compare.specs.Compared.{IsAnswered, IsCompared};
 ghost use Rattle.ocfl_compare.specs.{CompareStop.{StopsRightly}, Internal.Reading.{HasRead, IsNextPlace}};
 ghost use Rattle.ocfl_compare.specs.Internal.Reading.{last_place};
-ghost use Rattle.ocfl_compare.specs.Internal.Telling.{IsTold};
+ghost use Rattle.ocfl_compare.specs.Internal.Summing.{Summarizes};
 ghost use Rattle.ocfl_compare.specs.Internal.Turns.{IfBothSome, IsSoFar, before_stop, leads_from};
 ghost use Rattle.ocfl_compare.specs.Internal.Turns.{leads_to, now_stop, said_changes, shut_after};
 
@@ -156,13 +156,13 @@ fn turn<R: BufRead, S: BufRead, T: TakeChange>(
     };
     let sides = Sides {
         place,
-        before: &was.told,
-        now: &is.told,
+        before: &was.summary,
+        now: &is.summary,
         in_shut: is_led_from(&both.shut, place),
         has_lines: is_leading(place, &is.reading.next),
     };
     say(asked, left, sides, taker)?;
-    let shut = match shut_by(both.shut, place, is_shut(&was.told, &is.told)) {
+    let shut = match shut_by(both.shut, place, is_shut(&was.summary, &is.summary)) {
         Ok(shut) => shut,
         Err(_) => return Err(CompareStop::Memory),
     };
@@ -214,7 +214,7 @@ fn say<T: TakeChange>(
     taker: &mut T,
 ) -> Result<(), CompareStop>
     ensures ok { OnOk result ((was : List ModelLine) (is : List ModelLine)
-        → IsTold sides.entry.before.now was → IsTold sides.entry.now.now is
+        → Summarizes sides.entry.before.now was → Summarizes sides.entry.now.now is
         → T.takes taker.old (shown sides.entry.place.now (said_changes asked left.now
         sides.entry.place.now sides.entry.in_shut sides.entry.has_lines was is)) taker.new) }
     ensures stop { IfErr result (λ stop.

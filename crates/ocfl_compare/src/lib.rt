@@ -25,8 +25,8 @@ mod reading;
 mod saying;
 mod side;
 mod stop;
+mod summary;
 mod taking;
-mod told;
 mod versions;
 
 pub use change::{Change, ChangeAt};

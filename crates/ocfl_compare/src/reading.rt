@@ -7,13 +7,14 @@ ghost use Rattle.ocfl_report.specs.Line.{Line as ModelLine, line_of};
 ghost use Rattle.ocfl_compare.specs.Internal.Reading.{GoesOn, HasRead, IsBelow, IsNotAbove};
 ghost use Rattle.ocfl_compare.specs.Internal.Reading.{IsReading, IsNextLine, IsNextPlace, IsOpen};
 ghost use Rattle.ocfl_compare.specs.Internal.Reading.{IsUnfit, ReadStopsRightly, is_after, listed};
-ghost use Rattle.ocfl_compare.specs.Internal.{Telling.{IsTold, Tells, seen_by}, Turns.{AreTaken}};
+ghost use Rattle.ocfl_compare.specs.Internal.Summing.{Summarizes, Sums, seen_by};
+ghost use Rattle.ocfl_compare.specs.Internal.Turns.{AreTaken};
 ghost use Rattle.ocfl_compare.specs.Seen.{line_seen, lines_seen};
 
 use crate::question::Question;
 use crate::side::Side;
+use crate::summary::{Summary, nothing, with_line};
 use crate::taking::{TakeChange, TakeStop};
-use crate::told::{Told, nothing, tell};
 use ocfl_report::{InputStop, Line, TextStop, read_line, read_next_line};
 use ocfl_tree::Place;
 use std::alloc::{AllocError, Global};
@@ -119,7 +120,7 @@ fn is_above(last: &Option<Line>, place: &Place) -> bool
 /// What was taken of a report, and how far it is read then.
 #[derive(Drop)]
 pub(crate) struct Taken {
-    pub(crate) told: Told,
+    pub(crate) summary: Summary,
     pub(crate) reading: Reading,
 }
 
@@ -137,7 +138,7 @@ pub(crate) fn take_place<R: BufRead, T: TakeChange>(
     requires least { IsNotAbove place.now first.next }
     ensures taken { IfOk result (λ taken. (all : Option (List ℕ)) (done : List ModelLine)
         → HasRead all (R.remaining report.old) done first.next first.count
-        → (own : List ModelLine) × IsTold taken.told own
+        → (own : List ModelLine) × Summarizes taken.summary own
         × AreTaken place.now all (R.remaining report.new) done own first.next
         taken.reading.next taken.reading.count
         × T.takes taker.old (lines_seen asked side own) taker.new) }
@@ -146,12 +147,12 @@ pub(crate) fn take_place<R: BufRead, T: TakeChange>(
         → HasRead all (R.remaining report.old) done first.next first.count
         → IfSome all (λ bytes. ReadStopsRightly bytes stop)) }
 {
-    let mut told = nothing(alloc);
+    let mut summary = nothing(alloc);
     let mut reading = first;
     for _ in 0..u64::MAX {
-        match take_line(asked, side, place, told, &reading.next, taker) {
-            Ok(Telling::More(more)) => told = more,
-            Ok(Telling::Whole(told)) => return Ok(Taken { told, reading }),
+        match take_line(asked, side, place, summary, &reading.next, taker) {
+            Ok(Summing::More(more)) => summary = more,
+            Ok(Summing::Whole(summary)) => return Ok(Taken { summary, reading }),
             Err(TakeStop::Failed) => return Err(ReadStop::Output),
             Err(TakeStop::Memory) => return Err(ReadStop::Memory),
         }
@@ -160,11 +161,11 @@ pub(crate) fn take_place<R: BufRead, T: TakeChange>(
     Err(ReadStop::Failed)
 }
 
-/// What the lines of a place say so far: with one more, or all of them.
+/// The summary of the lines of a place so far: with one more, or of all of them.
 #[derive(Drop)]
-pub(crate) enum Telling {
-    More(Told),
-    Whole(Told),
+pub(crate) enum Summing {
+    More(Summary),
+    Whole(Summary),
 }
 
 /// Takes the next line, if it has the place, and shows it.
@@ -172,23 +173,23 @@ fn take_line<T: TakeChange>(
     asked: Question,
     side: Side,
     place: &Place,
-    told: Told,
+    summary: Summary,
     next: &Option<Line>,
     taker: &mut T,
-) -> Result<Telling, TakeStop>
-    ensures tells { IfOk result (Tells place.now told next.now) }
-    ensures seen { IfOk result (λ telling.
-        T.takes taker.old (seen_by asked side telling next.now) taker.new) }
+) -> Result<Summing, TakeStop>
+    ensures sums { IfOk result (Sums place.now summary next.now) }
+    ensures seen { IfOk result (λ summing.
+        T.takes taker.old (seen_by asked side summing next.now) taker.new) }
 {
     let Some(line) = next else {
-        return Ok(Telling::Whole(told));
+        return Ok(Summing::Whole(summary));
     };
     match place.cmp(&line.place) {
         Ordering::Equal => {
             show(asked, side, line, taker)?;
-            Ok(Telling::More(tell(told, line)?))
+            Ok(Summing::More(with_line(summary, line)?))
         }
-        _ => Ok(Telling::Whole(told)),
+        _ => Ok(Summing::Whole(summary)),
     }
 }
 

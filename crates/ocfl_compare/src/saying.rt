@@ -5,15 +5,15 @@ ghost use Rattle.ocfl_report.specs.Line.{Line as ModelLine};
 ghost use Rattle.ocfl_compare.specs.Changes.{gone_file, gone_object, is_left as is_left_out};
 ghost use Rattle.ocfl_compare.specs.{Changes.{when}, Seen.{shown}, Versions.{inventory_changes}};
 ghost use Rattle.ocfl_compare.specs.declared.change.Change.TheVariants.{Repaired};
-ghost use Rattle.ocfl_compare.specs.Internal.Telling.{IsTold, new_at, repaired_at};
-ghost use Rattle.ocfl_compare.specs.Internal.Telling.{told_answer, told_changes, told_note};
-ghost use Rattle.ocfl_compare.specs.Internal.Telling.{told_repaired};
+ghost use Rattle.ocfl_compare.specs.Internal.Summing.{Summarizes, new_at, repaired_at};
+ghost use Rattle.ocfl_compare.specs.Internal.Summing.{summary_answer, summary_changes};
+ghost use Rattle.ocfl_compare.specs.Internal.Summing.{summary_note, summary_repaired};
 ghost use Rattle.ocfl_compare.specs.Internal.Turns.{said_changes};
 
 use crate::change::Change;
 use crate::question::Question;
+use crate::summary::{Summary, has_code};
 use crate::taking::{TakeChange, TakeStop};
-use crate::told::{Told, has_code};
 use crate::versions::moved;
 use ocfl_report::Code;
 use ocfl_tree::{Place, is_text};
@@ -22,8 +22,8 @@ use ocfl_tree::{Place, is_text};
 #[derive(Clone, Copy)]
 pub(crate) struct Sides<'a> {
     pub(crate) place: &'a Place,
-    pub(crate) before: &'a Told,
-    pub(crate) now: &'a Told,
+    pub(crate) before: &'a Summary,
+    pub(crate) now: &'a Summary,
     /// It is below an object whose files are not looked at now.
     pub(crate) in_shut: bool,
     /// This report has lines below it.
@@ -38,7 +38,7 @@ pub(crate) fn give_said<T: TakeChange>(
     taker: &mut T,
 ) -> Result<(), TakeStop>
     ensures { OnOk result ((was : List ModelLine) (is : List ModelLine)
-        → IsTold sides.entry.before.now was → IsTold sides.entry.now.now is
+        → Summarizes sides.entry.before.now was → Summarizes sides.entry.now.now is
         → T.takes taker.old (shown sides.entry.place.now (said_changes asked left.now
         sides.entry.place.now sides.entry.in_shut sides.entry.has_lines was is)) taker.new) }
 {
@@ -62,7 +62,7 @@ fn give_answer<T: TakeChange>(
     taker: &mut T,
 ) -> Result<(), TakeStop>
     ensures { OnOk result (T.takes taker.old (shown sides.entry.place.now
-        (told_answer asked sides.entry.in_shut sides.entry.has_lines
+        (summary_answer asked sides.entry.in_shut sides.entry.has_lines
         sides.entry.before.now sides.entry.now.now)) taker.new) }
 {
     let Sides {
@@ -80,7 +80,7 @@ fn give_answer<T: TakeChange>(
 /// Gives each change.
 fn give_changes<T: TakeChange>(sides: Sides<'_>, taker: &mut T) -> Result<(), TakeStop>
     ensures { OnOk result (T.takes taker.old (shown sides.entry.place.now
-        (told_changes sides.entry.in_shut sides.entry.has_lines
+        (summary_changes sides.entry.in_shut sides.entry.has_lines
         sides.entry.before.now sides.entry.now.now)) taker.new) }
 {
     let Sides {
@@ -113,7 +113,7 @@ fn give_changes<T: TakeChange>(sides: Sides<'_>, taker: &mut T) -> Result<(), Ta
 }
 
 /// Whether a line of an object was there before and is not there now.
-fn is_object_gone(before: &Told, now: &Told) -> bool
+fn is_object_gone(before: &Summary, now: &Summary) -> bool
     ensures { result ≡ not now.now.object && before.now.object }
 {
     !now.object && before.object
@@ -131,7 +131,7 @@ fn object_change(has_lines: bool) -> Change
 }
 
 /// Whether there was a line of a content file, and there is no line at all now.
-fn is_file_gone(before: &Told, now: &Told) -> bool
+fn is_file_gone(before: &Summary, now: &Summary) -> bool
     ensures { result ≡ now.now.absent && before.now.file }
 {
     now.absent && before.file
@@ -149,7 +149,7 @@ fn file_change(in_shut: bool) -> Change
 }
 
 /// Whether the files of an object at the place are not looked at now.
-pub(crate) fn is_shut(before: &Told, now: &Told) -> bool
+pub(crate) fn is_shut(before: &Summary, now: &Summary) -> bool
     ensures { result ≡ now.now.stopped || (before.now.object && not now.now.object) }
 {
     now.stopped || (before.object && !now.object)
@@ -158,7 +158,7 @@ pub(crate) fn is_shut(before: &Told, now: &Told) -> bool
 /// Gives each code that is repaired, if the place was looked at.
 fn give_all_repaired<T: TakeChange>(sides: Sides<'_>, taker: &mut T) -> Result<(), TakeStop>
     ensures { OnOk result (T.takes taker.old (shown sides.entry.place.now
-        (map Repaired (told_repaired sides.entry.before.now sides.entry.now.now))) taker.new) }
+        (map Repaired (summary_repaired sides.entry.before.now sides.entry.now.now))) taker.new) }
 {
     let Sides {
         place,
@@ -180,12 +180,12 @@ fn give_all_repaired<T: TakeChange>(sides: Sides<'_>, taker: &mut T) -> Result<(
 /// Gives what became of the root inventory, if both reports note what it is, and differently.
 fn give_inventory_change<T: TakeChange>(
     place: &Place,
-    before: &Told,
-    now: &Told,
+    before: &Summary,
+    now: &Summary,
     taker: &mut T,
 ) -> Result<(), TakeStop>
     ensures { OnOk result (T.takes taker.old (shown place.now
-        (inventory_changes (told_note before.now) (told_note now.now))) taker.new) }
+        (inventory_changes (summary_note before.now) (summary_note now.now))) taker.new) }
 {
     let (Some(before), Some(now)) = (&before.note, &now.note) else {
         return Ok(());

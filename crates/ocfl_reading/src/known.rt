@@ -1,4 +1,8 @@
 //! The list of known findings.
+ghost use Rattle.std.specs.Prelude.{◌≡◌, [], IfErr, IfOk, IfSome, IsNone, IsOk};
+ghost use Rattle.ocfl_messages.specs.List.{ListsEntries};
+ghost use Rattle.ocfl_files.specs.Failing.{OrMemory};
+ghost use Rattle.ocfl_reading.specs.Using.{RefusesOn};
 
 use crate::refusing::unread;
 use ocfl_files::failing::Failure;
@@ -9,7 +13,11 @@ use std::io::Read;
 use std::rt::Files;
 
 /// The known findings that an opened file lists.
-fn known_in<F: Read>(alloc: Global, file: &str, opened: &mut F) -> Result<Known, Failure> {
+fn known_in<F: Read>(alloc: Global, file: &str, opened: &mut F) -> Result<Known, Failure>
+    ensures known { IfOk result (λ known. IfSome (F.remaining opened.old)
+        (λ bytes. ListsEntries bytes known)) }
+    ensures refused { IfErr result (OrMemory (RefusesOn file.now)) }
+{
     match read_known(alloc, opened) {
         Ok(known) => Ok(known),
         Err(KnownStop::Memory) => Err(Failure::from(AllocError)),
@@ -21,6 +29,9 @@ fn known_in<F: Read>(alloc: Global, file: &str, opened: &mut F) -> Result<Known,
 pub fn find_known<R>(rt: &R, file: Option<&str>) -> Result<Known, Failure>
 where
     R: Files + AllocGlobal,
+    ensures none { IsNone file.entry → IsOk result }
+    ensures empty { IsNone file.entry → IfOk result (λ known. known ≡ []) }
+    ensures refused { IfSome file.entry (λ file. IfErr result (OrMemory (RefusesOn file.now))) }
 {
     let alloc = rt.alloc();
     let Some(file) = file else {

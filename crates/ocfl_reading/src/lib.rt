@@ -1,5 +1,4 @@
-//! What a night reads line by line: its lists, of known findings and of the objects that must be there,
-//! the findings of a closed report, and what changed in it.
+//! The lists that a night reads: of known findings, and of the objects that must be there.
 #![tactic(auto)]
 
 pub mod expected;

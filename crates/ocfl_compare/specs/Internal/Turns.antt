@@ -96,7 +96,7 @@ abbrev pub shut_after : Option Place → Place → Bool → Option Place
 shut_after shut p is = if leads_from shut p then shut else (if is then Some p else None)
 
 -- groups in order, of which all was taken
-pub record AreTold (asked : Question) (left : List Place) (groups : List Group) (next : Option Place) (shut : Option Place) (Taken : List Seen → Type 0) : Type 0 where
+pub record AreDone (asked : Question) (left : List Place) (groups : List Group) (next : Option Place) (shut : Option Place) (Taken : List Seen → Type 0) : Type 0 where
   pub are : All IsGroup groups
   pub ascend : IsAscending place_cmp (map (λ g. g.place) groups)
   pub followed : AreFollowed groups next
@@ -107,7 +107,7 @@ pub record IsSoFar (asked : Question) (left : List Place) (b c : Option Text) (b
   pub groups : List Group
   pub before : IsHalf (λ g. g.before) groups b c b_next b_count
   pub now : IsHalf (λ g. g.now) groups n m n_next n_count
-  pub told : AreTold asked left groups (last_place n_next) shut Taken
+  pub done : AreDone asked left groups (last_place n_next) shut Taken
 
 -- ---- stops
 

@@ -3,8 +3,8 @@ use Rattle.ocfl_accounts.specs.{Crash.{MayPut, Passes}, Kept.{account_of, accoun
 use Rattle.ocfl_accounts.proofs.{Passing.{account_passes, may_account}, Speaking.{account_said}}
 use Rattle.ocfl_accounts.proofs.telling.say_closed.Goals as goal
 
-pub returns-clause-told : goal.returns-clause-told
-returns-clause-told g c = λ t h u.
+pub returns-clause-said : goal.returns-clause-said
+returns-clause-said g c = λ t h u.
     let F = g.C.Closings in
     let k = F.seen c.args.closings.now in
     let pair = c.in_ok-pair.pair in

@@ -4,7 +4,7 @@ use Rattle.ocfl_accounts.proofs.Passing.{then_same}
 use Rattle.ocfl_accounts.proofs.telling.say_or_fail.Goals as goal
 
 pub returns-in-Ok-clause-said : goal.returns-in-Ok-clause-said
-returns-in-Ok-clause-said g c = λ t. (None, c.in-Ok.ensures.told t)
+returns-in-Ok-clause-said g c = λ t. (None, c.in-Ok.ensures.said t)
 
 pub returns-in-Err-clause-said : goal.returns-in-Err-clause-said
 returns-in-Err-clause-said g c = λ t.

@@ -1,6 +1,6 @@
 use Rattle.std.proofs.Common.{subst, sym, ◌∙◌}
 use Rattle.ocfl_words.specs.Counted.{AreCounted}
-use Rattle.ocfl_closed.specs.{Back.{AreBack}, Files.{kept_of}}
+use Rattle.ocfl_closed.specs.{Back.{AreBack}, Files.{kept_of}, Words.{IsMade}}
 use Rattle.ocfl_closed.proofs.accounting.account_of.Goals as goal
 
 pub returns-clause-changes : goal.returns-clause-changes
@@ -11,3 +11,7 @@ pub returns-clause-back : goal.returns-clause-back
 returns-clause-back g c = λ told.
     let same = (c.find_paths.ensures.still told).calm.files ∙ (c.read_kept.ensures.still told).calm.files in
     subst (λ f. AreBack (kept_of f) c.args.pair.now c.in_ok-back.back.items) same (c.in_ok-back.ensures.back told)
+
+pub returns-clause-made : goal.returns-clause-made
+returns-clause-made g c = λ told.
+    subst (λ n. IsMade c.by.result ((g.D.ClosedDisk.state c.args.disk.now).files.checkpoint n)) c.cycle.ensures (subst (IsMade c.by.result) (c.in_ok-kept.ensures.value told) c.by.ensures)

@@ -4,8 +4,8 @@ use Rattle.std.proofs.lemmas.Result.{on_ok_weaker}
 use Rattle.ocfl_compare.specs.Changes.{when, gone_object, gone_file, new_codes}
 use Rattle.ocfl_compare.specs.{Versions.{inventory_changes}, Seen.{shown}}
 use Rattle.ocfl_compare.specs.declared.change.Change.TheVariants.{Found, Repaired}
-use Rattle.ocfl_compare.specs.Internal.Telling.{new_at, told_note, told_repaired}
-use Rattle.ocfl_compare.proofs.Tellings.{new_changes, all_taken}
+use Rattle.ocfl_compare.specs.Internal.Summing.{new_at, summary_note, summary_repaired}
+use Rattle.ocfl_compare.proofs.Summaries.{code_changes, all_taken}
 use Rattle.ocfl_compare.proofs.saying.give_changes.Goals as goal
 
 pub returns : goal.returns
@@ -17,8 +17,8 @@ returns g c =
     let one = subst (λ cs. takes c.args.taker.now cs c.give_if.new.taker) (λ i. shown p (when (c.is_object_gone.ensures i) (c.object_change.ensures i))) c.in_ok-give_if.ensures in
     let two = subst (λ cs. takes c.give_if.new.taker cs c.give_if-2.new.taker) (λ i. shown p (when (c.is_file_gone.ensures i) (c.file_change.ensures i))) c.in_ok-give_if-2.ensures in
     let three = subst (λ cs. takes c.give_if-2.new.taker cs c.give_new.new.taker)
-    ((λ i. flat_map (new_at p (c.as_slice.ensures.value i)) (c.as_slice-2.ensures.value i)) ∙ sym (new_changes p before.findings.items now.findings.items)) c.in_ok-give_new.ensures in
+    ((λ i. flat_map (new_at p (c.as_slice.ensures.value i)) (c.as_slice-2.ensures.value i)) ∙ sym (code_changes Found p before.findings.items now.findings.items)) c.in_ok-give_new.ensures in
     on_ok_weaker c.give_inventory_change.result (λ five.
     all_taken takes g.met.T.TakeChange.joined p (when (not now.object && before.object) (gone_object c.args.sides.has_lines)) (when (now.absent && before.file) (gone_file c.args.sides.in_shut))
-    (map Found (new_codes before.findings.items now.findings.items)) (map Repaired (told_repaired before now)) (inventory_changes (told_note before) (told_note now)) c.args.taker.now c.give_if.new.taker
+    (map Found (new_codes before.findings.items now.findings.items)) (map Repaired (summary_repaired before now)) (inventory_changes (summary_note before) (summary_note now)) c.args.taker.now c.give_if.new.taker
     c.give_if-2.new.taker c.give_new.new.taker c.give_all_repaired.new.taker c.give_inventory_change.new.taker one two three c.in_ok-give_all_repaired.ensures five) c.give_inventory_change.ensures

@@ -1,6 +1,6 @@
 use Rattle.std.proofs.Common.{take}
 use Rattle.std.specs.Prelude.{flat_map}
-use Rattle.ocfl_compare.specs.Internal.Telling.{new_at}
+use Rattle.ocfl_compare.specs.Internal.Summing.{new_at}
 use Rattle.ocfl_compare.proofs.saying.give_new.Given as goal
 
 abbrev pub invariant-loop-code : goal.invariant-loop-code

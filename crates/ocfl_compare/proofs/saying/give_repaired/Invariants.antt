@@ -1,6 +1,6 @@
 use Rattle.std.proofs.Common.{take}
 use Rattle.std.specs.Prelude.{flat_map}
-use Rattle.ocfl_compare.specs.Internal.Telling.{repaired_at}
+use Rattle.ocfl_compare.specs.Internal.Summing.{repaired_at}
 use Rattle.ocfl_compare.proofs.saying.give_repaired.Given as goal
 
 abbrev pub invariant-loop-code : goal.invariant-loop-code

@@ -2,7 +2,7 @@
 ghost use Rattle.std.specs.Prelude.{◌≡◌, ◌||◌, List, [], ◌∷◌, ◌++◌, None, IfOk, OnOk, option_map, string_bytes};
 ghost use Rattle.ocfl_report.specs.Line.{Line as ModelLine, line_of};
 ghost use Rattle.ocfl_compare.specs.Changes.{has_code as has_that_code, stops, with_code};
-ghost use Rattle.ocfl_compare.specs.{Internal.Telling.{IsTold}, Versions.{with_note}};
+ghost use Rattle.ocfl_compare.specs.{Internal.Summing.{Summarizes}, Versions.{with_note}};
 
 use crate::versions::is_note;
 use ocfl_codes::{is_hiding, is_of_file, is_of_object};
@@ -12,7 +12,7 @@ use std::alloc::{AllocError, Global};
 
 /// What the lines of one place say together.
 #[derive(Drop)]
-pub(crate) struct Told {
+pub(crate) struct Summary {
     /// There is no line.
     pub(crate) absent: bool,
     /// There is a line of an object.
@@ -29,11 +29,11 @@ pub(crate) struct Told {
     pub(crate) note: Option<String>,
 }
 
-/// What no line says.
-pub(crate) fn nothing(alloc: Global) -> Told
-    ensures { IsTold result [] }
+/// The summary of no lines.
+pub(crate) fn nothing(alloc: Global) -> Summary
+    ensures { Summarizes result [] }
 {
-    Told {
+    Summary {
         absent: true,
         object: false,
         stopped: false,
@@ -44,12 +44,12 @@ pub(crate) fn nothing(alloc: Global) -> Told
     }
 }
 
-/// What the lines say with one more.
-pub(crate) fn tell(told: Told, line: &Line) -> Result<Told, AllocError>
-    ensures { IfOk result (λ after. (own : List ModelLine) → IsTold told own
-        → IsTold after (own ++ line_of line.now ∷ [])) }
+/// The summary of the lines with one more.
+pub(crate) fn with_line(summary: Summary, line: &Line) -> Result<Summary, AllocError>
+    ensures { IfOk result (λ after. (own : List ModelLine) → Summarizes summary own
+        → Summarizes after (own ++ line_of line.now ∷ [])) }
 {
-    let Told {
+    let Summary {
         absent: _,
         object,
         stopped,
@@ -57,10 +57,10 @@ pub(crate) fn tell(told: Told, line: &Line) -> Result<Told, AllocError>
         hidden,
         mut findings,
         note,
-    } = told;
+    } = summary;
     add_code(line, &mut findings)?;
     let note = note_with(note, line)?;
-    Ok(Told {
+    Ok(Summary {
         absent: false,
         object: either(object, is_of_object(line)),
         stopped: either(stopped, is_stop(line)),

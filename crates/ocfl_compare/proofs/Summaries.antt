@@ -13,11 +13,10 @@ use Rattle.ocfl_codes.specs.Kinds.{is_empty, tells_object, tells_file, hides}
 use Rattle.ocfl_compare.specs.Changes.{has_code, with_code, codes_from, new_codes, stops, when}
 use Rattle.ocfl_compare.specs.{Versions.{note_from, with_note}, Seen.{Seen, show_at, shown}}
 use Rattle.ocfl_compare.specs.declared.change.Change.{Change}
-use Rattle.ocfl_compare.specs.declared.change.Change.TheVariants.{Found, Repaired}
 use Rattle.ocfl_compare.specs.Internal.Reading.{listed, HasRead, IsNotAbove, IsBelow, IsAt, GoesOn}
-use Rattle.ocfl_compare.specs.Internal.Telling.{IsTold, new_at, repaired_at, told_note}
+use Rattle.ocfl_compare.specs.Internal.Summing.{Summarizes, summary_note}
 use Rattle.ocfl_compare.specs.Internal.Turns.{AreTaken}
-use Rattle.ocfl_compare.specs.declared.told.Told.{Told}
+use Rattle.ocfl_compare.specs.declared.summary.Summary.{Summary}
 
 -- ---- one more line
 
@@ -36,10 +35,10 @@ not_empty : (ls : List Line) (l : Line) → false ≡ is_empty (ls ++ l ∷ [])
 not_empty [] l = refl
 not_empty (m ∷ ls) l = refl
 
-pub told_more : (told after : Told) (own : List Line) (l : Line) → IsTold told own → after.absent ≡ false → after.object ≡ told.object || tells_object l → after.stopped ≡ told.stopped || stops l → after.file ≡ told.file || tells_file l
-    → after.hidden ≡ told.hidden || hides l → after.findings.items ≡ with_code told.findings.items l.code
-    → told_note after ≡ with_note (told_note told) l → IsTold after (own ++ l ∷ [])
-told_more told after own l h absent object stopped file hidden findings note = record {
+pub summary_more : (summary after : Summary) (own : List Line) (l : Line) → Summarizes summary own → after.absent ≡ false → after.object ≡ summary.object || tells_object l → after.stopped ≡ summary.stopped || stops l → after.file ≡ summary.file || tells_file l
+    → after.hidden ≡ summary.hidden || hides l → after.findings.items ≡ with_code summary.findings.items l.code
+    → summary_note after ≡ with_note (summary_note summary) l → Summarizes after (own ++ l ∷ [])
+summary_more summary after own l h absent object stopped file hidden findings note = record {
   absent = absent ∙ not_empty own l;
   object = object ∙ ap (λ b. b || tells_object l) h.object ∙ sym (any_more tells_object own l);
   stopped = stopped ∙ ap (λ b. b || stops l) h.stopped ∙ sym (any_more stops own l);
@@ -51,22 +50,16 @@ told_more told after own l h absent object stopped file hidden findings note = r
 
 -- ---- changes, one by one
 
-pub new_changes : (p : Place) (before now : List Code) → shown p (map Found (new_codes before now)) ≡ flat_map (new_at p before) now
-new_changes p before [] = refl
-new_changes p before (c ∷ now) = by (not (has_code before c)) (new_changes p before now)
+-- the changes of codes that are not among others, each said so
+pub code_changes : (said : Code → Change) (p : Place) (others codes : List Code) → shown p (map said (new_codes others codes)) ≡ flat_map (λ c. shown p (when (not (has_code others c)) (said c))) codes
+code_changes said p others [] = refl
+code_changes said p others (c ∷ codes) = by (not (has_code others c)) (code_changes said p others codes)
   where
-    by : (b : Bool) → shown p (map Found (new_codes before now)) ≡ flat_map (new_at p before) now
-        → shown p (map Found (cond b (c ∷ new_codes before now) (new_codes before now))) ≡ shown p (when b (Found c)) ++ flat_map (new_at p before) now
-    by true e = ap (λ cs. show_at p (Found c) ∷ cs) e
-    by false e = e
+    rest : List Seen
+    rest = flat_map (λ d. shown p (when (not (has_code others d)) (said d))) codes
 
-pub repaired_changes : (p : Place) (now before : List Code) → shown p (map Repaired (new_codes now before)) ≡ flat_map (repaired_at p now) before
-repaired_changes p now [] = refl
-repaired_changes p now (c ∷ before) = by (not (has_code now c)) (repaired_changes p now before)
-  where
-    by : (b : Bool) → shown p (map Repaired (new_codes now before)) ≡ flat_map (repaired_at p now) before
-        → shown p (map Repaired (cond b (c ∷ new_codes now before) (new_codes now before))) ≡ shown p (when b (Repaired c)) ++ flat_map (repaired_at p now) before
-    by true e = ap (λ cs. show_at p (Repaired c) ∷ cs) e
+    by : (b : Bool) → shown p (map said (new_codes others codes)) ≡ rest → shown p (map said (cond b (c ∷ new_codes others codes) (new_codes others codes))) ≡ shown p (when b (said c)) ++ rest
+    by true e = ap (λ cs. show_at p (said c) ∷ cs) e
     by false e = e
 
 -- five kinds of changes, taken in turn

@@ -1,0 +1,4 @@
+pub mod Naming
+pub mod Comparing
+pub mod Logging
+pub mod Listing

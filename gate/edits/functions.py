@@ -16,8 +16,7 @@ from gate.repository import TESTS, TOP, crates, folder_of
 EXCEPTIONS = os.path.join(TOP, "gate", "exceptions.txt")
 # The program and what stands beside its runs are proved to be safe and to end, and no more: trials
 # try what they do (`night_closings.py`, `joins.py`, `nights.py`, `night_folders.py`).
-WITHOUT_CONTRACTS = (TESTS, "ocfl_scrub_cli", "ocfl_reading", "ocfl_closing", "ocfl_terminal",
-                     "ocfl_given", "ocfl_tasks")
+WITHOUT_CONTRACTS = (TESTS, "ocfl_scrub_cli", "ocfl_terminal", "ocfl_given", "ocfl_tasks")
 START = re.compile(r"( *)(pub(?:\([a-z]+\))? )?(?:const )?(?:unsafe )?fn (\w+)")
 CLAUSE = re.compile(r"\s*(ensures|requires|ghost)\b")
 FIELD = re.compile(r"&?(?:mut )?self(\.\w+)+(\.as_(str|slice)\(\))?")

@@ -9,7 +9,7 @@ PAGE = """\
 ## Nights
 
 Bytes are lost (`Steps`: `IsLost`, `no_such`; clause `lost`). It is named (`leave_out`, clause
-`named`), and said (`Sound`: `told_is`; clauses `said`, `unheard`; `other`, clause `named`).
+`named`), and said (`Sound`: `said_is`; clauses `said`, `unheard`; `other`, clause `named`).
 Its text is that of `night_text`, `no_text` in `Night` of `ocfl_messages`. By the law
 `nights_are_sound`, law `no_law`, and law `what_was_taken_is_not_read_again` of `ocfl_laws`. Laws of
 other crates: laws `nothing_is_read_twice`, `a_cycle_keeps_the_headline` of `ocfl_laws`, `no_other`.

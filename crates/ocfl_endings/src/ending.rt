@@ -146,7 +146,7 @@ fn text_of_trouble(
             text_of_stop(alloc, StopMessage::Memory, None, names)
         }
         Stop::TooLong(_) => text_of_stop(alloc, StopMessage::State, Some(TOO_LONG), names),
-        Stop::Folder(_) | Stop::Endless | Stop::Unsaid | Stop::Overtold | Stop::Short => {
+        Stop::Folder(_) | Stop::Endless | Stop::Unsaid | Stop::Oversaid | Stop::Short => {
             text_of_stop(alloc, StopMessage::State, words, names)
         }
     }

@@ -7,7 +7,7 @@ ghost use Rattle.ocfl_endings.specs.Runs.{IsSaidOf, is_lost};
 use crate::ending::ending_text;
 use ocfl_disk::Reason;
 use ocfl_journal::ending::Ended;
-use ocfl_journal::noting::Told;
+use ocfl_journal::noting::Totals;
 use ocfl_kept::names::Names;
 use ocfl_kept::state::words_of;
 use ocfl_plan::{closed_by, is_logged, night_status};
@@ -19,7 +19,7 @@ pub struct Runs {
     pub end: NightEnd,
     /// Why the last call over the storage root failed that did.
     pub why: Option<String>,
-    pub told: Told,
+    pub totals: Totals,
 }
 
 /// Written by hand, so that to let it go is one call wherever that happens.
@@ -28,7 +28,7 @@ impl Drop for Runs {
         let Runs {
             end: _end,
             why: _why,
-            told: _told,
+            totals: _totals,
         } = self;
     }
 }
@@ -60,28 +60,33 @@ impl Runs {
         ensures closed { result.closed ≡ closed_by self.now.end.end }
         ensures logged { result.is_logged ≡ is_logged self.now.end.end }
         ensures runs { result.runs ≡ self.now.end.runs }
-        ensures lost { result.is_lost ≡ is_lost self.now.end self.now.told.broken }
+        ensures lost { result.is_lost ≡ is_lost self.now.end self.now.totals.broken }
         ensures left { result.left.now ≡ self.now.end.left.items }
-        ensures told { result.told.now ≡ self.now.told }
+        ensures totals { result.totals.now ≡ self.now.totals }
         ensures said { option_map (λ s. s.now) result.said ≡ option_map string_bytes said.now }
     {
         Ended {
             closed: closed_by(&self.end.end),
             is_logged: is_logged(&self.end.end),
             runs: self.end.runs,
-            is_lost: self.end.lost || self.told.broken > 0,
+            is_lost: self.end.lost || self.totals.broken > 0,
             left: &self.end.left,
-            told: &self.told,
+            totals: &self.totals,
             said: text_of(said),
         }
     }
 
-    /// The status of the night, with this one of what was told of closed cycles.
-    pub fn status(&self, told: u8) -> u8
+    /// The status of the night, with this one of what was said of closed cycles.
+    pub fn status(&self, closings: u8) -> u8
         ensures { result
-            ≡ night_status self.now.end self.now.told.broken self.now.told.findings told }
+            ≡ night_status self.now.end self.now.totals.broken self.now.totals.findings closings }
     {
-        night_status(&self.end, self.told.broken, self.told.findings, told)
+        night_status(
+            &self.end,
+            self.totals.broken,
+            self.totals.findings,
+            closings,
+        )
     }
 }
 

@@ -1,4 +1,4 @@
-//! Files that stand beside the storage root, why a command failed, and what standard error is told.
+//! Files that stand beside the storage root, why a command failed, and what standard error says.
 //!
 //! # What is proved
 //!

@@ -27,7 +27,7 @@ fn line_on(alloc: Global, path: &str, words: &str) -> Result<String, AllocError>
 }
 
 /// That a call on a file failed for this reason.
-fn told_of(alloc: Global, path: &str, error: &io::Error) -> Result<Failure, AllocError>
+fn failure_of(alloc: Global, path: &str, error: &io::Error) -> Result<Failure, AllocError>
     ensures { IfOk result (λ failure. StopsOn path.now failure) }
 {
     let words = format!(in alloc; "{error}")?;
@@ -43,7 +43,7 @@ pub fn file_failure(alloc: Global, path: &str, error: &io::Error) -> Result<Fail
 {
     match error.kind() {
         ErrorKind::OutOfMemory => Err(AllocError),
-        _ => told_of(alloc, path, error),
+        _ => failure_of(alloc, path, error),
     }
 }
 

@@ -11,13 +11,13 @@ use Rattle.ocfl_journal.specs.declared.begun.Begun.{Begun}
 pub record IsFirst (b : Begun) : Type 0 where
   pub standing : b.standing ≡ first_standing
   pub left : b.left.items ≡ []
-  pub told : b.told ≡ 0
+  pub said : b.said ≡ 0
 
 -- by a checkpoint
 pub record IsBegunAt (c : Checkpoint) (b : Begun) : Type 0 where
   pub standing : b.standing ≡ standing_of c
   pub left : b.left.items ≡ places_of c.left
-  pub told : b.told ≡ c.told
+  pub said : b.said ≡ c.said
 
 abbrev pub IsBegunFrom : Option Checkpoint → Begun → Type 0
 IsBegunFrom None b = IsFirst b

@@ -39,7 +39,7 @@ abbrev pub ending_texts : Text → Ended → List Place → List Reason → List
 ending_texts state e earlier why = text_if_any e.said
     ++ (map left_earlier_text (left_before e earlier)
     ++ (map (λ b. left_text b (words_on why b)) e.left.now
-    ++ (if e.is_lost then lost_text state e.told.now.broken ∷ [] else [])))
+    ++ (if e.is_lost then lost_text state e.totals.now.broken ∷ [] else [])))
 
 -- the row of a night that has ended with this status
 abbrev pub ended_row : About → Ended → ℕ → ℕ → NightRow
@@ -48,9 +48,9 @@ ended_row a e status now = record {
   night = a.began;
   status = status;
   runs = e.runs;
-  cost = e.told.now.cost;
+  cost = e.totals.now.cost;
   seconds = now - a.began;
-  findings = e.told.now.findings;
+  findings = e.totals.now.findings;
   left = length e.left.now;
   program = a.program;
 }

@@ -22,7 +22,7 @@ use std::rt::Files;
 pub(crate) struct Begun {
     pub(crate) standing: Standing,
     pub(crate) left: Vec<Place>,
-    pub(crate) told: u64,
+    pub(crate) said: u64,
 }
 
 impl Begun {
@@ -33,7 +33,7 @@ impl Begun {
         Begun {
             standing: Standing::first(),
             left: Vec::new(alloc),
-            told: 0,
+            said: 0,
         }
     }
 
@@ -44,7 +44,7 @@ impl Begun {
         Ok(Begun {
             standing: Standing::of(checkpoint),
             left: places_of(alloc, &checkpoint.left)?,
-            told: checkpoint.told,
+            said: checkpoint.said,
         })
     }
 }

@@ -10,7 +10,7 @@ ghost use Rattle.ocfl_journal.specs.Ending.{said_of, text_if_any};
 
 use crate::begun::is_of_root;
 use crate::logging::{Account, NightLog, log_night};
-use crate::noting::{Noting, Told};
+use crate::noting::{Noting, Totals};
 use ocfl_disk::{FsState, Reason};
 use ocfl_files::failing::{Failure, say_failure, say_text};
 use ocfl_files::reasons::{Reason as Why, find_in};
@@ -40,7 +40,7 @@ pub struct Ended<'e> {
     pub is_lost: bool,
     /// The branches that were left out in it.
     pub left: &'e [Place],
-    pub told: &'e Told,
+    pub totals: &'e Totals,
     /// What is said of its end, with its line feed. `None` if it ended well.
     pub said: Option<&'e str>,
 }
@@ -144,10 +144,10 @@ fn put_lost(
 ) -> Result<(), AllocError>
     ensures { OnOk result (map string_bytes texts.new.items ≡ map string_bytes texts.old.items
         ++ (if ended.entry.is_lost
-        then lost_text state.now ended.entry.told.now.broken ∷ [] else [])) }
+        then lost_text state.now ended.entry.totals.now.broken ∷ [] else [])) }
 {
     if ended.is_lost {
-        texts.push(lost_text(alloc, state, ended.told.broken)?)?;
+        texts.push(lost_text(alloc, state, ended.totals.broken)?)?;
     }
     Ok(())
 }
@@ -195,11 +195,11 @@ fn say_ending<R: Eprint>(
 }
 
 /// Says why a night failed, if it did, and gives its status.
-pub fn status_told<R: Eprint>(rt: &R, told: Result<u8, Failure>) -> u8
-    ensures { MatchResult told (λ status. result ≡ status) (λ failure. result
+pub fn say_if_failed<R: Eprint>(rt: &R, end: Result<u8, Failure>) -> u8
+    ensures { MatchResult end (λ status. result ≡ status) (λ failure. result
         ≡ (if is_some failure.text then failure.status else stopped_status)) }
 {
-    match told {
+    match end {
         Ok(status) => status,
         Err(failure) => say_failure(rt, &failure),
     }
@@ -220,11 +220,11 @@ where
     ensures folder { IfOk result (λ ended. ended.folder ≡ noting.folder.folder) }
     ensures before { IfOk result (λ ended. ended.before ≡ last_closed noting.begun.standing) }
     ensures lost { IfOk result (λ folder. folder.lost
-        ≡ option_or noting.folder.observer.journal.lost ended.entry.told.now.lost) }
+        ≡ option_or noting.folder.observer.journal.lost ended.entry.totals.now.lost) }
 {
     say_ending(rt, alloc, state, ended, &noting.begun.left, noting.left())?;
     let before = noting.begun.standing.last_closed();
-    let lost = noting.lost().or(ended.told.lost);
+    let lost = noting.lost().or(ended.totals.lost);
     Ok(EndedFolder {
         folder: noting.into_folder(),
         before,
@@ -241,9 +241,9 @@ fn ended_row<'a>(about: About<'a>, ended: Ended<'_>, status: u8, now: u64) -> Ni
         night: about.began,
         status,
         runs: ended.runs,
-        cost: ended.told.cost,
+        cost: ended.totals.cost,
         seconds: now.saturating_sub(about.began),
-        findings: ended.told.findings,
+        findings: ended.totals.findings,
         left: ended.left.len() as u64,
         program: about.program,
     }

@@ -92,7 +92,7 @@ pub struct SpokenBy {
 }
 
 /// What a night spent, and what it said of its runs.
-pub struct Told {
+pub struct Totals {
     /// What the items of its runs cost, at most 2^64 - 1.
     pub cost: u64,
     /// How many findings were said, and how many lines of the report were none.
@@ -105,9 +105,9 @@ pub struct Told {
 }
 
 /// Written by hand, so that to let it go is one call wherever that happens.
-impl Drop for Told {
+impl Drop for Totals {
     fn drop(self) {
-        let Told {
+        let Totals {
             cost: _cost,
             findings: _findings,
             broken: _broken,
@@ -237,7 +237,7 @@ impl<F: Folder + StateFolder + Drop, L: NightLog + Drop> Noting<F, L> {
         ensures observer { self.new.folder.observer ≡ self.old.folder.observer }
     {
         let alloc = self.folder.observer.alloc;
-        let heads = heads_before(alloc, &mut self.folder.folder, self.begun.told).unwrap_or(
+        let heads = heads_before(alloc, &mut self.folder.folder, self.begun.said).unwrap_or(
             Heads::new(),
         );
         let notes = &self.folder.observer;
@@ -251,7 +251,7 @@ impl<F: Folder + StateFolder + Drop, L: NightLog + Drop> Noting<F, L> {
     }
 
     /// What the night spent, what was said of its runs, and why one was not logged, if so.
-    pub fn told_by(&self, speaker: Speaker<'_>, runs: &Journal<L>) -> Told
+    pub fn totals_by(&self, speaker: Speaker<'_>, runs: &Journal<L>) -> Totals
         ensures cost { result.cost ≡ spent_until self.now.begun.standing
             self.now.folder.observer.standing }
         ensures findings { result.findings ≡ speaker.entry.gone }
@@ -260,7 +260,7 @@ impl<F: Folder + StateFolder + Drop, L: NightLog + Drop> Noting<F, L> {
             then speaker.entry.said.items else []) }
         ensures lost { result.lost ≡ runs.now.lost }
     {
-        Told {
+        Totals {
             cost: self
                 .begun
                 .standing

@@ -277,7 +277,7 @@ pub fn new_list_path(alloc: Global, state: &str, cycle: u64) -> Result<String, A
 
 /// Whether the nights over a folder have said what a closed cycle found: the list of what is gone
 /// is put once that was said.
-pub fn is_told<R: Room>(rt: &R, state: &str, cycle: u64) -> Result<bool, AllocError>
+pub fn was_said<R: Room>(rt: &R, state: &str, cycle: u64) -> Result<bool, AllocError>
     ensures { IsTrue R.shown → IfOk result (λ is.
         is ≡ R.there rt.now (path_of_list state.now cycle)) }
 {

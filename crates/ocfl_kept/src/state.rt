@@ -244,7 +244,12 @@ fn reason_text(
 }
 
 /// That a call on a file of the folder failed for this reason.
-fn told_of(alloc: Global, state: &str, reason: Reason, ending: &str) -> Result<Failure, AllocError>
+fn failure_of(
+    alloc: Global,
+    state: &str,
+    reason: Reason,
+    ending: &str,
+) -> Result<Failure, AllocError>
     ensures { IfOk result (λ failure. SaysReason state.now reason.file ending.now failure) }
 {
     let text = reason_text(alloc, state, reason, ending)?;
@@ -259,7 +264,7 @@ fn failed(alloc: Global, state: &str, reason: Reason) -> Result<Failure, AllocEr
 {
     match reason.trouble() {
         FolderTrouble::Memory => Err(AllocError),
-        _ => told_of(alloc, state, reason, ". Nothing was run.\n"),
+        _ => failure_of(alloc, state, reason, ". Nothing was run.\n"),
     }
 }
 
@@ -281,7 +286,7 @@ pub fn folder_failure(
     ensures { IfOk result (λ failure. TellsFailure state.now reason failure) }
 {
     match reason {
-        Some(reason) => told_of(alloc, state, reason, "\n"),
+        Some(reason) => failure_of(alloc, state, reason, "\n"),
         None => failed_somehow(alloc, state),
     }
 }

@@ -18,7 +18,7 @@ use Rattle.ocfl_terms.specs.Clock.{Event, Asked, Read, Heard}
 use Rattle.ocfl_night.specs.{Done.{Done}, Runs.{IsAllowed, Run, StopsOpen, Turn, after_end, after_made, events_of, turn_of}}
 use Rattle.ocfl_night.specs.Ending.{IsAway, IsMadeBy, IsNextBy, IsSlice, IsUnkept, KeepsTo, cycle_in, cycle_of, place_or_pause, slice_end}
 use Rattle.ocfl_night.specs.{Looks.{Counts, Rounds}, Promises.{IfThere}, Reading.{AreBeyond, AreTaken, StaysTaken, content_since, reached, reached_in}}
-use Rattle.ocfl_night.specs.{Sound.{IsAt, IsReady, Stands}, Steps.{IsNext, MayCheckpoint, begun_anew, with_all_told, with_left}}
+use Rattle.ocfl_night.specs.{Sound.{IsAt, IsReady, Stands}, Steps.{IsNext, MayCheckpoint, begun_anew, with_all_said, with_left}}
 use Rattle.ocfl_night.specs.declared.pause.Pause.{Pause}
 use Rattle.ocfl_terms.specs.{declared.plan.Plan.{Plan}, declared.made.Made.{Made}, declared.made.SliceEnd.{SliceEnd}, declared.stop.Stop.{Stop}}
 use Rattle.ocfl_night.specs.declared.pause.Pause.TheVariants as pause
@@ -50,8 +50,8 @@ goes_more k l m (inr at) (inr next) = inr (at.0 ∙ next.0, record { each = λ p
 pub goes_left : (branch : Place) (k : Checkpoint) {next : Checkpoint} → next ≡ with_left branch k → GoesOn k next
 goes_left branch k is = subst (GoesOn k) (sym is) (goes_same k (with_left branch k) refl refl)
 
-pub goes_told : (k : Checkpoint) {next : Checkpoint} → next ≡ with_all_told k → GoesOn k next
-goes_told k is = subst (GoesOn k) (sym is) (goes_same k (with_all_told k) refl refl)
+pub goes_said : (k : Checkpoint) {next : Checkpoint} → next ≡ with_all_said k → GoesOn k next
+goes_said k is = subst (GoesOn k) (sym is) (goes_same k (with_all_said k) refl refl)
 
 pub done_more : (cycle : ℕ) (ps : List Place) (k l : Checkpoint) → HasDone cycle ps k → GoesOn k l → HasDone cycle ps l
 done_more cycle ps k l (inl less) (inl more) = inl (omega (arith, less, more))

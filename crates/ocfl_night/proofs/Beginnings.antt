@@ -47,12 +47,12 @@ pub taken_stays : (id : Identity) {k l : Checkpoint} → IsTakenUp id k l → po
 taken_stays id {k = k} (there, is) = ap position is ∙ fitted_stays there k
 
 -- it tells no more than its report has if that does not
-pub taken_within : (id : Identity) {k l : Checkpoint} → k.told ≤ k.report.bytes → IsTakenUp id k l → l.told ≤ l.report.bytes
+pub taken_within : (id : Identity) {k l : Checkpoint} → k.said ≤ k.report.bytes → IsTakenUp id k l → l.said ≤ l.report.bytes
 taken_within id {k} {l} within (there, is) = by there is
   where
-    by : (o : Option ReportMark) → l ≡ with_root id (fitted o k) → l.told ≤ l.report.bytes
-    by None is = subst (λ (x : Checkpoint). x.told ≤ x.report.bytes) (sym is) within
-    by (Some mark) is = subst (λ (x : Checkpoint). x.told ≤ x.report.bytes) (sym is) (omega arith)
+    by : (o : Option ReportMark) → l ≡ with_root id (fitted o k) → l.said ≤ l.report.bytes
+    by None is = subst (λ (x : Checkpoint). x.said ≤ x.report.bytes) (sym is) within
+    by (Some mark) is = subst (λ (x : Checkpoint). x.said ≤ x.report.bytes) (sym is) (omega arith)
 
 -- the first one, in a folder that shows this
 pub first_to_open : {Told : Type 0} {site : Site} {id : Identity} {create : Bool} {c d : Content} {k : Checkpoint} → (Told → c.checkpoint ≡ None) → create ≡ true → (Told → d ≡ c) → IsFirst Told site id d k → IsToOpen Told site id create c k

@@ -75,9 +75,9 @@ module _ {F : Type 0} {S : state.Ghosts F} {rounds : Rounds} {t : Text} {k : Che
       by (inl w) = inr w.report
       by (inr w) = inl (shut_closing w)
 
-  module _ (is : k.phase ≡ Closing) (told : k.told ≡ k.report.bytes) (r : IsReady S rounds t k f) where
+  module _ (is : k.phase ≡ Closing) (said : k.said ≡ k.report.bytes) (r : IsReady S rounds t k f) where
     pub move_sound : (d c : Content) → S.may_leave f d → MayMoveAt k.cursor.cycle (closes_whole k) (S.seen f) d c → IsSoundAt rounds t c
-    move_sound d c left may = sound_holds (move_holds is told (ready_holds r d left) (r.only d left) may)
+    move_sound d c left may = sound_holds (move_holds is said (ready_holds r d left) (r.only d left) may)
 
     pub is_moved : {c : Content} → (IsTrue (is_closed (S.seen f).closed k.cursor.cycle) ⊎ (k.report ≡ summary_of (S.seen f).report) → IsMoveDone k.cursor.cycle (closes_whole k) (S.seen f) c) → IsMoved rounds t k c
-    is_moved done = move_done is told r.stands (done (ready_to_close is r))
+    is_moved done = move_done is said r.stands (done (ready_to_close is r))

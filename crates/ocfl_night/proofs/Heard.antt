@@ -39,8 +39,8 @@ pub committed_grows : (s0 s1 : Said) → Keeps s0.given s1.given → Grew s0.com
 committed_grows s0 s1 kept grew later = record { given = kept_grew s0.given s1.given kept; committed = grew; failures = later }
 
 -- what was not said, by a checkpoint's own values
-pub unsaid_as : (k : Checkpoint) (c : Content) (told bytes : ℕ) → told ≡ k.told → bytes ≡ k.report.bytes → take (bytes - told) (drop told c.report) ≡ unsaid k c
-unsaid_as k c told bytes one two = ap (λ (n : ℕ). take (n - told) (drop told c.report)) two ∙ ap (λ (n : ℕ). take (k.report.bytes - n) (drop n c.report)) one
+pub unsaid_as : (k : Checkpoint) (c : Content) (from bytes : ℕ) → from ≡ k.said → bytes ≡ k.report.bytes → take (bytes - from) (drop from c.report) ≡ unsaid k c
+unsaid_as k c from bytes one two = ap (λ (n : ℕ). take (n - from) (drop from c.report)) two ∙ ap (λ (n : ℕ). take (k.report.bytes - n) (drop n c.report)) one
 
 -- a text was given, and all that was given was committed
 pub has_committed : (text : Text) (s0 s1 s2 : Said) → Appends s0.given s1.given text → Keeps s1.given s2.given → s2.committed ≡ s2.given → HasCommitted text s0 s2
@@ -147,19 +147,19 @@ module _ {rounds : Rounds} {outcomes : Outcomes} {kept : AreSound rounds outcome
 
 -- of a part that is known by two names
 module _ {F : Type 0} {S : state.Ghosts F} {outcomes : Outcomes} {s0 s1 : Said} {k : Checkpoint} {a : F} {rounds given : Rounds} {kept : AreSound rounds outcomes} (same : given ≡ rounds) (r : IsReadySince S rounds outcomes kept s0 s1 k a) where
-  -- all that was told
-  abbrev pub told_since : Text
-  told_since = (kept r.from r.was).0 ++ r.heard.more
+  -- all that was said
+  abbrev pub said_since : Text
+  said_since = (kept r.from r.was).0 ++ r.heard.more
 
-  pub ready_since : IsReady S given told_since k a
-  ready_since = subst (λ (p : Rounds). IsReady S p told_since k a) (sym same) r.heard.ready
+  pub ready_since : IsReady S given said_since k a
+  ready_since = subst (λ (p : Rounds). IsReady S p said_since k a) (sym same) r.heard.ready
 
   pub heard_through : {moment : F → ℕ} {left_since : F → ℕ → Outcomes} {s2 : Said} {f b : F} → LeavesOnly moment left_since f a (IsHeardSince rounds outcomes kept s0 s1) → Grows s1 s2
-      → LeavesOnly moment left_since a b (IsHeard given told_since s1 s2) → LeavesOnly moment left_since f b (IsHeardSince rounds outcomes kept s0 s2)
+      → LeavesOnly moment left_since a b (IsHeard given said_since s1 s2) → LeavesOnly moment left_since f b (IsHeardSince rounds outcomes kept s0 s2)
   heard_through {s2 = s2} p grew q =
       joined_moments
       (leaves_weaker (λ c h. since_longer grew h) p)
-      (leaves_weaker (λ c h. since_ready r grew (subst (λ (p : Rounds). IsHeard p told_since s1 s2 c) same h)) q)
+      (leaves_weaker (λ c h. since_ready r grew (subst (λ (p : Rounds). IsHeard p said_since s1 s2 c) same h)) q)
 
 pub kept_found : {rounds : Rounds} {outcomes : Outcomes} {c : Content} (kept : AreSound rounds outcomes) → outcomes c → IsFound rounds outcomes kept c
 kept_found {c = c} kept was = record { from = c; was = was; now = (kept c was).1 }

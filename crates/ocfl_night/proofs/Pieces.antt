@@ -13,7 +13,7 @@ piece_on report start at count le =
     ap (λ (l : Text). take n (drop start report) ++ take count l) same ∙ sym (take-add n count (drop start report)) ∙ ap (λ (m : ℕ). take m (drop start report)) whole
 
 -- a beginning of what was read
-pub piece_read : (report buffer : Text) (start count told : ℕ) → told ≤ count → count ≤ length buffer → take count buffer ≡ take (length (take count buffer)) (drop start report) → take told buffer ≡ take told (drop start report)
-piece_read report buffer start count told le room is =
+pub piece_read : (report buffer : Text) (start count given : ℕ) → given ≤ count → count ≤ length buffer → take count buffer ≡ take (length (take count buffer)) (drop start report) → take given buffer ≡ take given (drop start report)
+piece_read report buffer start count given le room is =
     let long : length (take count buffer) ≡ count = length-take-le count buffer room in
-    sym (take-take told count buffer le) ∙ ap (take told) is ∙ ap (λ (m : ℕ). take told (take m (drop start report))) long ∙ take-take told count (drop start report) le
+    sym (take-take given count buffer le) ∙ ap (take given) is ∙ ap (λ (m : ℕ). take given (take m (drop start report))) long ∙ take-take given count (drop start report) le

@@ -32,7 +32,7 @@ use Rattle.ocfl_night.specs.{Done.{Done}, Leaving.{done_by, remedy_at}, Looks.{C
 use Rattle.ocfl_night.specs.Ending.{IsAway, IsMadeBy, IsSlice, IsUnkept, KeepsTo, cycle_ended, ended_by, halt_after, place_or_pause, slice_end}
 use Rattle.ocfl_night.specs.Reading.{AreBeyond, AreDeclarations, AreReadOnce, EndsInOrder, HasRead, HaveRead, IsRead, IsReadBy, IsReadTo, ReadsBeyond, StaysTaken, came_to, content_since, reached, reached_in}
 use Rattle.ocfl_night.specs.{Runs.{StopsOpen, Turn, after_end, after_made, turn_of}, Sound.{IsAt}}
-use Rattle.ocfl_night.specs.Steps.{IsNext, IsNotBegun, with_all_told}
+use Rattle.ocfl_night.specs.Steps.{IsNext, IsNotBegun, with_all_said}
 use Rattle.ocfl_terms.specs.{declared.plan.Halt.{Halt}, declared.made.Made.{Made}, declared.made.SliceEnd.{SliceEnd}, declared.stop.Stop.{Stop}}
 use Rattle.ocfl_night.specs.{declared.pause.Pause.{Pause}, declared.tally.Remedy.{Remedy}}
 use Rattle.ocfl_terms.specs.declared.plan.Halt.TheVariants as halt
@@ -363,7 +363,7 @@ came_there Open c n pause.Asked = refl
 came_there Open c n (pause.Stopped why) = refl
 came_there Open c n pause.RootChanged = refl
 
-pub read_to : {s t : Store} {from : State} {c : Content} {ps : List Place} (last said : Checkpoint) (cycle : Option ℕ) (why : Pause) {end : Halt} → said ≡ with_all_told last → cycle ≡ cycle_ended said.phase said.cursor.cycle → end ≡ halt_after cycle why → StandsAt c (goes_on_at said)
+pub read_to : {s t : Store} {from : State} {c : Content} {ps : List Place} (last said : Checkpoint) (cycle : Option ℕ) (why : Pause) {end : Halt} → said ≡ with_all_said last → cycle ≡ cycle_ended said.phase said.cursor.cycle → end ≡ halt_after cycle why → StandsAt c (goes_on_at said)
     → HaveRead s t from (reached last) (halt_after (cycle_ended last.phase last.cursor.cycle) why) ps → EndsInOrder end → IsReadTo s t from end c ps
 read_to {from = from} {ps = ps} last said cycle why {end} all is so stands read order =
     let cursor : stands.0.cursor ≡ last.cursor = ap (λ (x : Position). x.cursor) stands.1.1 ∙ goes_on_cursor said.phase said ∙ ap (λ (x : Checkpoint). x.cursor) all in

@@ -14,7 +14,7 @@ use Rattle.ocfl_state.specs.declared.folder.FolderTrouble.TheVariants.{Failed, F
 use Rattle.ocfl_report.specs.declared.further.Further.{Further}
 use Rattle.ocfl_night.specs.{Beginning.{BeginsAt}, Done.{Done}, Ending.{IsSlice, cycle_in, cycle_of, ended_by, place_or_pause, unbegun_by}, Leaving.{LeadsOn, done_by, end_of, has_end, remedy_at}}
 use Rattle.ocfl_terms.specs.Counting.{counted}
-use Rattle.ocfl_night.specs.{Chain.{past}, Looks.{Rounds}, Site.{IsAlike}, Sound.{Stands}, Steps.{IsNext, begun_anew, with_all_told}}
+use Rattle.ocfl_night.specs.{Chain.{past}, Looks.{Rounds}, Site.{IsAlike}, Sound.{Stands}, Steps.{IsNext, begun_anew, with_all_said}}
 use Rattle.ocfl_terms.specs.Output.{HasFailed, Said}
 use Rattle.ocfl_scrub.specs.declared.running.RunEnd.{RunEnd}
 use Rattle.ocfl_night.specs.Runs.{StopsOpen, Turn, after_end, after_made, turn_of}
@@ -24,7 +24,7 @@ use Rattle.ocfl_night.specs.{declared.pause.Pause.{Pause}, declared.not_opened.N
 use Rattle.ocfl_night.specs.declared.not_opened.NotOpened.TheVariants as unopened
 use Rattle.ocfl_terms.specs.declared.plan.Halt.TheVariants as halt
 use Rattle.ocfl_night.specs.declared.tally.Remedy.TheVariants as remedy
-use Rattle.ocfl_terms.specs.declared.stop.Stop.TheVariants.{Folder, TooLong, Unread, Worn, Endless, Unsaid, Overtold, Short, Output}
+use Rattle.ocfl_terms.specs.declared.stop.Stop.TheVariants.{Folder, TooLong, Unread, Worn, Endless, Unsaid, Oversaid, Short, Output}
 use Rattle.ocfl_night.specs.Stopping.{Course, ForClose, ForFirst, IsFirst, ForKeep, ForNight, ForOpen, ForPut, ForRuns, ForSay, ForSlice, ForSpeak, IsEndless, IsPassedBy, IsPutFrom, IsPutIn, IsReadStop, IsReason, IsRunBy, IsTooLong, IsWornAfter, OpensFor, StopsFor, course}
 use Rattle.ocfl_night.proofs.{Beginnings.{cycle_next, made_in}, Foreigners.{alike_as, alike_on, alike_self, made_alike, next_alike}, Runs.{stops_open}, Sound.{long}}
 
@@ -69,7 +69,7 @@ unread_at Told Other old new {T} r why is read = subst (λ (x : Result T NotOpen
     by (unopened.Troubled Worn) read = absurd read
     by (unopened.Troubled Endless) read = absurd read
     by (unopened.Troubled Unsaid) read = absurd read
-    by (unopened.Troubled Overtold) read = absurd read
+    by (unopened.Troubled Oversaid) read = absurd read
     by (unopened.Troubled Short) read = absurd read
     by (unopened.Troubled Output) read = absurd read
 
@@ -91,7 +91,7 @@ module _ {One Two : Type 0} (For Then : Type 0 → Stop → Type 0) (old mid new
   reason_on Worn failed other is = other tt is
   reason_on Endless failed other is = other tt is
   reason_on Unsaid failed other is = other tt is
-  reason_on Overtold failed other is = other tt is
+  reason_on Oversaid failed other is = other tt is
   reason_on Short failed other is = other tt is
   reason_on Output failed other is = other tt is
 
@@ -102,16 +102,16 @@ too_long wider is = record { checkpoint = is.checkpoint; one = wider is.checkpoi
 -- ---- of a folder that is ready
 
 module _ {rounds : Rounds} {t : Text} {k : Checkpoint} {c : Content} where
-  pub told_within : Stands rounds t k c → k.told ≤ k.report.bytes
-  told_within (inl o) = o.told
-  told_within (inr (inl w)) = w.told
-  told_within (inr (inr w)) = let is = w.told in omega arith
+  pub said_within : Stands rounds t k c → k.said ≤ k.report.bytes
+  said_within (inl o) = o.said
+  said_within (inr (inl w)) = w.said
+  said_within (inr (inr w)) = let is = w.said in omega arith
 
-  pub never_overtold : Stands rounds t k c → k.report.bytes < k.told → ⊥
-  never_overtold stands over = let le = told_within stands in omega arith
+  pub never_oversaid : Stands rounds t k c → k.report.bytes < k.said → ⊥
+  never_oversaid stands over = let le = said_within stands in omega arith
 
   -- what a checkpoint did not say is there
-  pub never_short : Stands rounds t k c → (k.told < k.report.bytes) × (length c.report < k.report.bytes) → ⊥
+  pub never_short : Stands rounds t k c → (k.said < k.report.bytes) × (length c.report < k.report.bytes) → ⊥
   never_short (inl o) short =
       let a : k.report.bytes ≡ length o.text = long o.text k.report o.report in
       let b : length c.report ≡ length o.text + length o.begins.0 = ap length o.begins.1 ∙ length-append o.text o.begins.0 in
@@ -121,7 +121,7 @@ module _ {rounds : Rounds} {t : Text} {k : Checkpoint} {c : Content} where
       let a : k.report.bytes ≡ length c.report = long c.report k.report w.report in
       let s = short.1 in
       omega arith
-  never_short (inr (inr w)) short = let a = w.told in let s = short.0 in omega arith
+  never_short (inr (inr w)) short = let a = w.said in let s = short.0 in omega arith
 
 -- an output that failed after a moment failed since an earlier one
 pub failed_since : {old mid new : ℕ} → old ≤ mid → HasFailed mid new → HasFailed old new
@@ -212,7 +212,7 @@ worn_out first n many = inr (omega (arith, many))
 pub put_first : (k : Checkpoint) → IsPutFrom k k
 put_first k = record { alike = alike_self k; cycle = inl refl }
 
-pub put_self : (k : Checkpoint) {l : Checkpoint} → l ≡ with_all_told k → IsPutFrom k l
+pub put_self : (k : Checkpoint) {l : Checkpoint} → l ≡ with_all_said k → IsPutFrom k l
 put_self k same = record { alike = alike_as k same (record { root = refl; names = refl; part = refl; checks = refl }); cycle = inl (ap cycle_of same) }
 
 pub put_on : {first k l : Checkpoint} → IsAlike first k → cycle_of k ≡ cycle_of first → IsPutFrom k l → IsPutFrom first l
@@ -234,8 +234,8 @@ put_passed {made = made} going is passed =
     (record { alike = alike_as made.checkpoint same (record { root = refl; names = refl; part = refl; checks = refl }); cycle = inl (ap cycle_of same) })
 
 -- it tells no more than its report has if that of the slice does not
-pub passed_within : {l : Checkpoint} (made : Made) → made.checkpoint.told ≤ made.checkpoint.report.bytes → IsPassedBy made l → l.told ≤ l.report.bytes
-passed_within made within passed = subst (λ (x : Checkpoint). x.told ≤ x.report.bytes) (sym passed.1.1) within
+pub passed_within : {l : Checkpoint} (made : Made) → made.checkpoint.said ≤ made.checkpoint.report.bytes → IsPassedBy made l → l.said ≤ l.report.bytes
+passed_within made within passed = subst (λ (x : Checkpoint). x.said ≤ x.report.bytes) (sym passed.1.1) within
 
 -- after the report is closed
 next_cycle : (k : Checkpoint) (s : State) → ((begun_in k.cursor s).cycle ≡ k.cursor.cycle) ⊎ ((begun_in k.cursor s).cycle ≡ k.cursor.cycle + 1)
@@ -261,13 +261,13 @@ put_anew k {l} same = record {
     by Closing is (inr more) = inr (now ∙ more ∙ ap (λ (n : ℕ). n + 1) (sym (was is)))
 
 -- once all of it is said
-pub put_closed : (k : Checkpoint) {said l : Checkpoint} → said ≡ with_all_told k → l ≡ begun_anew said → IsPutFrom k l
+pub put_closed : (k : Checkpoint) {said l : Checkpoint} → said ≡ with_all_said k → l ≡ begun_anew said → IsPutFrom k l
 put_closed k {said} {l} all same = put_on (put_self k all).alike (ap cycle_of all) (put_anew said same)
 
 -- ---- what else steps stop for
 
 -- of a slice
-pub slice_reason : (One Two Silenced : Type 0) (limits : Limits) (first k : Checkpoint) (c : Content) (n old mid new : ℕ) (why : Stop) → ((l : Checkpoint) → IsRunBy k limits l → IsPutFrom first l) → (Two → One) → (Two → old ≤ mid) → (Two → k.report ≡ summary_of c.report) → (Two → k.told ≤ k.report.bytes) → (IsWorn k.cursor → IsWornAfter first n) → (IsEndless k.left → IsEndless first.left)
+pub slice_reason : (One Two Silenced : Type 0) (limits : Limits) (first k : Checkpoint) (c : Content) (n old mid new : ℕ) (why : Stop) → ((l : Checkpoint) → IsRunBy k limits l → IsPutFrom first l) → (Two → One) → (Two → old ≤ mid) → (Two → k.report ≡ summary_of c.report) → (Two → k.said ≤ k.report.bytes) → (IsWorn k.cursor → IsWornAfter first n) → (IsEndless k.left → IsEndless first.left)
     → IsReason One (ForSlice limits k c) mid new why → IsReason Two (ForRuns Silenced first n) old new why
 slice_reason One Two Silenced limits first k c n old mid new why put given before fits within worn endless is =
     reason_on (ForSlice limits k c) (ForRuns Silenced first n) old mid new given before why (λ two changed. absurd (changed (fits two))) (other why) is
@@ -279,12 +279,12 @@ slice_reason One Two Silenced limits first k c n old mid new why put given befor
     other Worn it is = worn is
     other Endless it is = endless is
     other Unsaid it is = is
-    other Overtold it is = λ two. let over = is (given two) (fits two) in let le = within two in omega arith
+    other Oversaid it is = λ two. let over = is (given two) (fits two) in let le = within two in omega arith
     other Short it is = absurd is
     other Output it is = absurd is
 
 -- of a checkpoint that is put after one
-pub put_reason : (One Two Silenced : Type 0) (OneOf : Checkpoint → Type 0) (first : Checkpoint) (n old mid new : ℕ) (why : Stop) → ((l : Checkpoint) → OneOf l → IsPutFrom first l) → (Two → One) → (Two → old ≤ mid) → (Two → (l : Checkpoint) → OneOf l → l.told ≤ l.report.bytes)
+pub put_reason : (One Two Silenced : Type 0) (OneOf : Checkpoint → Type 0) (first : Checkpoint) (n old mid new : ℕ) (why : Stop) → ((l : Checkpoint) → OneOf l → IsPutFrom first l) → (Two → One) → (Two → old ≤ mid) → (Two → (l : Checkpoint) → OneOf l → l.said ≤ l.report.bytes)
     → IsReason One (ForPut OneOf) mid new why → IsReason Two (ForRuns Silenced first n) old new why
 put_reason One Two Silenced OneOf first n old mid new why put given before within is =
     reason_on (ForPut OneOf) (ForRuns Silenced first n) old mid new given before why (λ two no. absurd no) (other why) is
@@ -296,12 +296,12 @@ put_reason One Two Silenced OneOf first n old mid new why put given before withi
     other Worn it is = absurd is
     other Endless it is = absurd is
     other Unsaid it is = is
-    other Overtold it is = λ two. let le = within two is.0 is.1.0 in let over = is.1.1 in omega (arith, over)
+    other Oversaid it is = λ two. let le = within two is.0 is.1.0 in let over = is.1.1 in omega (arith, over)
     other Short it is = absurd is
     other Output it is = absurd is
 
 -- of what is said after the runs
-pub speak_reason : (One Two Silenced : Type 0) (first k : Checkpoint) (c : Content) (s0 s1 : Said) (n old mid new : ℕ) (why : Stop) → IsPutFrom first (with_all_told k) → (Two → One) → (Two → old ≤ mid) → (Two → (rounds : Rounds) × ((t : Text) × Stands rounds t k c)) → (HasFailed s0.failures s1.failures → Silenced)
+pub speak_reason : (One Two Silenced : Type 0) (first k : Checkpoint) (c : Content) (s0 s1 : Said) (n old mid new : ℕ) (why : Stop) → IsPutFrom first (with_all_said k) → (Two → One) → (Two → old ≤ mid) → (Two → (rounds : Rounds) × ((t : Text) × Stands rounds t k c)) → (HasFailed s0.failures s1.failures → Silenced)
     → IsReason One (ForSpeak k c s0 s1) mid new why → IsReason Two (ForRuns Silenced first n) old new why
 speak_reason One Two Silenced first k c s0 s1 n old mid new why put given before stands silenced is =
     reason_on (ForSpeak k c s0 s1) (ForRuns Silenced first n) old mid new given before why (λ two no. absurd no) (other why) is
@@ -313,12 +313,12 @@ speak_reason One Two Silenced first k c s0 s1 n old mid new why put given before
     other Worn it is = absurd is
     other Endless it is = absurd is
     other Unsaid it is = is
-    other Overtold it is = λ two. never_overtold (stands two).1.1 is
+    other Oversaid it is = λ two. never_oversaid (stands two).1.1 is
     other Short it is = λ two. never_short (stands two).1.1 (is (given two))
     other Output it is = silenced is
 
 -- of the closing of what they wrote
-pub close_reason : (One Two Silenced : Type 0) (first k : Checkpoint) (n old mid new : ℕ) (why : Stop) → k.told ≡ k.report.bytes → ((l : Checkpoint) → l ≡ begun_anew k → IsPutFrom first l) → (Two → One) → (Two → old ≤ mid) → IsReason One (ForClose k) mid new why → IsReason Two (ForRuns Silenced first n) old new why
+pub close_reason : (One Two Silenced : Type 0) (first k : Checkpoint) (n old mid new : ℕ) (why : Stop) → k.said ≡ k.report.bytes → ((l : Checkpoint) → l ≡ begun_anew k → IsPutFrom first l) → (Two → One) → (Two → old ≤ mid) → IsReason One (ForClose k) mid new why → IsReason Two (ForRuns Silenced first n) old new why
 close_reason One Two Silenced first k n old mid new why all put given before is =
     reason_on (ForClose k) (ForRuns Silenced first n) old mid new given before why (λ two no. absurd no) (other why) is
   where
@@ -329,7 +329,7 @@ close_reason One Two Silenced first k n old mid new why all put given before is 
     other Worn it is = absurd is
     other Endless it is = absurd is
     other Unsaid it is = absurd (is all)
-    other Overtold it is = absurd is
+    other Oversaid it is = absurd is
     other Short it is = absurd is
     other Output it is = absurd is
 
@@ -346,7 +346,7 @@ opening_reason One Two IsUnreadAt IsOf OneOf night old new why put given is =
     other Worn it is = absurd is
     other Endless it is = absurd is
     other Unsaid it is = absurd is
-    other Overtold it is = λ two. is (given two)
+    other Oversaid it is = λ two. is (given two)
     other Short it is = absurd is
     other Output it is = absurd is
 
@@ -362,12 +362,12 @@ set_out_reason Told IsUnreadAt One Two night old new why wider is =
     other Worn it is = is
     other Endless it is = is
     other Unsaid it is = is
-    other Overtold it is = is
+    other Oversaid it is = is
     other Short it is = is
     other Output it is = is
 
 -- or before them
-pub caught_reason : (One Two : Type 0) (IsUnreadAt : Place → Type 0) (IsOf : Checkpoint → Type 0) (night : Course) (k : Checkpoint) (c : Content) (s0 s1 : Said) (old mid new : ℕ) (why : Stop) → IsOf (with_all_told k) → (Two → BeginsAt night.further night.create night.content k) → (Two → One) → (Two → old ≤ mid) → (Two → (rounds : Rounds) × ((t : Text) × Stands rounds t k c)) → (HasFailed s0.failures s1.failures → HasFailed night.old.failures night.new.failures)
+pub caught_reason : (One Two : Type 0) (IsUnreadAt : Place → Type 0) (IsOf : Checkpoint → Type 0) (night : Course) (k : Checkpoint) (c : Content) (s0 s1 : Said) (old mid new : ℕ) (why : Stop) → IsOf (with_all_said k) → (Two → BeginsAt night.further night.create night.content k) → (Two → One) → (Two → old ≤ mid) → (Two → (rounds : Rounds) × ((t : Text) × Stands rounds t k c)) → (HasFailed s0.failures s1.failures → HasFailed night.old.failures night.new.failures)
     → IsReason One (ForSpeak k c s0 s1) mid new why → IsReason Two (ForNight IsUnreadAt IsOf night) old new why
 caught_reason One Two IsUnreadAt IsOf night k c s0 s1 old mid new why own begins given before stands silenced is =
     reason_on (ForSpeak k c s0 s1) (ForNight IsUnreadAt IsOf night) old mid new given before why (λ two no. absurd no) (other why) is
@@ -379,7 +379,7 @@ caught_reason One Two IsUnreadAt IsOf night k c s0 s1 old mid new why own begins
     other Worn it is = absurd is
     other Endless it is = absurd is
     other Unsaid it is = is
-    other Overtold it is = λ two. never_overtold (stands two).1.1 is
+    other Oversaid it is = λ two. never_oversaid (stands two).1.1 is
     other Short it is = λ two. never_short (stands two).1.1 (is (given two))
     other Output it is = silenced is
 
@@ -396,7 +396,7 @@ unbegun_reason One Two IsUnreadAt IsOf further create c m n s0 s1 old new why gi
     other Worn it is = λ two. let at = is (given two) in (at.0, (at.1.0, subst (IsWornAfter at.0) same at.1.1))
     other Endless it is = λ two. is (given two)
     other Unsaid it is = is
-    other Overtold it is = λ two. is (given two)
+    other Oversaid it is = λ two. is (given two)
     other Short it is = λ two. is (given two)
     other Output it is = is
 
@@ -413,7 +413,7 @@ night_reason One Two Silenced IsUnreadAt IsOf night first m old mid new why own 
     other Worn it is = λ two. (first, (begins two, subst (IsWornAfter first) same is))
     other Endless it is = λ two. (first, (begins two, is))
     other Unsaid it is = is
-    other Overtold it is = λ two. is (given two)
+    other Oversaid it is = λ two. is (given two)
     other Short it is = λ two. is (given two)
     other Output it is = silenced is
 
@@ -421,15 +421,15 @@ night_reason One Two Silenced IsUnreadAt IsOf night first m old mid new why own 
 
 -- a checkpoint after a run tells no more than its report has if the one before did not
 pub keep_over : (k next : Checkpoint) (ran : RunEnd) (mark report : ReportMark) (c d : Content) (lines : Text) → IsNext k ran report next → mark ≡ k.report → d ≡ with_report (c.report ++ lines) c
-    → (mark ≡ summary_of c.report → report ≡ summary_of d.report) → next.report.bytes < next.told → k.report ≡ summary_of c.report → k.report.bytes < k.told
+    → (mark ≡ summary_of c.report → report ≡ summary_of d.report) → next.report.bytes < next.said → k.report ≡ summary_of c.report → k.report.bytes < k.said
 keep_over k next ran mark report c d lines n mark_is grown marked over fits =
     let r : next.report.bytes ≡ length d.report = ap (λ (x : ReportMark). x.bytes) (n.report_is ∙ marked (mark_is ∙ fits)) in
     let g : length d.report ≡ length c.report + length lines = ap (λ (x : Content). length x.report) grown ∙ length-append c.report lines in
-    let t : next.told ≡ k.told = ap (λ (x : Checkpoint). x.told) n.rest_is in
+    let t : next.said ≡ k.said = ap (λ (x : Checkpoint). x.said) n.rest_is in
     let b : k.report.bytes ≡ length c.report = ap (λ (x : ReportMark). x.bytes) fits in
     omega arith
 
-pub keep_reason : (Told : Type 0) (OneOf : Checkpoint → Type 0) (k next : Checkpoint) (c : Content) (old mid new : ℕ) (why : Stop) → OneOf next → (Told → old ≤ mid) → (Told → next.report.bytes < next.told → k.report ≡ summary_of c.report → k.report.bytes < k.told)
+pub keep_reason : (Told : Type 0) (OneOf : Checkpoint → Type 0) (k next : Checkpoint) (c : Content) (old mid new : ℕ) (why : Stop) → OneOf next → (Told → old ≤ mid) → (Told → next.report.bytes < next.said → k.report ≡ summary_of c.report → k.report.bytes < k.said)
     → IsReason Told (ForPut (λ l. l ≡ next)) mid new why → IsReason Told (ForKeep OneOf k c) old new why
 keep_reason Told OneOf k next c old mid new why one before over is =
     reason_on (ForPut (λ l. l ≡ next)) (ForKeep OneOf k c) old mid new (λ told. told) before why (λ told no. absurd no) (other why) is
@@ -441,12 +441,12 @@ keep_reason Told OneOf k next c old mid new why one before over is =
     other Worn it is = is
     other Endless it is = is
     other Unsaid it is = is
-    other Overtold it is = λ told fits. over told (subst (λ (l : Checkpoint). l.report.bytes < l.told) is.1.0 is.1.1) fits
+    other Oversaid it is = λ told fits. over told (subst (λ (l : Checkpoint). l.report.bytes < l.said) is.1.0 is.1.1) fits
     other Short it is = is
     other Output it is = is
 
 -- a checkpoint that is put, and no other one
-pub put_by : (Told : Type 0) (Other : Type 0 → Stop → Type 0) (next : Checkpoint) (old mid new : ℕ) (why : Stop) → (Told → old ≤ mid) → (next.report.bytes < next.told → Other Told Overtold) → ((text : Vec ℕ Global) → IsTooLong (λ l. l ≡ next) text.items → Other Told (TooLong text))
+pub put_by : (Told : Type 0) (Other : Type 0 → Stop → Type 0) (next : Checkpoint) (old mid new : ℕ) (why : Stop) → (Told → old ≤ mid) → (next.report.bytes < next.said → Other Told Oversaid) → ((text : Vec ℕ Global) → IsTooLong (λ l. l ≡ next) text.items → Other Told (TooLong text))
     → IsReason Told (ForPut (λ l. l ≡ next)) mid new why → IsReason Told Other old new why
 put_by Told Other next old mid new why before over put is =
     reason_on (ForPut (λ l. l ≡ next)) Other old mid new (λ told. told) before why (λ told no. absurd no) (other why) is
@@ -458,7 +458,7 @@ put_by Told Other next old mid new why before over put is =
     other Worn it is = absurd is
     other Endless it is = absurd is
     other Unsaid it is = absurd is
-    other Overtold it is = over (subst (λ (l : Checkpoint). l.report.bytes < l.told) is.1.0 is.1.1)
+    other Oversaid it is = over (subst (λ (l : Checkpoint). l.report.bytes < l.said) is.1.0 is.1.1)
     other Short it is = absurd is
     other Output it is = absurd is
 
@@ -474,12 +474,12 @@ put_wider Told {One} {Two} old mid new why before wider is =
     other Worn it is = absurd is
     other Endless it is = absurd is
     other Unsaid it is = absurd is
-    other Overtold it is = (is.0, (wider is.0 is.1.0, is.1.1))
+    other Oversaid it is = (is.0, (wider is.0 is.1.0, is.1.1))
     other Short it is = absurd is
     other Output it is = absurd is
 
 -- one with which a night was to begin
-pub open_reason : (Told : Type 0) {One Two : Checkpoint → Type 0} (c : Content) (old mid new : ℕ) (why : Stop) → (Told → old ≤ mid) → ((l : Checkpoint) → One l → Two l) → (Told → (l : Checkpoint) → One l → l.told ≤ l.report.bytes) → IsReason Told (ForPut One) mid new why → IsReason Told (ForOpen Two c) old new why
+pub open_reason : (Told : Type 0) {One Two : Checkpoint → Type 0} (c : Content) (old mid new : ℕ) (why : Stop) → (Told → old ≤ mid) → ((l : Checkpoint) → One l → Two l) → (Told → (l : Checkpoint) → One l → l.said ≤ l.report.bytes) → IsReason Told (ForPut One) mid new why → IsReason Told (ForOpen Two c) old new why
 open_reason Told {One} {Two} c old mid new why before wider within is =
     reason_on (ForPut One) (ForOpen Two c) old mid new (λ told. told) before why (λ told no. absurd no) (other why) is
   where
@@ -490,7 +490,7 @@ open_reason Told {One} {Two} c old mid new why before wider within is =
     other Worn it is = absurd is
     other Endless it is = absurd is
     other Unsaid it is = absurd is
-    other Overtold it is = λ told. let le = within told is.0 is.1.0 in let over = is.1.1 in omega (arith, over)
+    other Oversaid it is = λ told. let le = within told is.0 is.1.0 in let over = is.1.1 in omega (arith, over)
     other Short it is = absurd is
     other Output it is = absurd is
 
@@ -506,7 +506,7 @@ first_reason Told {Two} site id c d old mid new why before wider is =
     other Worn it is = absurd is
     other Endless it is = absurd is
     other Unsaid it is = absurd is
-    other Overtold it is = absurd is
+    other Oversaid it is = absurd is
     other Short it is = absurd is
     other Output it is = absurd is
 
@@ -523,7 +523,7 @@ say_reason Told c d s0 s1 s2 end most old mid new why same most_is grew before i
     other Worn it is = is
     other Endless it is = is
     other Unsaid it is = is
-    other Overtold it is = is
+    other Oversaid it is = is
     other Short it is = λ told. let a : length d.report < most = is told in subst (λ (x : Content). length x.report < end) (same told) (omega (arith, most_is, a))
     other Output it is = failed_since grew is
 

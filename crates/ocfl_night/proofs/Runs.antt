@@ -7,7 +7,7 @@ use Rattle.ocfl_item.specs.declared.fault.Fault.TheVariants as fault
 use Rattle.ocfl_cursor.specs.declared.limits.Limits.{Limits}
 use Rattle.ocfl_state.specs.{Checkpoint.{Checkpoint}, declared.checkpoint_parts.Phase.{Phase}}
 use Rattle.ocfl_state.specs.declared.checkpoint_parts.Phase.TheVariants.{Open, Closing}
-use Rattle.ocfl_night.specs.{Beginning.{Position, goes_on_at, goes_on_in, position}, Done.{Done, with_begun, with_made}, Leaving.{MayHaveLeftAt, done_by, remedy_at}, Steps.{begun_anew, with_all_told}}
+use Rattle.ocfl_night.specs.{Beginning.{Position, goes_on_at, goes_on_in, position}, Done.{Done, with_begun, with_made}, Leaving.{MayHaveLeftAt, done_by, remedy_at}, Steps.{begun_anew, with_all_said}}
 use Rattle.ocfl_terms.specs.Clock.{Event, Asked, Read}
 use Rattle.ocfl_night.specs.Ending.{IsSlice, cycle_ended, ended_by, halt_after, halt_of, place_or_pause, slice_end}
 use Rattle.ocfl_night.specs.Runs.{Run, Turn, AreMade, AreRunsOf, EndsBy, IsAllowed, IsEndedBy, IsFailed, IsHalted, IsPaused, IsRunOf, MayHaveLeft, StopsOpen, after_end, after_made, events_of, turn, turn_of}
@@ -185,14 +185,14 @@ pub troubled_after : (Left : Position → Type 0) (plan : Plan) (e : Done) (l : 
 troubled_after Left plan e l pause is d k last paused = subst (λ (x : Result Halt Stop). EndsBy Left plan (ended_by x) e d k last) (sym is) (inr (pause, (l, paused)))
 
 -- what counts as said is no part of it
-told_at : (Left : Position → Type 0) (l : Checkpoint) (p : Phase) → l.phase ≡ p → Left (goes_on_at (with_all_told l)) → Left (goes_on_at l)
-told_at Left l Open is left = subst (λ (x : Phase). Left (goes_on_in x l)) (sym is) (subst (λ (x : Phase). Left (goes_on_in x (with_all_told l))) is left)
-told_at Left l Closing is left = subst (λ (x : Phase). Left (goes_on_in x l)) (sym is) (subst (λ (x : Phase). Left (goes_on_in x (with_all_told l))) is left)
+said_at : (Left : Position → Type 0) (l : Checkpoint) (p : Phase) → l.phase ≡ p → Left (goes_on_at (with_all_said l)) → Left (goes_on_at l)
+said_at Left l Open is left = subst (λ (x : Phase). Left (goes_on_in x l)) (sym is) (subst (λ (x : Phase). Left (goes_on_in x (with_all_said l))) is left)
+said_at Left l Closing is left = subst (λ (x : Phase). Left (goes_on_in x l)) (sym is) (subst (λ (x : Phase). Left (goes_on_in x (with_all_said l))) is left)
 
-pub halted_so : (Left : Position → Type 0) (plan : Plan) (e : Done) (l said : Checkpoint) (pause : Pause) (ended : Option ℕ) {h : Halt} → said ≡ with_all_told l → ended ≡ cycle_ended said.phase said.cursor.cycle → h ≡ halt_after ended pause → Left (goes_on_at said) → (d : Done) (k : Checkpoint) (last : List Event) → IsPaused plan d k last pause e l → EndsBy Left plan h e d k last
+pub halted_so : (Left : Position → Type 0) (plan : Plan) (e : Done) (l said : Checkpoint) (pause : Pause) (ended : Option ℕ) {h : Halt} → said ≡ with_all_said l → ended ≡ cycle_ended said.phase said.cursor.cycle → h ≡ halt_after ended pause → Left (goes_on_at said) → (d : Done) (k : Checkpoint) (last : List Event) → IsPaused plan d k last pause e l → EndsBy Left plan h e d k last
 halted_so Left plan e l said pause ended all is so left d k last paused =
     let same = so ∙ ap (λ (o : Option ℕ). halt_after o pause) (is ∙ ap (λ (x : Checkpoint). cycle_ended x.phase x.cursor.cycle) all) in
-    let there : Left (goes_on_at l) = told_at Left l l.phase refl (subst (λ (x : Checkpoint). Left (goes_on_at x)) all left) in
+    let there : Left (goes_on_at l) = said_at Left l l.phase refl (subst (λ (x : Checkpoint). Left (goes_on_at x)) all left) in
     subst (λ (x : Halt). EndsBy Left plan x e d k last) (sym same) (ended_so Left plan d e k l last pause there paused)
 
 -- a night from when nothing was done, and how it ends

@@ -25,7 +25,7 @@ use Rattle.ocfl_night.specs.Sound.{closed_text, IsOpen, IsClosing, IsMoved, Stan
 use Rattle.ocfl_night.specs.{Site.{first_checkpoint}, declared.site.Site.{Site}}
 use Rattle.ocfl_identity.specs.declared.identity.Identity.{Identity}
 use Rattle.ocfl_night.specs.Promises.{IsBranchNext}
-use Rattle.ocfl_night.specs.Steps.{begun_anew, closes_whole, left_at, with_left, KeepsFront, MayCheckpoint, IsCheckpointPut, IsMoveDone, MayMoveAt, IsRun, IsNext, unsaid, with_all_told}
+use Rattle.ocfl_night.specs.Steps.{begun_anew, closes_whole, left_at, with_left, KeepsFront, MayCheckpoint, IsCheckpointPut, IsMoveDone, MayMoveAt, IsRun, IsNext, unsaid, with_all_said}
 use Rattle.ocfl_night.proofs.Looks.{given_on, given_so, one_of_on}
 use Rattle.ocfl_night.proofs.Moments.{OnlyNow, leaves, left_after, joined_moments, only_same}
 use Rattle.ocfl_night.proofs.Chains.{next_on, led_on, led_to_end, leave_on, looked_on, joined_on, run_checks, same_cycle, ended_cursor, next_cycle_begun, has_at, has_in, has_none, has_on, not_there, last_closed, closed_text_on, take_nothing}
@@ -55,9 +55,9 @@ module _ {rounds : Rounds} {t : Text} {c : Content} where
 
   -- what a checkpoint says of the root is no matter here, nor its bytes
   pub stands_as : {k : Checkpoint} {root : RootIdentity} {names : TopNames} {bytes : Option (List ℕ)} → Stands rounds t k c → Stands rounds t (record k { root = root; names = names }) (record c { checkpoint = bytes })
-  stands_as (inl o) = inl (record { phase = o.phase; led = o.led; text = o.text; report = o.report; begins = o.begins; is_whole = o.is_whole; lossless = o.lossless; told = o.told; told_is = o.told_is; earlier = o.earlier })
-  stands_as (inr (inl w)) = inr (inl (record { phase = w.phase; led = w.led; ends = w.ends; report = w.report; is_whole = w.is_whole; lossless = w.lossless; told = w.told; told_is = w.told_is; earlier = w.earlier }))
-  stands_as (inr (inr w)) = inr (inr (record { phase = w.phase; ends = w.ends; checks = w.checks; empty = w.empty; there = w.there; told = w.told; told_is = w.told_is; earlier = w.earlier }))
+  stands_as (inl o) = inl (record { phase = o.phase; led = o.led; text = o.text; report = o.report; begins = o.begins; is_whole = o.is_whole; lossless = o.lossless; said = o.said; said_is = o.said_is; earlier = o.earlier })
+  stands_as (inr (inl w)) = inr (inl (record { phase = w.phase; led = w.led; ends = w.ends; report = w.report; is_whole = w.is_whole; lossless = w.lossless; said = w.said; said_is = w.said_is; earlier = w.earlier }))
+  stands_as (inr (inr w)) = inr (inr (record { phase = w.phase; ends = w.ends; checks = w.checks; empty = w.empty; there = w.there; said = w.said; said_is = w.said_is; earlier = w.earlier }))
 
   pub renamed : {k next : Checkpoint} {root : RootIdentity} {names : TopNames} → next ≡ record k { root = root; names = names } → Stands rounds t k c → Stands rounds t next c
   renamed is stands = subst (λ (x : Checkpoint). Stands rounds t x c) (sym is) (stands_as stands)
@@ -96,7 +96,7 @@ moved_at same at = record { bytes = at.bytes; is = same ∙ at.is; text = at.tex
 -- the report is another one after the checkpoint's bytes
 reopened : {rounds : Rounds} {t : Text} {k : Checkpoint} {d c : Content} (o : IsOpen rounds t k d) → Begins o.text c.report → c.closed ≡ d.closed → IsOpen rounds t k c
 reopened o begins closed =
-    record { phase = o.phase; led = o.led; text = o.text; report = o.report; begins = begins; is_whole = o.is_whole; lossless = o.lossless; told = o.told; earlier = has_in closed o.earlier; told_is = o.told_is }
+    record { phase = o.phase; led = o.led; text = o.text; report = o.report; begins = begins; is_whole = o.is_whole; lossless = o.lossless; said = o.said; earlier = has_in closed o.earlier; said_is = o.said_is }
 
 -- it is torn there
 pub torn : {rounds : Rounds} {t : Text} {k : Checkpoint} {n : ℕ} {d c : Content} → k.phase ≡ Open → k.report.bytes ≤ n → Holds rounds t k d → KeepsFront n d c → Holds rounds t k c
@@ -150,16 +150,16 @@ module _ {rounds : Rounds} {t : Text} {k next : Checkpoint} {look : Look} {ran :
   counted : next.report.bytes ≡ length c.report
   counted = long c.report next.report n.report_is
 
-  told_same : next.told ≡ k.told
-  told_same = ap (λ (x : Checkpoint). x.told) n.rest_is
+  said_same : next.said ≡ k.said
+  said_same = ap (λ (x : Checkpoint). x.said) n.rest_is
 
-  told : next.told ≤ next.report.bytes
-  told = omega (arith, told_same, counted, o.told, long o.text k.report o.report, longer)
+  said : next.said ≤ next.report.bytes
+  said = omega (arith, said_same, counted, o.said, long o.text k.report o.report, longer)
 
-  told_text : t ≡ closed_text o.earlier.all ++ take next.told c.report
-  told_text =
-      o.told_is
-      ∙ ap (λ (l : Text). closed_text o.earlier.all ++ l) (sym (take-append-le k.told o.text e.run.report (omega (arith, o.told, long o.text k.report o.report))) ∙ ap (take k.told) (sym now) ∙ ap (λ (m : ℕ). take m c.report) (sym told_same))
+  said_text : t ≡ closed_text o.earlier.all ++ take next.said c.report
+  said_text =
+      o.said_is
+      ∙ ap (λ (l : Text). closed_text o.earlier.all ++ l) (sym (take-append-le k.said o.text e.run.report (omega (arith, o.said, long o.text k.report o.report))) ∙ ap (take k.said) (sym now) ∙ ap (λ (m : ℕ). take m c.report) (sym said_same))
 
   whole : next.whole ≡ true → c.report ≡ joined (o.led.runs ++ r ∷ [])
   whole is = now ∙ ap (λ (l : Text). l ++ e.run.report) (o.is_whole (sym (ap (λ (x : Checkpoint). x.whole) n.rest_is) ∙ is)) ∙ sym (joined_on o.led.runs r)
@@ -192,9 +192,9 @@ module _ {rounds : Rounds} {t : Text} {k next : Checkpoint} {look : Look} {ran :
         begins = ([], sym (append-nil c.report));
         is_whole = whole;
         lossless = lossless;
-        told = told;
+        said = said;
         earlier = has_at (sym (same_cycle rounds.further look.root (part_after rounds.part k.left) k.cursor e.run made not_ended) ∙ ap (λ (x : RunEnd). (begun x.cursor).cycle) e.ran_is ∙ ap (λ (x : Cursor). (begun x).cycle) (sym n.cursor_is)) (has_in closed o.earlier);
-        told_is = told_text;
+        said_is = said_text;
       } in
       record { stands = inl open_now; exact = λ is. sym counted }
 
@@ -211,9 +211,9 @@ module _ {rounds : Rounds} {t : Text} {k next : Checkpoint} {look : Look} {ran :
         report = n.report_is;
         is_whole = whole;
         lossless = lossless;
-        told = told;
+        said = said;
         earlier = has_at (sym at.1 ∙ ap (λ (x : Cursor). x.cycle) cursor) (has_in closed o.earlier);
-        told_is = told_text;
+        said_is = said_text;
       } in
       record { stands = inr (inl closing_now); exact = λ is. absurd (cc (phase, is)) }
 
@@ -313,7 +313,7 @@ cut_open {k = k} {d} {c} is h cut =
 
 -- there is nothing of a cycle's report yet
 fresh_stands : {rounds : Rounds} {t : Text} {c : Content} (k : Checkpoint) → place_in k.cursor.state ≡ None → k.cursor.further ≡ rounds.further → (earlier : HasClosed rounds (begun k.cursor).cycle c.closed) → t ≡ closed_text earlier.all → Stands rounds t (begun_anew k) c
-fresh_stands {rounds} {c = c} k starts checks earlier told_is = inl (record {
+fresh_stands {rounds} {c = c} k starts checks earlier said_is = inl (record {
   phase = refl;
   led = record { first = k.cursor; runs = []; starts = starts; checks = checks; chain = refl; next = tt; looked = tt };
   text = [];
@@ -321,9 +321,9 @@ fresh_stands {rounds} {c = c} k starts checks earlier told_is = inl (record {
   begins = (c.report, refl);
   is_whole = λ is. refl;
   lossless = given_so rounds.known refl;
-  told = omega arith;
+  said = omega arith;
   earlier = earlier;
-  told_is = told_is ∙ sym (ap (λ (l : Text). closed_text earlier.all ++ l) (take_nothing 0) ∙ append-nil (closed_text earlier.all));
+  said_is = said_is ∙ sym (ap (λ (l : Text). closed_text earlier.all ++ l) (take_nothing 0) ∙ append-nil (closed_text earlier.all));
 })
 
 -- the first checkpoint
@@ -370,7 +370,7 @@ module _ {rounds : Rounds} {t : Text} {k : Checkpoint} {d : Content} where
       let some : k.left ≢ [] = λ none. both_ways (sym (ap (λ (b : Bool). b && is_empty k.left) sure ∙ ap (λ (l : List Left). true && is_empty l) none) ∙ incomplete) in
       (k.left, (some, record { last = k.cursor; led = w.led; cycle = refl; report = w.is_whole sure }))
 
-  module _ {c : Content} (is : k.phase ≡ Closing) (told : k.told ≡ k.report.bytes) where
+  module _ {c : Content} (is : k.phase ≡ Closing) (said : k.said ≡ k.report.bytes) where
     after_move : IsClosing rounds t k d → c ≡ moved k.cursor.cycle (closes_whole k) d → IsMoved rounds t k c
     after_move w put =
         let x : Closed = record { cycle = k.cursor.cycle; whole = closes_whole k; report = d.report } in
@@ -381,9 +381,9 @@ module _ {rounds : Rounds} {t : Text} {k : Checkpoint} {d : Content} where
           checks = w.led.checks;
           empty = ap (λ (y : Content). y.report) put;
           there = ap (λ (l : List Closed). is_closed l k.cursor.cycle) closed ∙ last_closed d.closed x;
-          told = told;
+          said = said;
           earlier = has_on x closed refl (record { whole = λ whole. whole_report w (closes_by k.whole k.left whole); partial = given_on rounds.known (λ sure incomplete. partial_report w sure incomplete) w.lossless }) w.earlier;
-          told_is = w.told_is ∙ ap (λ (l : Text). closed_text w.earlier.all ++ l) (take_all k.told d.report (omega (arith, told, long d.report k.report w.report))) ∙ sym (closed_text_on w.earlier.all x);
+          said_is = w.said_is ∙ ap (λ (l : Text). closed_text w.earlier.all ++ l) (take_all k.said d.report (omega (arith, said, long d.report k.report w.report))) ∙ sym (closed_text_on w.earlier.all x);
         }
 
     pub move_done : Stands rounds t k d → IsMoveDone k.cursor.cycle (closes_whole k) d c → IsMoved rounds t k c
@@ -406,7 +406,7 @@ module _ {rounds : Rounds} {t : Text} {k : Checkpoint} {d : Content} where
 pub next_stands : {rounds : Rounds} {t : Text} {k next : Checkpoint} {c : Content} → next ≡ begun_anew k → IsMoved rounds t k c → Stands rounds t next c
 next_stands {rounds} {t} {k} {next} {c} is w =
     subst (λ (x : Checkpoint). Stands rounds t x c) (sym is)
-    (fresh_stands k (ap place_in w.ends) w.checks (has_at (sym (next_cycle_begun k.cursor w.ends)) w.earlier) w.told_is)
+    (fresh_stands k (ap place_in w.ends) w.checks (has_at (sym (next_cycle_begun k.cursor w.ends)) w.earlier) w.said_is)
 
 -- ---- leaving a branch out
 
@@ -419,31 +419,31 @@ left_stands {rounds} {t} {k} {c = c} branch same is none stands =
     (none.0, (none.1.0, subst (λ (f : Further). NoneBefore f none.0 (part_after rounds.part k.left) (place_in k.cursor.state) branch) o.led.checks none.1.1)) in
     let chain = leave_on rounds.further rounds.part o.led.first k.cursor o.led.runs k.left (left_at branch k) o.led.chain refl in
     subst (λ (x : Checkpoint). Stands rounds t x c) (sym same)
-    (inl (record { phase = o.phase; led = record { first = o.led.first; runs = o.led.runs; starts = o.led.starts; checks = o.led.checks; chain = chain; next = next_on rounds.further rounds.known rounds.part k.left (left_at branch k) o.led.next next; looked = o.led.looked }; text = o.text; report = o.report; begins = o.begins; is_whole = o.is_whole; lossless = o.lossless; told = o.told; told_is = o.told_is; earlier = o.earlier }))
+    (inl (record { phase = o.phase; led = record { first = o.led.first; runs = o.led.runs; starts = o.led.starts; checks = o.led.checks; chain = chain; next = next_on rounds.further rounds.known rounds.part k.left (left_at branch k) o.led.next next; looked = o.led.looked }; text = o.text; report = o.report; begins = o.begins; is_whole = o.is_whole; lossless = o.lossless; said = o.said; said_is = o.said_is; earlier = o.earlier }))
 
 -- ---- saying
 
-more_of : (report : Text) (told bytes : ℕ) → bytes ≡ length report → told ≤ bytes → take told report ++ take (bytes - told) (drop told report) ≡ take bytes report
-more_of report told bytes long le =
-    ap (λ (l : Text). take told report ++ l) (take_all (bytes - told) (drop told report) (omega (arith, length-drop told report, long, le))) ∙ take-append-drop told report ∙ sym (take_all bytes report (omega (arith, long)))
+more_of : (report : Text) (said bytes : ℕ) → bytes ≡ length report → said ≤ bytes → take said report ++ take (bytes - said) (drop said report) ≡ take bytes report
+more_of report said bytes long le =
+    ap (λ (l : Text). take said report ++ l) (take_all (bytes - said) (drop said report) (omega (arith, length-drop said report, long, le))) ∙ take-append-drop said report ∙ sym (take_all bytes report (omega (arith, long)))
 
-told_now : (t before : Text) (k : Checkpoint) (c : Content) (text : Text) → k.report.bytes ≡ length text → k.told ≤ k.report.bytes → c.report ≡ text → t ≡ before ++ take k.told text → t ++ unsaid k c ≡ before ++ take k.report.bytes text
-told_now t before k c text counted le same is =
+said_now : (t before : Text) (k : Checkpoint) (c : Content) (text : Text) → k.report.bytes ≡ length text → k.said ≤ k.report.bytes → c.report ≡ text → t ≡ before ++ take k.said text → t ++ unsaid k c ≡ before ++ take k.report.bytes text
+said_now t before k c text counted le same is =
     ap (λ (l : Text). l ++ unsaid k c) is
-    ∙ append_assoc before (take k.told text) (unsaid k c)
-    ∙ ap (λ (l : Text). before ++ l) (ap (λ (l : Text). take k.told text ++ take (k.report.bytes - k.told) (drop k.told l)) same ∙ more_of text k.told k.report.bytes counted le)
+    ∙ append_assoc before (take k.said text) (unsaid k c)
+    ∙ ap (λ (l : Text). before ++ l) (ap (λ (l : Text). take k.said text ++ take (k.report.bytes - k.said) (drop k.said l)) same ∙ more_of text k.said k.report.bytes counted le)
 
-module _ {rounds : Rounds} {t : Text} {k : Checkpoint} {c : Content} (some : k.told ≡ k.report.bytes → ⊥) (exact : k.phase ≡ Open → length c.report ≡ k.report.bytes) where
-  said_stands : Stands rounds t k c → Stands rounds (t ++ unsaid k c) (with_all_told k) c
+module _ {rounds : Rounds} {t : Text} {k : Checkpoint} {c : Content} (some : k.said ≡ k.report.bytes → ⊥) (exact : k.phase ≡ Open → length c.report ≡ k.report.bytes) where
+  said_stands : Stands rounds t k c → Stands rounds (t ++ unsaid k c) (with_all_said k) c
   said_stands (inl o) =
-      let told_is = told_now t (closed_text o.earlier.all) k c o.text (long o.text k.report o.report) o.told (exact_text o (exact o.phase)) o.told_is in
-      inl (record { phase = o.phase; led = o.led; text = o.text; report = o.report; begins = o.begins; is_whole = o.is_whole; lossless = o.lossless; told = omega arith; told_is = told_is; earlier = o.earlier })
+      let said_is = said_now t (closed_text o.earlier.all) k c o.text (long o.text k.report o.report) o.said (exact_text o (exact o.phase)) o.said_is in
+      inl (record { phase = o.phase; led = o.led; text = o.text; report = o.report; begins = o.begins; is_whole = o.is_whole; lossless = o.lossless; said = omega arith; said_is = said_is; earlier = o.earlier })
   said_stands (inr (inl w)) =
-      let told_is = told_now t (closed_text w.earlier.all) k c c.report (long c.report k.report w.report) w.told refl w.told_is in
-      inr (inl (record { phase = w.phase; led = w.led; ends = w.ends; report = w.report; is_whole = w.is_whole; lossless = w.lossless; told = omega arith; told_is = told_is; earlier = w.earlier }))
-  said_stands (inr (inr w)) = absurd (some w.told)
+      let said_is = said_now t (closed_text w.earlier.all) k c c.report (long c.report k.report w.report) w.said refl w.said_is in
+      inr (inl (record { phase = w.phase; led = w.led; ends = w.ends; report = w.report; is_whole = w.is_whole; lossless = w.lossless; said = omega arith; said_is = said_is; earlier = w.earlier }))
+  said_stands (inr (inr w)) = absurd (some w.said)
 
-pub said_by : {F : Type 0} {S : state.Ghosts F} {rounds : Rounds} {t : Text} {k next : Checkpoint} {f : F} → next ≡ with_all_told k → (k.told ≡ k.report.bytes → ⊥) → IsReady S rounds t k f → Stands rounds (t ++ unsaid k (S.seen f)) next (S.seen f)
+pub said_by : {F : Type 0} {S : state.Ghosts F} {rounds : Rounds} {t : Text} {k next : Checkpoint} {f : F} → next ≡ with_all_said k → (k.said ≡ k.report.bytes → ⊥) → IsReady S rounds t k f → Stands rounds (t ++ unsaid k (S.seen f)) next (S.seen f)
 said_by {S = S} {rounds = rounds} {t} {k} {f = f} is some r = subst (λ (x : Checkpoint). Stands rounds (t ++ unsaid k (S.seen f)) x (S.seen f)) (sym is) (said_stands some r.exact r.stands)
 
 -- ---- a report is closed

@@ -61,7 +61,7 @@ settled_there {rounds = rounds} {t} {k} sound at same only =
     let h = holds_sound sound at in
     record { at = subst (IsAt k) (sym same) h.at; stands = subst (Stands rounds t k) (sym same) h.stands; only = only }
 
--- with the text that was told there
+-- with the text that was said there
 pub found_ready : {F : Type 0} {S : state.Ghosts F} {rounds : Rounds} {outcomes : Outcomes} {next : Checkpoint} {h : F} {t : Text} (kept : AreSound rounds outcomes) (d : Content) (was : outcomes d) → (kept d was).0 ≡ t → IsReady S rounds t next h
     → IsFoundReady S rounds outcomes kept next h
 found_ready {S = S} {rounds} {next = next} {h} kept d was same ready =
@@ -80,11 +80,11 @@ module _ {F : Type 0} {may_leave : F → Outcomes} {moment : F → ℕ} {left_si
 
 -- no checkpoint is there
 pub shown_new : (rounds : Rounds) {c : Content} → IsSound rounds c → c.checkpoint ≡ None → IsNew [] c
-shown_new rounds sound none = let new = new_sound rounds sound.1 none in record { report = new.report; closed = new.closed; told_is = refl }
+shown_new rounds sound none = let new = new_sound rounds sound.1 none in record { report = new.report; closed = new.closed; said_is = refl }
 
--- and nothing was told
-pub told_none : (rounds : Rounds) (c : Content) (sound : IsSound rounds c) → c.checkpoint ≡ None → sound.0 ≡ []
-told_none rounds c sound none = (new_sound rounds sound.1 none).told_is
+-- and nothing was said
+pub said_none : (rounds : Rounds) (c : Content) (sound : IsSound rounds c) → c.checkpoint ≡ None → sound.0 ≡ []
+said_none rounds c sound none = (new_sound rounds sound.1 none).said_is
 
 pub none_found : (c : Content) {found : Option Checkpoint} → MatchOption found (c.checkpoint ≡ None) (λ k. IsAt k c) → found ≡ None → c.checkpoint ≡ None
 none_found c value is = subst (λ (o : Option Checkpoint). MatchOption o (c.checkpoint ≡ None) (λ k. IsAt k c)) is value

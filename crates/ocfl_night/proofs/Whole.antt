@@ -12,7 +12,7 @@ use Rattle.ocfl_state.specs.declared.checkpoint_parts.{Phase.{Phase}, Phase.TheV
 use Rattle.ocfl_identity.specs.declared.identity.Identity.{Identity}
 use Rattle.ocfl_night.specs.{Done.{Done, with_begun, with_made}, Ending.{IsSlice, cycle_ended, place_or_pause}, Leaving.{LeadsOn, remedy_at}, Looks.{Rounds}}
 use Rattle.ocfl_night.specs.{Promises.{HasCome, IsUncut}, Site.{IsAlike, with_root}, Sound.{IsAt, IsReady}}
-use Rattle.ocfl_night.specs.Steps.{IsComplete, IsFinished, IsOpened, closes_whole, fitted, left_at, what_is_left, with_all_told}
+use Rattle.ocfl_night.specs.Steps.{IsComplete, IsFinished, IsOpened, closes_whole, fitted, left_at, what_is_left, with_all_said}
 use Rattle.ocfl_night.specs.Runs.{Run, Turn, after_end, remedied, turn, turn_of}
 use Rattle.ocfl_night.specs.{declared.opening.Opened.{Opened}, declared.pause.Pause.{Pause}}
 use Rattle.ocfl_terms.specs.{declared.plan.Plan.{Plan}, declared.made.Made.{Made}}
@@ -130,8 +130,8 @@ first_whole none is at_first all = (
 )
 
 -- once all of it is said
-pub told_whole : (k : Checkpoint) {next : Checkpoint} {P : Type 0} → next ≡ with_all_told k → (IsTrue (closes_whole k) ↔ P) → (IsTrue (closes_whole next) ↔ P)
-told_whole k is fits = ((λ it. fits.0 (sym (ap closes_whole is) ∙ it)), (λ h. ap closes_whole is ∙ fits.1 h))
+pub said_whole : (k : Checkpoint) {next : Checkpoint} {P : Type 0} → next ≡ with_all_said k → (IsTrue (closes_whole k) ↔ P) → (IsTrue (closes_whole next) ↔ P)
+said_whole k is fits = ((λ it. fits.0 (sym (ap closes_whole is) ∙ it)), (λ h. ap closes_whole is ∙ fits.1 h))
 
 pub closing_by : (phase : Phase) (cycle n : ℕ) → cycle_ended phase cycle ≡ Some n → phase ≡ Closing
 closing_by Open cycle n is = absurd (cc is)

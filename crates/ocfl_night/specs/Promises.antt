@@ -25,7 +25,7 @@ OverShort told s Holds = IfTold told s (λ root. HasShortFiles root → Holds ro
 abbrev pub IfWalkAt : Bool → Store → Part → Checkpoint → KeptWalk → (StorageRoot → Type 0) → Type 0
 IfWalkAt told s part k kept Holds = IfTold told s (λ root. HasShortFiles root → IsWalkAt root part k kept → Holds root)
 
--- in a folder that is ready at a checkpoint, whatever text was told
+-- in a folder that is ready at a checkpoint, whatever text was said
 abbrev pub IfReadyIn : {F : Type 0} → state.Ghosts F → Rounds → Checkpoint → F → (Text → Type 0) → Type 0
 IfReadyIn S rounds k folder Holds = (t : Text) → IsReady S rounds t k folder → Holds t
 

@@ -19,7 +19,7 @@ closed_text closed = flat_map (λ d. d.report) closed
 
 -- The cycle goes on: its runs lead to the checkpoint's cursor. The report begins with the text of
 -- which the checkpoint has the length, the lines and the digests, and if nothing was lost that is
--- what the runs wrote. Of all the reports t was told.
+-- what the runs wrote. Of all the reports t was said.
 pub record IsOpen (rounds : Rounds) (t : Text) (k : Checkpoint) (c : Content) : Type 0 where
   pub phase : k.phase ≡ Open
   pub led : HasRuns LeadTo rounds k.left k.cursor
@@ -28,9 +28,9 @@ pub record IsOpen (rounds : Rounds) (t : Text) (k : Checkpoint) (c : Content) : 
   pub begins : Begins text c.report
   pub is_whole : k.whole ≡ true → text ≡ joined led.runs
   pub lossless : IfGiven rounds.known (k.whole ≡ true)
-  pub told : k.told ≤ k.report.bytes
+  pub said : k.said ≤ k.report.bytes
   pub earlier : HasClosed rounds (begun k.cursor).cycle c.closed
-  pub told_is : t ≡ closed_text earlier.all ++ take k.told text
+  pub said_is : t ≡ closed_text earlier.all ++ take k.said text
 
 -- the cycle has ended, and its report is to be closed
 pub record IsClosing (rounds : Rounds) (t : Text) (k : Checkpoint) (c : Content) : Type 0 where
@@ -40,20 +40,20 @@ pub record IsClosing (rounds : Rounds) (t : Text) (k : Checkpoint) (c : Content)
   pub report : k.report ≡ summary_of c.report
   pub is_whole : k.whole ≡ true → c.report ≡ joined led.runs
   pub lossless : IfGiven rounds.known (k.whole ≡ true)
-  pub told : k.told ≤ k.report.bytes
+  pub said : k.said ≤ k.report.bytes
   pub earlier : HasClosed rounds k.cursor.cycle c.closed
-  pub told_is : t ≡ closed_text earlier.all ++ take k.told c.report
+  pub said_is : t ≡ closed_text earlier.all ++ take k.said c.report
 
--- it is closed, which is seen by its closed report, and all of it was told
+-- it is closed, which is seen by its closed report, and all of it was said
 pub record IsMoved (rounds : Rounds) (t : Text) (k : Checkpoint) (c : Content) : Type 0 where
   pub phase : k.phase ≡ Closing
   pub ends : k.cursor.state ≡ ended
   pub checks : k.cursor.further ≡ rounds.further
   pub empty : c.report ≡ []
   pub there : IsTrue (is_closed c.closed k.cursor.cycle)
-  pub told : k.told ≡ k.report.bytes
+  pub said : k.said ≡ k.report.bytes
   pub earlier : HasClosed rounds (k.cursor.cycle + 1) c.closed
-  pub told_is : t ≡ closed_text earlier.all
+  pub said_is : t ≡ closed_text earlier.all
 
 abbrev pub Stands : Rounds → Text → Checkpoint → Content → Type 0
 Stands rounds t k c = IsOpen rounds t k c ⊎ (IsClosing rounds t k c ⊎ IsMoved rounds t k c)
@@ -62,7 +62,7 @@ Stands rounds t k c = IsOpen rounds t k c ⊎ (IsClosing rounds t k c ⊎ IsMove
 pub record IsNew (t : Text) (c : Content) : Type 0 where
   pub report : c.report ≡ []
   pub closed : c.closed ≡ []
-  pub told_is : t ≡ []
+  pub said_is : t ≡ []
 
 -- these are the text of a checkpoint, and the report and the closed ones are as it says
 pub record IsMarked (rounds : Rounds) (t : Text) (bytes : List ℕ) (c : Content) : Type 0 where
@@ -70,7 +70,7 @@ pub record IsMarked (rounds : Rounds) (t : Text) (bytes : List ℕ) (c : Content
   pub is : IsCheckpointText bytes checkpoint
   pub stands : Stands rounds t checkpoint c
 
--- a content is as these rounds of nights leave it, which have told this text
+-- a content is as these rounds of nights leave it, which have said this text
 abbrev pub IsSoundAt : Rounds → Text → Content → Type 0
 IsSoundAt rounds t c = MatchOption c.checkpoint (IsNew t c) (λ bytes. IsMarked rounds t bytes c)
 
@@ -108,17 +108,17 @@ pub record IsReady {F : Type 0} (S : state.Ghosts F) (rounds : Rounds) (t : Text
 pub record IsAllSaid (c : Content) : Type 0 where
   pub checkpoint : Checkpoint
   pub at : IsAt checkpoint c
-  pub all : checkpoint.told ≡ checkpoint.report.bytes
+  pub all : checkpoint.said ≡ checkpoint.report.bytes
 
 -- ---- what an output heard
 
--- what was told is t and more, and if there is more, an output has taken that since then
+-- what was said is t and more, and if there is more, an output has taken that since then
 pub record IsHeard (rounds : Rounds) (t : Text) (old new : Said) (c : Content) : Type 0 where
   pub more : Text
   pub sound : IsSoundAt rounds (t ++ more) c
   pub took : more ≢ [] → HasTaken more old new
 
--- a folder is ready, with t and more told: the more was given to an output since then, and if there is
+-- a folder is ready, with t and more said: the more was given to an output since then, and if there is
 -- more, it has committed that
 pub record IsHeardReady {F : Type 0} (S : state.Ghosts F) (rounds : Rounds) (t : Text) (old new : Said) (k : Checkpoint) (folder : F) : Type 0 where
   pub more : Text
@@ -126,25 +126,25 @@ pub record IsHeardReady {F : Type 0} (S : state.Ghosts F) (rounds : Rounds) (t :
   pub given : Appends old.given new.given more
   pub all : more ≢ [] → new.committed ≡ new.given
 
--- what one of these outcomes told, each of which is sound, is told still
+-- what one of these outcomes said, each of which is sound, is said still
 pub record IsFound (rounds : Rounds) (outcomes : Outcomes) (sound : AreSound rounds outcomes) (c : Content) : Type 0 where
   pub from : Content
   pub was : outcomes from
   pub now : IsSoundAt rounds (sound from was).0 c
 
--- a folder is ready, with what one of them told
+-- a folder is ready, with what one of them said
 pub record IsFoundReady {F : Type 0} (S : state.Ghosts F) (rounds : Rounds) (outcomes : Outcomes) (sound : AreSound rounds outcomes) (k : Checkpoint) (folder : F) : Type 0 where
   pub from : Content
   pub was : outcomes from
   pub ready : IsReady S rounds (sound from was).0 k folder
 
--- what one of them told is told still, and more than that only if an output took it
+-- what one of them said is said still, and more than that only if an output took it
 pub record IsHeardSince (rounds : Rounds) (outcomes : Outcomes) (sound : AreSound rounds outcomes) (old new : Said) (c : Content) : Type 0 where
   pub from : Content
   pub was : outcomes from
   pub heard : IsHeard rounds (sound from was).0 old new c
 
--- a folder is ready, with what one of them told and what an output took since then
+-- a folder is ready, with what one of them said and what an output took since then
 pub record IsReadySince {F : Type 0} (S : state.Ghosts F) (rounds : Rounds) (outcomes : Outcomes) (sound : AreSound rounds outcomes) (old new : Said) (k : Checkpoint) (folder : F) : Type 0 where
   pub from : Content
   pub was : outcomes from
@@ -168,7 +168,7 @@ pub record IsOneMore (rounds : Rounds) (cycle : ℕ) (old new : Content) : Type 
   pub before : ((d : Closed) × (new.closed ≡ old.closed ++ d ∷ [])) ⊎ ((new.closed ≡ old.closed) × IsShut cycle old)
 
 -- What a night promises: if each crash before it leaves a sound content, so does each since then, and
--- more than was told is told only if the output has committed it. That holds whatever looks the runs are
+-- more than was said is said only if the output has committed it. That holds whatever looks the runs are
 -- within, if that of this night is within one of them.
 abbrev pub IsSafeNight : {F : Type 0} → state.Ghosts F → Further → Part → Look → F → F → Said → Said → Type 0
 IsSafeNight S further part look from to old new =

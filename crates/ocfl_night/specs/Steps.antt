@@ -23,12 +23,12 @@ use Rattle.ocfl_terms.specs.declared.plan.Halt.TheVariants as halt
 -- ---- what is made of a checkpoint
 
 -- all of its report is said
-abbrev pub with_all_told : Checkpoint → Checkpoint
-with_all_told k = record k { told = k.report.bytes }
+abbrev pub with_all_said : Checkpoint → Checkpoint
+with_all_said k = record k { said = k.report.bytes }
 
 -- that of the next cycle, of whose report there is nothing yet
 abbrev pub begun_anew : Checkpoint → Checkpoint
-begun_anew k = record k { phase = Open; whole = true; report = no_report; told = 0; left = [] }
+begun_anew k = record k { phase = Open; whole = true; report = no_report; said = 0; left = [] }
 
 -- a branch is left out where the cursor is
 abbrev pub left_at : Place → Checkpoint → Left
@@ -52,7 +52,7 @@ pub record IsNext (k : Checkpoint) (ran : RunEnd) (report : ReportMark) (next : 
 -- that of a report of which this is left: as much of it counts as said as did, but no more than
 -- there is
 abbrev pub shortened : ReportMark → Checkpoint → Checkpoint
-shortened there k = record k { whole = false; report = there; told = min k.told there.bytes }
+shortened there k = record k { whole = false; report = there; said = min k.said there.bytes }
 
 -- that with what is left of its report, if bytes of it were lost or changed
 abbrev pub fitted : Option ReportMark → Checkpoint → Checkpoint
@@ -93,7 +93,7 @@ first_opened site id = record { checkpoint = first_checkpoint site id; lost = fa
 
 -- what was not said of the report
 abbrev pub unsaid : Checkpoint → Content → Text
-unsaid k c = take (k.report.bytes - k.told) (drop k.told c.report)
+unsaid k c = take (k.report.bytes - k.said) (drop k.said c.report)
 
 -- ---- what is done to a folder
 

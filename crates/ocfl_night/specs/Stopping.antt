@@ -13,13 +13,13 @@ use Rattle.ocfl_state.specs.declared.checkpoint_parts.ReportMark.{ReportMark}
 use Rattle.ocfl_state.specs.declared.folder.StateFolder as state
 use Rattle.ocfl_state.specs.declared.folder.FolderTrouble.TheVariants.{Failed, Full, Taken, Memory}
 use Rattle.ocfl_night.specs.{Beginning.{BeginsAt}, Ending.{IsNextBy, KeepsTo, cycle_of, place_or_pause}, Leaving.{branch_at, has_end}}
-use Rattle.ocfl_night.specs.{Looks.{Rounds}, Site.{IsAlike, IsOfSite, first_checkpoint}, Sound.{IsKept}, Steps.{begun_anew, with_all_told, with_left}}
+use Rattle.ocfl_night.specs.{Looks.{Rounds}, Site.{IsAlike, IsOfSite, first_checkpoint}, Sound.{IsKept}, Steps.{begun_anew, with_all_said, with_left}}
 use Rattle.ocfl_terms.specs.Output.{HasFailed, Said}
 use Rattle.ocfl_night.specs.{declared.looking.NotKept.{NotKept}, declared.not_opened.NotOpened.{NotOpened}, declared.site.Site.{Site}}
 use Rattle.ocfl_terms.specs.{declared.made.Made.{Made}, declared.stop.Stop.{Stop}}
 use Rattle.ocfl_night.specs.declared.looking.NotKept.TheVariants as unkept
 use Rattle.ocfl_night.specs.declared.not_opened.NotOpened.TheVariants as unopened
-use Rattle.ocfl_terms.specs.declared.stop.Stop.TheVariants.{Folder, TooLong, Unread, Worn, Endless, Unsaid, Overtold, Short, Output}
+use Rattle.ocfl_terms.specs.declared.stop.Stop.TheVariants.{Folder, TooLong, Unread, Worn, Endless, Unsaid, Oversaid, Short, Output}
 
 -- ---- of any step
 
@@ -66,13 +66,13 @@ IsReadStop (unopened.Troubled why) = ⊥
 
 -- a checkpoint has no text: it tells more than its report has, or memory was refused
 abbrev pub IsTextStop : Checkpoint → Stop → Type 0
-IsTextStop k Overtold = k.report.bytes < k.told
+IsTextStop k Oversaid = k.report.bytes < k.said
 IsTextStop k (Folder Memory) = ⊤
 IsTextStop k why = ⊥
 
 -- one of these checkpoints is not put: it tells more than its report has, or its text is too long
 abbrev pub ForPut : (Checkpoint → Type 0) → Type 0 → Stop → Type 0
-ForPut OneOf Told Overtold = (k : Checkpoint) × (OneOf k × (k.report.bytes < k.told))
+ForPut OneOf Told Oversaid = (k : Checkpoint) × (OneOf k × (k.report.bytes < k.said))
 ForPut OneOf Told (TooLong text) = IsTooLong OneOf text.items
 ForPut OneOf Told why = ⊥
 
@@ -99,13 +99,13 @@ pub record IsToOpen (Told : Type 0) (site : Site) (id : Identity) (create : Bool
 
 -- a night is not opened, with one of these checkpoints
 abbrev pub ForOpen : (Checkpoint → Type 0) → Content → Type 0 → Stop → Type 0
-ForOpen OneOf c Told Overtold = Told → ⊥
+ForOpen OneOf c Told Oversaid = Told → ⊥
 ForOpen OneOf c Told (TooLong text) = IsTooLong OneOf text.items
 ForOpen OneOf c Told why = ForLook c Told why
 
 -- a report is not closed: not all of it was said, or the checkpoint of the next cycle is too long
 abbrev pub ForClose : Checkpoint → Type 0 → Stop → Type 0
-ForClose k Told Unsaid = k.told ≢ k.report.bytes
+ForClose k Told Unsaid = k.said ≢ k.report.bytes
 ForClose k Told (TooLong text) = IsTooLong (λ next. next ≡ begun_anew k) text.items
 ForClose k Told why = ⊥
 
@@ -117,10 +117,10 @@ ForSay c end old new Told why = ⊥
 
 -- what a checkpoint did not say is not said
 abbrev pub ForSpeak : Checkpoint → Content → Said → Said → Type 0 → Stop → Type 0
-ForSpeak k c old new Told Overtold = k.report.bytes < k.told
-ForSpeak k c old new Told Short = Told → (k.told < k.report.bytes) × (length c.report < k.report.bytes)
+ForSpeak k c old new Told Oversaid = k.report.bytes < k.said
+ForSpeak k c old new Told Short = Told → (k.said < k.report.bytes) × (length c.report < k.report.bytes)
 ForSpeak k c old new Told Output = HasFailed old.failures new.failures
-ForSpeak k c old new Told (TooLong text) = IsTooLong (λ next. next ≡ with_all_told k) text.items
+ForSpeak k c old new Told (TooLong text) = IsTooLong (λ next. next ≡ with_all_said k) text.items
 ForSpeak k c old new Told why = ⊥
 
 -- no place comes after all that the last of some branches has
@@ -152,7 +152,7 @@ ForExtend mark c Told why = ⊥
 -- its report has, or one of these checkpoints after the run is too long
 abbrev pub ForKeep : (Checkpoint → Type 0) → Checkpoint → Content → Type 0 → Stop → Type 0
 ForKeep OneOf k c Told (Folder why) = k.report ≢ summary_of c.report
-ForKeep OneOf k c Told Overtold = Told → k.report ≡ summary_of c.report → k.report.bytes < k.told
+ForKeep OneOf k c Told Oversaid = Told → k.report ≡ summary_of c.report → k.report.bytes < k.said
 ForKeep OneOf k c Told (TooLong text) = IsTooLong OneOf text.items
 ForKeep OneOf k c Told why = ⊥
 
@@ -199,7 +199,7 @@ pub record IsPutFrom (start k : Checkpoint) : Type 0 where
 abbrev pub ForRuns : Type 0 → Checkpoint → ℕ → Type 0 → Stop → Type 0
 ForRuns Silenced start runs Told Worn = IsWornAfter start runs
 ForRuns Silenced start runs Told Endless = IsEndless start.left
-ForRuns Silenced start runs Told Overtold = Told → ⊥
+ForRuns Silenced start runs Told Oversaid = Told → ⊥
 ForRuns Silenced start runs Told Short = Told → ⊥
 ForRuns Silenced start runs Told Output = Silenced
 ForRuns Silenced start runs Told (TooLong text) = IsTooLong (IsPutFrom start) text.items
@@ -237,7 +237,7 @@ ForNight IsUnreadAt IsOf n Told (TooLong text) = IsTooLong (IsPutIn IsOf n Told)
 ForNight IsUnreadAt IsOf n Told (Unread p) = IsUnreadAt p
 ForNight IsUnreadAt IsOf n Told Worn = Told → FromStart n (λ start. IsWornAfter start n.runs)
 ForNight IsUnreadAt IsOf n Told Endless = Told → FromStart n (λ start. IsEndless start.left)
-ForNight IsUnreadAt IsOf n Told Overtold = Told → ⊥
+ForNight IsUnreadAt IsOf n Told Oversaid = Told → ⊥
 ForNight IsUnreadAt IsOf n Told Short = Told → ⊥
 ForNight IsUnreadAt IsOf n Told Output = HasFailed n.old.failures n.new.failures
 ForNight IsUnreadAt IsOf n Told why = ⊥

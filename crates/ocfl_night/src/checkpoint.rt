@@ -7,7 +7,8 @@ ghost use Rattle.ocfl_night.specs.Older.{IsNumber, open_cycle};
 ghost use Rattle.ocfl_night.specs.{Refusing.{HasUnread, IfRefused, IsUnread}, Site.{no_report}, Sound.{IsAt}};
 ghost use Rattle.ocfl_night.specs.Stopping.{ForLook, ForPut, IsReadStop, IsTextStop, OpensFor, StopsFor};
 ghost use Rattle.ocfl_terms.specs.declared.refusal.Refusal.{Refusal as ModelRefusal};
-ghost use Rattle.ocfl_night.specs.Steps.{IsCheckpointPut, MayCheckpoint, begun_anew, closes_whole, with_all_told};
+ghost use Rattle.ocfl_night.specs.Steps.{IsCheckpointPut, MayCheckpoint, begun_anew};
+ghost use Rattle.ocfl_night.specs.Steps.{closes_whole, with_all_said};
 
 use crate::not_opened::NotOpened;
 use ocfl_cursor::{Cursor, Refused, State};
@@ -46,10 +47,10 @@ pub(crate) fn report_of(checkpoint: &Checkpoint) -> ReportMark
     checkpoint.report
 }
 
-pub(crate) fn told_of(checkpoint: &Checkpoint) -> u64
-    ensures { result ≡ checkpoint.now.told }
+pub(crate) fn said_of(checkpoint: &Checkpoint) -> u64
+    ensures { result ≡ checkpoint.now.said }
 {
-    checkpoint.told
+    checkpoint.said
 }
 
 pub(crate) fn cycle_of(checkpoint: &Checkpoint) -> u64
@@ -70,17 +71,17 @@ pub(crate) fn open_cycle_of(checkpoint: &Checkpoint) -> Option<u64>
 }
 
 /// Whether all of the report is said.
-pub(crate) fn is_all_told(checkpoint: &Checkpoint) -> bool
-    ensures { IsTrue result ↔ (checkpoint.now.told ≡ checkpoint.now.report.bytes) }
+pub(crate) fn is_all_said(checkpoint: &Checkpoint) -> bool
+    ensures { IsTrue result ↔ (checkpoint.now.said ≡ checkpoint.now.report.bytes) }
 {
-    checkpoint.told == checkpoint.report.bytes
+    checkpoint.said == checkpoint.report.bytes
 }
 
 /// Whether no more was said than the report has.
 pub(crate) fn tells_within(checkpoint: &Checkpoint) -> bool
-    ensures { IsTrue result ↔ (checkpoint.now.told ≤ checkpoint.now.report.bytes) }
+    ensures { IsTrue result ↔ (checkpoint.now.said ≤ checkpoint.now.report.bytes) }
 {
-    checkpoint.told <= checkpoint.report.bytes
+    checkpoint.said <= checkpoint.report.bytes
 }
 
 /// The state of a cursor again.
@@ -130,10 +131,10 @@ pub(crate) fn no_report() -> ReportMark
 }
 
 /// The checkpoint once all of its report is said.
-pub(crate) fn with_all_told(mut checkpoint: Checkpoint) -> Checkpoint
-    ensures { result ≡ with_all_told checkpoint }
+pub(crate) fn with_all_said(mut checkpoint: Checkpoint) -> Checkpoint
+    ensures { result ≡ with_all_said checkpoint }
 {
-    checkpoint.told = checkpoint.report.bytes;
+    checkpoint.said = checkpoint.report.bytes;
     checkpoint
 }
 
@@ -145,21 +146,21 @@ pub(crate) fn begun_anew(alloc: Global, mut checkpoint: Checkpoint) -> Checkpoin
     checkpoint.phase = Phase::Open;
     checkpoint.whole = true;
     checkpoint.report = report;
-    checkpoint.told = 0;
+    checkpoint.said = 0;
     checkpoint.left = Vec::new(alloc);
     checkpoint
 }
 
 // ---- in the folder
 
-/// The text of a checkpoint, which is read as that checkpoint. `Overtold` if it tells more than
-/// its report has.
+/// The text of a checkpoint, which is read as that checkpoint. `Oversaid` if it counts more as
+/// said than its report has.
 fn text_of(alloc: Global, checkpoint: &Checkpoint) -> Result<Vec<u8>, Stop>
     ensures text { IfOk result (λ text. IsCheckpointText text.items checkpoint.now) }
     ensures stop { IfErr result (IsTextStop checkpoint.now) }
 {
     if !tells_within(checkpoint) {
-        return Err(Stop::Overtold);
+        return Err(Stop::Oversaid);
     }
     every_checkpoint_fits(checkpoint);
     Ok(encode_checkpoint(alloc, checkpoint)?)
@@ -167,7 +168,8 @@ fn text_of(alloc: Global, checkpoint: &Checkpoint) -> Result<Vec<u8>, Stop>
 
 /// Puts a checkpoint. After `Ok` it is on the disk.
 ///
-/// `Overtold` for a checkpoint that tells more than its report has: it would not be read again.
+/// `Oversaid` for a checkpoint that counts more as said than its report has: it would not be read
+/// again.
 /// `TooLong` for one whose text is longer than 1 MiB, with that text.
 #[tactic(auto, using(crate::proofs::Lasting::put_at))]
 pub fn put_checkpoint<S: StateFolder>(

@@ -10,7 +10,7 @@ ghost use Rattle.ocfl_night.specs.Steps.{IsClosedExactly, IsFinished, IsMoveDone
 ghost use Rattle.ocfl_night.specs.Stopping.{ForClose, ForNoOther, StopsFor};
 
 use crate::checkpoint::{
-    begun_anew, cycle_of, is_all_told, phase_of, put_checkpoint, report_of, whole_of,
+    begun_anew, cycle_of, is_all_said, phase_of, put_checkpoint, report_of, whole_of,
 };
 use ocfl_state::{Checkpoint, Phase, StateFolder, may_close_whole};
 use ocfl_terms::Stop;
@@ -80,11 +80,11 @@ fn close<S: StateFolder>(
     ensures finished { IsTrue S.told → OnOk result
         (IsFinished checkpoint (S.seen folder.old) (S.seen folder.new)) }
     ensures crash { IsTrue S.told → OnlyGoesOn S.StateFolder checkpoint folder.old folder.new }
-    ensures all { IfOk result (λ next. next.told ≡ next.report.bytes) }
+    ensures all { IfOk result (λ next. next.said ≡ next.report.bytes) }
     ensures stop { StopsFor (IsTrue S.told) (ForClose checkpoint)
         (S.faults folder.old) (S.faults folder.new) result }
 {
-    if !is_all_told(&checkpoint) {
+    if !is_all_said(&checkpoint) {
         return Err(Stop::Unsaid);
     }
     move_as(folder, &checkpoint)?;
@@ -109,7 +109,7 @@ pub fn finish<S: StateFolder>(
     ensures stands { IsTrue S.told → IsAt checkpoint (S.seen folder.old)
         → OnOk result (StandsAt (S.seen folder.new) (goes_on_at checkpoint)) }
     ensures said { IsTrue S.told → IfReady S.StateFolder checkpoint folder.old
-        (λ _ _. checkpoint.told ≡ checkpoint.report.bytes
+        (λ _ _. checkpoint.said ≡ checkpoint.report.bytes
         → OnOk result (IsAllSaid (S.seen folder.new))) }
     // It is closed as whole exactly if nothing of it was lost, no branch was left out, and it is as
     // the checkpoint says. The next cycle begins as one of which nothing is lost or left out.

@@ -361,7 +361,7 @@ fn catch_up<S: StateFolder, O: Output>(
         → HasLost (S.seen folder.old) }
     ensures whole { IsTrue S.told → IfOk result (λ k. IsTrue (closes_whole k)
         ↔ ((lost.new ≡ false) × IsUncut (S.seen folder.old))) }
-    ensures all { IfOk result (λ k. k.told ≡ k.report.bytes) }
+    ensures all { IfOk result (λ k. k.said ≡ k.report.bytes) }
     ensures begins { IsTrue S.told
         → IfOk result (BeginsAt site.now.further plan.now.create (S.seen folder.old)) }
     ensures own { IfOk result (IsOfSite site.now identity.now) }
@@ -567,7 +567,7 @@ pub fn night<S: StateFolder, T: Tree, C: Clock, O: Output>(
         (λ rounds. IsKept S.StateFolder rounds folder.old
         → IsKept S.StateFolder rounds folder.new)) }
 
-    // Nothing more is told, at any moment, than was told before and the output has committed since.
+    // Nothing more is said, at any moment, than was said before and the output has committed since.
     // All of it was written by runs over this root, which could not read more than this night could
     // not, or by those of before.
     ensures heard { IsTrue S.told → OverShort T.told (T.state tree.old) (λ root.

@@ -185,7 +185,7 @@ fn shortened(mut checkpoint: Checkpoint, report: ReportMark) -> Checkpoint
     ensures { result ≡ shortened report checkpoint }
 {
     checkpoint.whole = false;
-    checkpoint.told = checkpoint.told.min(report.bytes);
+    checkpoint.said = checkpoint.said.min(report.bytes);
     checkpoint.report = report;
     checkpoint
 }

@@ -183,7 +183,7 @@ pub(crate) fn first_checkpoint(
         phase: Phase::Open,
         whole: true,
         report,
-        told: 0,
+        said: 0,
         left: Vec::new(alloc),
         part,
         cursor: Cursor::new(site.further),

@@ -5,11 +5,11 @@ ghost use Rattle.ocfl_state.specs.Crash.{LeavesOnly, Passes, Same};
 ghost use Rattle.ocfl_night.specs.Again.{OnlyGoesOn};
 ghost use Rattle.ocfl_terms.specs.Output.{Grows, HasCommitted};
 ghost use Rattle.ocfl_night.specs.{Promises.{IfReady, SameClosed}, Sound.{IsAt, IsHeard, IsHeardReady}};
-ghost use Rattle.ocfl_night.specs.Steps.{unsaid, with_all_told};
+ghost use Rattle.ocfl_night.specs.Steps.{unsaid, with_all_said};
 ghost use Rattle.ocfl_night.specs.Stopping.{ForSay, ForSpeak, StopsFor};
 
 use crate::checkpoint::{
-    bytes_of, is_all_told, put_checkpoint, tells_within, told_of, with_all_told,
+    bytes_of, is_all_said, put_checkpoint, said_of, tells_within, with_all_said,
 };
 use ocfl_state::{Checkpoint, StateFolder};
 use ocfl_terms::{Output, Stop};
@@ -42,9 +42,9 @@ fn say_piece<S: StateFolder, O: Output>(
     if count == 0 {
         return Err(Stop::Short);
     }
-    let told = (count as u64).min(most);
-    out.give(&piece[..told as usize])?;
-    Ok(told)
+    let given = (count as u64).min(most);
+    out.give(&piece[..given as usize])?;
+    Ok(given)
 }
 
 /// Gives the output the report's bytes from one offset to another.
@@ -78,7 +78,7 @@ fn say_rest<S: StateFolder, O: Output>(
     out: &mut O,
     checkpoint: &Checkpoint,
 ) -> Result<(), Stop>
-    requires { checkpoint.now.told ≤ checkpoint.now.report.bytes }
+    requires { checkpoint.now.said ≤ checkpoint.now.report.bytes }
     ensures said { IsTrue S.told → OnOk result (HasCommitted
         (unsaid checkpoint.now (S.seen folder.old)) (O.said out.old) (O.said out.new)) }
     ensures grew { Grows (O.said out.old) (O.said out.new) }
@@ -89,7 +89,7 @@ fn say_rest<S: StateFolder, O: Output>(
         checkpoint.now.report.bytes (O.said out.old) (O.said out.new))
         (S.faults folder.old) (S.faults folder.new) result }
 {
-    say_between(folder, out, told_of(checkpoint), bytes_of(checkpoint))?;
+    say_between(folder, out, said_of(checkpoint), bytes_of(checkpoint))?;
     out.commit()?;
     Ok(())
 }
@@ -107,7 +107,7 @@ pub fn speak<S: StateFolder, O: Output>(
     ensures ready { IsTrue S.told → IfReady S.StateFolder checkpoint folder.old
         (λ rounds t. IfOk result (λ next. IsHeardReady S.StateFolder rounds t
         (O.said out.old) (O.said out.new) next folder.new)) }
-    ensures all { IfOk result (λ next. next ≡ with_all_told checkpoint) }
+    ensures all { IfOk result (λ next. next ≡ with_all_said checkpoint) }
     ensures crash { IsTrue S.told → OnlyGoesOn S.StateFolder checkpoint folder.old folder.new }
     ensures grew { Grows (O.said out.old) (O.said out.new) }
     ensures closed { IsTrue S.told → OnOk result (SameClosed S.StateFolder folder.old folder.new) }
@@ -116,14 +116,14 @@ pub fn speak<S: StateFolder, O: Output>(
     ensures stop { StopsFor (IsTrue S.told) (ForSpeak checkpoint (S.seen folder.old)
         (O.said out.old) (O.said out.new)) (S.faults folder.old) (S.faults folder.new) result }
 {
-    if is_all_told(&checkpoint) {
+    if is_all_said(&checkpoint) {
         return Ok(checkpoint);
     }
     if !tells_within(&checkpoint) {
-        return Err(Stop::Overtold);
+        return Err(Stop::Oversaid);
     }
     say_rest(folder, out, &checkpoint)?;
-    let next = with_all_told(checkpoint);
+    let next = with_all_said(checkpoint);
     put_checkpoint(alloc, folder, &next)?;
     Ok(next)
 }

@@ -37,7 +37,7 @@ pub sound_whole : (rounds : Rounds) (c : Content) → IsSound rounds c → AreWh
 sound_whole rounds c sound = found_whole rounds sound.0 c.checkpoint c sound.1
 
 pub empty_sound : (rounds : Rounds) (c : Content) → c ≡ empty → IsSoundAt rounds [] c
-empty_sound rounds c is = subst (λ (x : Content). IsSoundAt rounds [] x) (sym is) (record { report = refl; closed = refl; told_is = refl })
+empty_sound rounds c is = subst (λ (x : Content). IsSoundAt rounds [] x) (sym is) (record { report = refl; closed = refl; said_is = refl })
 
 -- ---- closed reports that are taken away
 
@@ -55,9 +55,9 @@ module _ (rounds : Rounds) (t : Text) {gone : List ℕ} (goes : (cycle : ℕ) �
     begins = subst (Begins o.text) (sym tidied.report) o.begins;
     is_whole = o.is_whole;
     lossless = o.lossless;
-    told = o.told;
+    said = o.said;
     earlier = has_tidied tidied o.earlier;
-    told_is = o.told_is;
+    said_is = o.said_is;
   })
   tidied_stands k d c at tidied (inr (inl w)) = inr (inl (record {
     phase = w.phase;
@@ -66,9 +66,9 @@ module _ (rounds : Rounds) (t : Text) {gone : List ℕ} (goes : (cycle : ℕ) �
     report = w.report ∙ ap summary_of (sym tidied.report);
     is_whole = λ whole. tidied.report ∙ w.is_whole whole;
     lossless = w.lossless;
-    told = w.told;
+    said = w.said;
     earlier = has_tidied tidied w.earlier;
-    told_is = w.told_is ∙ ap (λ (l : Text). closed_text w.earlier.all ++ take k.told l) (sym tidied.report);
+    said_is = w.said_is ∙ ap (λ (l : Text). closed_text w.earlier.all ++ take k.said l) (sym tidied.report);
   }))
   tidied_stands k d c at tidied (inr (inr w)) = inr (inr (record {
     phase = w.phase;
@@ -76,16 +76,16 @@ module _ (rounds : Rounds) (t : Text) {gone : List ℕ} (goes : (cycle : ℕ) �
     checks = w.checks;
     empty = tidied.report ∙ w.empty;
     there = tidied.stays k at w.phase w.there;
-    told = w.told;
+    said = w.said;
     earlier = has_tidied tidied w.earlier;
-    told_is = w.told_is;
+    said_is = w.said_is;
   }))
 
   tidied_new : (d c : Content) → IsTidied gone d c → IsNew t d → IsNew t c
   tidied_new d c tidied new = record {
     report = tidied.report ∙ new.report;
     closed = subst (λ (l : List Closed). AreLeft (IsAmong gone) l c.closed) new.closed tidied.closed;
-    told_is = new.told_is;
+    said_is = new.said_is;
   }
 
   tidied_as : (o : Option (List ℕ)) (d c : Content) → d.checkpoint ≡ o → IsTidied gone d c → MatchOption o (IsNew t d) (λ bytes. IsMarked rounds t bytes d) → MatchOption o (IsNew t c) (λ bytes. IsMarked rounds t bytes c)

@@ -93,10 +93,10 @@ rounds_of further part nights = record { part = part; further = further; known =
 -- a text is joined from what each of these nights' outputs was given first and has committed, the last
 -- night first
 abbrev pub IsTaken : {F : Type 0} → List (Night F) → Text → Type 0
-IsTaken [] told = told ≡ []
-IsTaken (n ∷ earlier) told = (t : Text) × ((more : Text) × ((told ≡ t ++ more) × ((more ≢ [] → HasTaken more n.before n.said) × IsTaken earlier t)))
+IsTaken [] said = said ≡ []
+IsTaken (n ∷ earlier) said = (t : Text) × ((more : Text) × ((said ≡ t ++ more) × ((more ≢ [] → HasTaken more n.before n.said) × IsTaken earlier t)))
 
--- at any moment of each night, what was told was committed by its output and those before it
+-- at any moment of each night, what was said was committed by its output and those before it
 abbrev pub AllTaken : {F : Type 0} → state.Ghosts F → Rounds → List (Night F) → List (Night F) → Type 0
 AllTaken S rounds earlier [] = ⊤
 AllTaken S rounds earlier (n ∷ nights) =

@@ -4,7 +4,7 @@
 //! # What is proved
 //!
 //! - Of any nights over one root, from an empty folder on, each ended or crashed at any moment:
-//!   what is left is sound, and what was told was committed. A closed report that is called whole
+//!   what is left is sound, and what was said was committed. A closed report that is called whole
 //!   is the audit, in which only files are called unreadable that one of the nights could not read;
 //!   any other is the audit around branches that were left out, if all was read. Between two nights
 //!   closed reports may be taken away, but not that of a checkpoint's cycle while the checkpoint

@@ -53,9 +53,9 @@ pub fn nights_are_sound<S: StateFolder>()
         nights }
 {}
 
-/// Whatever such nights there were: what was told at any moment is what their outputs have
+/// Whatever such nights there were: what was said at any moment is what their outputs have
 /// committed.
-pub fn what_was_told_was_taken<S: StateFolder>()
+pub fn what_was_said_was_taken<S: StateFolder>()
     ensures { (further : Further) (part : Part) (nights : List (Night S))
         → AreNights S.StateFolder further part (λ c. c ≡ empty) nights
         → AllTaken S.StateFolder (of_any further part) [] nights }

@@ -27,9 +27,9 @@ is_kept _ = true
 abbrev pub lacks : NightEnd → ℕ → Bool
 lacks e broken = e.lost || nat_lt 0 broken || not (length e.left.items == 0)
 
--- the greatest of what its end, what it lacks and found, and what was told of closed cycles give
+-- the greatest of what its end, what it lacks and found, and what was said of closed cycles give
 abbrev pub night_status : NightEnd → ℕ → ℕ → ℕ → ℕ
-night_status e broken findings told = max (max (halt_status e.end) (found_status (lacks e broken) findings)) told
+night_status e broken findings closings = max (max (halt_status e.end) (found_status (lacks e broken) findings)) closings
 
 -- whether a folder that was refused is one of these nights: one of another root, part, audit or program
 -- is left as it is

@@ -36,13 +36,13 @@ fn lacks(end: &NightEnd, broken: u64) -> bool
 }
 
 /// The exit status of a night: the greatest of what its end gives, 3 if it lacks something, 1 if
-/// findings were said, and what was told of closed cycles. `broken` is how many lines of the report
+/// findings were said, and what was said of closed cycles. `broken` is how many lines of the report
 /// are none, and `findings` how many findings were said.
-pub fn night_status(end: &NightEnd, broken: u64, findings: u64, told: u8) -> u8
-    ensures { result ≡ night_status end.now broken findings told }
+pub fn night_status(end: &NightEnd, broken: u64, findings: u64, closings: u8) -> u8
+    ensures { result ≡ night_status end.now broken findings closings }
 {
     let found = status_found(lacks(end, broken), findings);
-    status_of(&end.end).max(found).max(told)
+    status_of(&end.end).max(found).max(closings)
 }
 
 /// Whether a folder that was refused is one of these nights: one of another root, part, audit or

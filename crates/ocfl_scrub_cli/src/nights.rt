@@ -7,7 +7,7 @@ mod speaking;
 use crate::nights::clock::stop_file;
 use crate::nights::speaking::Words;
 use ocfl_arguments::NightAsked;
-use ocfl_closing::closing::{ToldBy, tell_closings};
+use ocfl_closing::closing::{SaidBy, tell_closings};
 use ocfl_digest::Block;
 use ocfl_endings::{RunLog, Runs};
 use ocfl_files::failing::Failure;
@@ -16,7 +16,7 @@ use ocfl_files::timing::seconds_now;
 use ocfl_folder::FsTree;
 use ocfl_given::given::{Found, Given, find_given, program_digest, text_of};
 use ocfl_given::planning::{find_plan, last_cost};
-use ocfl_journal::ending::{Ended, EndedFolder, end_night, log_ended, log_unbegun, status_told};
+use ocfl_journal::ending::{Ended, EndedFolder, end_night, log_ended, log_unbegun, say_if_failed};
 use ocfl_journal::noting::{Beside, Noting, open_noting};
 use ocfl_journal::{NightLog, SystemLog};
 use ocfl_kept::room::Room;
@@ -170,7 +170,7 @@ where
     Runs {
         end,
         why: why_of(rt.global(), &reasons, tree.reason_of_last()),
-        told: noting.told_by(out.into_message().speaker, clock.listener.journal()),
+        totals: noting.totals_by(out.into_message().speaker, clock.listener.journal()),
     }
 }
 
@@ -249,14 +249,14 @@ where
     let Some(closed) = ended.closed else {
         return 0;
     };
-    let told = ToldBy {
+    let said_by = SaidBy {
         about: given.about(),
         expected: text_of(&given.asked.expected),
-        said: &ended.told.said,
+        said: &ended.totals.said,
         before: folder.before,
         closed,
     };
-    tell_closings(rt, &mut folder.folder, told, &mut io::writer(rt))
+    tell_closings(rt, &mut folder.folder, said_by, &mut io::writer(rt))
 }
 
 /// Says and logs how a night ended, and what the cycles found that were closed. Gives its status.
@@ -354,5 +354,5 @@ where
         output: terminals.error && terminals.output,
         error: terminals.error,
     };
-    status_told(rt, make_asked(rt, asked, shown_on))
+    say_if_failed(rt, make_asked(rt, asked, shown_on))
 }

@@ -14,7 +14,7 @@ use Rattle.ocfl_separators.specs.Parts.{max_separators}
 use Rattle.ocfl_separators.specs.Splits.{HasText, AreInOrder, AreLines, cuts, IsSplit}
 use Rattle.ocfl_separators.specs.SplitStop.{SplitStopsRightly}
 use Rattle.ocfl_separators.specs.Internal.Cutting.{IsCutSoFar, TakesNot, StopsAtEnd}
-use Rattle.ocfl_separators.specs.{declared.costs.Told.{Told}, declared.splitting.SplitStop.{SplitStop}}
+use Rattle.ocfl_separators.specs.{declared.costs.ItemCost.{ItemCost}, declared.splitting.SplitStop.{SplitStop}}
 use Rattle.ocfl_separators.specs.declared.splitting.SplitStop.TheVariants.{Line as BadLine, Many, Read, Memory}
 
 -- ---- the first line of some bytes
@@ -63,10 +63,10 @@ more_read (Some b) (Some c) (Some d) done l text bytes h k e it =
 
 -- ---- what it says of all bytes
 
-are_lines : (b : ℕ) (done : List Line) (ps : List Place) (s : ℕ) (item : Option Told) → IsCutSoFar b done ps s item → (AreInOrder None (done ++ []) → AreLines done)
+are_lines : (b : ℕ) (done : List Line) (ps : List Place) (s : ℕ) (item : Option ItemCost) → IsCutSoFar b done ps s item → (AreInOrder None (done ++ []) → AreLines done)
 are_lines b done ps s item h order = record { texts = h.texts; order = subst (AreInOrder None) (append-nil done) order }
 
-module _ (b : ℕ) (done : List Line) (ps : List Place) (s : ℕ) (item : Option Told) (h : IsCutSoFar b done ps s item) where
+module _ (b : ℕ) (done : List Line) (ps : List Place) (s : ℕ) (item : Option ItemCost) (h : IsCutSoFar b done ps s item) where
   lines : AreLines done
   lines = are_lines b done ps s item h ((h.order []).0 tt)
 

@@ -3,41 +3,41 @@ use Rattle.std.specs.Prelude.{◌≡◌, ◌≢◌, ℕ, ◌+◌, ◌≤◌, ◌
 use Rattle.std.specs.{Str.{IsUtf8}, declared.cmp.Ordering.TheVariants.{Greater}}
 use Rattle.ocfl_tree.specs.{Place.{Text, Place, place_cmp, place_eq}, Name.{IsPlace}}
 use Rattle.ocfl_report.specs.{Line.{Line, Item}, Text.{line_text, lines_text}}
-use Rattle.ocfl_separators.specs.{Parts.{max_separators}, Costs.{told_cost, told}}
-use Rattle.ocfl_separators.specs.declared.costs.Told.{Told}
+use Rattle.ocfl_separators.specs.{Parts.{max_separators}, Costs.{line_cost, item_cost}}
+use Rattle.ocfl_separators.specs.declared.costs.ItemCost.{ItemCost}
 
 -- ---- items
 
 -- lines of one place that follow one another are one item, which costs what they say together. The
 -- first item may have been begun
-abbrev pub items_from : Option Told → List Line → List Told
+abbrev pub items_from : Option ItemCost → List Line → List ItemCost
 items_from None [] = []
-items_from None (l ∷ ls) = items_from (Some (told l)) ls
+items_from None (l ∷ ls) = items_from (Some (item_cost l)) ls
 items_from (Some i) [] = i ∷ []
 items_from (Some i) (l ∷ ls) =
-    if place_eq i.place l.place then items_from (Some (record { place = i.place; cost = i.cost + told_cost l.code l.detail })) ls else i ∷ items_from (Some (told l)) ls
+    if place_eq i.place l.place then items_from (Some (record { place = i.place; cost = i.cost + line_cost l.code l.detail })) ls else i ∷ items_from (Some (item_cost l)) ls
 
-abbrev pub items_told : List Line → List Told
-items_told ls = items_from None ls
+abbrev pub item_costs : List Line → List ItemCost
+item_costs ls = items_from None ls
 
 -- the same as items that a run could take, whose lines do not count here
-abbrev pub as_item : Told → Item
+abbrev pub as_item : ItemCost → Item
 as_item t = record { place = t.place; lines = []; cost = t.cost }
 
 abbrev pub reported : List Line → List Item
-reported ls = map as_item (items_told ls)
+reported ls = map as_item (item_costs ls)
 
 -- ---- cuts
 
 -- an item that costs nothing stays in its part, and so does another while the part has spent less
 -- than the budget. Else it begins the next part
-abbrev pub cuts_from : ℕ → ℕ → List Told → List Place
+abbrev pub cuts_from : ℕ → ℕ → List ItemCost → List Place
 cuts_from budget spent [] = []
 cuts_from budget spent (i ∷ items) = if i.cost == 0 || nat_lt spent budget then cuts_from budget (spent + i.cost) items else i.place ∷ cuts_from budget i.cost items
 
 -- the first places of all parts but the first
 abbrev pub cuts : ℕ → List Line → List Place
-cuts budget ls = cuts_from budget 0 (items_told ls)
+cuts budget ls = cuts_from budget 0 (item_costs ls)
 
 -- ---- reports
 

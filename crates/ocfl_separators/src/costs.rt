@@ -2,7 +2,7 @@
 ghost use Rattle.std.specs.Prelude.{◌≡◌, ◌^◌, ◌<◌, true, false, IfOk, IfSome, IsNone};
 ghost use Rattle.std.specs.Str.Parse.{digits_value};
 ghost use Rattle.ocfl_report.specs.{Line.{Line as ModelLine}, Text.{IsLineText}};
-ghost use Rattle.ocfl_separators.specs.Costs.{is_size, told_cost, told};
+ghost use Rattle.ocfl_separators.specs.Costs.{is_size, line_cost, item_cost};
 
 use ocfl_report::{Code, TextStop, read_decimal, read_line};
 use ocfl_tree::Place;
@@ -13,28 +13,28 @@ const SIZE_LIMIT: u128 = 1 << 62;
 
 /// A place, and how much a report says that it cost.
 #[derive(Drop)]
-pub(crate) struct Told {
+pub(crate) struct ItemCost {
     pub(crate) place: Place,
     pub(crate) cost: u64,
 }
 
-/// What the line says whose text the bytes are.
-pub(crate) fn read_told(alloc: Global, bytes: &[u8]) -> Result<Told, TextStop>
+/// The place of the line whose text the bytes are, and the cost that it says.
+pub(crate) fn read_item_cost(alloc: Global, bytes: &[u8]) -> Result<ItemCost, TextStop>
     ensures ok { IfOk result
-        (λ said. (line : ModelLine) × IsLineText bytes.now line × (said ≡ told line)) }
+        (λ said. (line : ModelLine) × IsLineText bytes.now line × (said ≡ item_cost line)) }
     ensures bad { result ≡ Err TextStop.Bad
         → (line : ModelLine) → IsLineText bytes.now line → ⊥ }
 {
     let line = read_line(alloc, bytes)?;
     let cost = cost_of(line.code, &line.detail);
-    Ok(Told {
+    Ok(ItemCost {
         place: line.place,
         cost,
     })
 }
 
 fn cost_of(code: Code, detail: &str) -> u64
-    ensures { result ≡ told_cost code detail.now }
+    ensures { result ≡ line_cost code detail.now }
 {
     if !matches!(code, Code::Clean) {
         return 0;

@@ -6,12 +6,12 @@ ghost use Rattle.ocfl_tree.specs.{Place.{Place as ModelPlace, place_cmp}, Name.{
 ghost use Rattle.ocfl_report.specs.{Line.{Line as ModelLine}, Text.{IsLineText}};
 ghost use Rattle.ocfl_separators.specs.{Parts.{max_separators}, Separators.{AreSeparators}};
 ghost use Rattle.ocfl_separators.specs.Splits.{HasText, IsSplit, cuts, cuts_from};
-ghost use Rattle.ocfl_separators.specs.{SplitStop.{SplitStopsRightly}, Costs.{told}};
+ghost use Rattle.ocfl_separators.specs.{SplitStop.{SplitStopsRightly}, Costs.{item_cost}};
 ghost use Rattle.ocfl_separators.specs.Internal.Cutting.{AreBelow, IsCutSoFar, StopsAtEnd, TakesNot};
 ghost use Rattle.ocfl_separators.specs.Internal.Cutting.{TakesNotPlace};
-ghost use Rattle.ocfl_separators.specs.declared.costs.Told.{Told as ModelTold};
+ghost use Rattle.ocfl_separators.specs.declared.costs.ItemCost.{ItemCost as ModelItemCost};
 
-use crate::costs::{Told, read_told};
+use crate::costs::{ItemCost, read_item_cost};
 use crate::separators::{MAX_SEPARATORS, Separators};
 use ocfl_report::{InputStop, TextStop, read_next_line};
 use std::alloc::Global;
@@ -44,7 +44,7 @@ struct Cutter {
     /// What the part has cost since the last of them, without the item that was begun.
     spent: u64,
     /// The item of the last line.
-    item: Option<Told>,
+    item: Option<ItemCost>,
 }
 
 /// The separators that cut a storage root into parts of about this cost, by a report of all of it.
@@ -97,19 +97,19 @@ fn take_line(
         → IsCutSoFar budget done cutter.separators cutter.spent cutter.item
         → TakesNot budget done number text.now stop) }
 {
-    let told = match read_told(alloc, text) {
-        Ok(told) => told,
+    let said = match read_item_cost(alloc, text) {
+        Ok(said) => said,
         Err(TextStop::Bad) => return Err(SplitStop::Line(number)),
         Err(TextStop::Memory) => return Err(SplitStop::Memory),
     };
-    take_told(budget, number, told, cutter)
+    take_cost(budget, number, said, cutter)
 }
 
-/// Takes what one more line says.
-fn take_told(budget: u64, number: u64, said: Told, cutter: Cutter) -> Result<Cutter, SplitStop>
+/// Takes the place of one more line, and the cost that it says.
+fn take_cost(budget: u64, number: u64, said: ItemCost, cutter: Cutter) -> Result<Cutter, SplitStop>
     requires below { AreBelow cutter.separators cutter.item }
     ensures ok { IfOk result (λ left. (done : List ModelLine) (line : ModelLine)
-        → HasText line → said ≡ told line
+        → HasText line → said ≡ item_cost line
         → IsCutSoFar budget done cutter.separators cutter.spent cutter.item
         → IsCutSoFar budget (done ++ line ∷ []) left.separators left.spent left.item) }
     ensures refused { IfErr result (λ stop. (done : List ModelLine)
@@ -140,7 +140,7 @@ fn take_told(budget: u64, number: u64, said: Told, cutter: Cutter) -> Result<Cut
         Ordering::Equal => Ok(Cutter {
             separators,
             spent,
-            item: Some(Told {
+            item: Some(ItemCost {
                 place: item.place,
                 cost: item.cost.saturating_add(said.cost),
             }),
@@ -151,9 +151,14 @@ fn take_told(budget: u64, number: u64, said: Told, cutter: Cutter) -> Result<Cut
 
 /// Puts a whole item into its part, or begins the next part with it. Gives what that part has
 /// spent.
-fn close(budget: u64, spent: u64, item: Told, separators: &mut Separators) -> Result<u64, SplitStop>
+fn close(
+    budget: u64,
+    spent: u64,
+    item: ItemCost,
+    separators: &mut Separators,
+) -> Result<u64, SplitStop>
     requires above { AreSeparators (separators.now ++ item.place ∷ []) }
-    ensures cuts { IfOk result (λ left. (items : List ModelTold)
+    ensures cuts { IfOk result (λ left. (items : List ModelItemCost)
         → separators.old ++ cuts_from budget spent (item ∷ items)
         ≡ separators.new ++ cuts_from budget left items) }
     ensures above { OnOk result ((p : ModelPlace) → IsPlace p → place_cmp item.place p ≡ Less

@@ -24,7 +24,7 @@ after_a_slice = record {
   phase = Open;
   whole = true;
   report = record { bytes = 120; lines = 3; pieces = replicate 32 0; tail = replicate 32 227 };
-  told = 60;
+  said = 60;
   left = [];
   part = None;
   cursor = of_a_slice;
@@ -50,7 +50,7 @@ of_a_part = record {
   phase = Closing;
   whole = false;
   report = record { bytes = 18446744073709551615; lines = 7; pieces = replicate 32 227; tail = replicate 32 0 };
-  told = 18446744073709551615;
+  said = 18446744073709551615;
   left = (record { place = []; after = None }) ∷ (record { place = codes "o" ∷ codes "a\nb" ∷ []; after = Some (codes "start" ∷ []) }) ∷ [];
   part = Some (record { from = Some (codes "start" ∷ []); below = Some (codes "z" ∷ []) });
   cursor = record { cycle = 7; runs = 2; spent = 9; files = 3; further = Nothing; state = ended };

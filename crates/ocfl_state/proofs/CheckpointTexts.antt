@@ -102,9 +102,9 @@ mark_determines m n r s h k e =
 pub account_determines : (a b : Account) (r s : Text) → IsAccount a → IsAccount b → account_text a r ≡ account_text b s → (a ≡ b) × (r ≡ s)
 account_determines a b r s h k e =
     let first = mark_determines a.report b.report _ _ h.report k.report e in
-    let second = count_line_determines (codes "told ") a.told b.told _ _ h.told k.told first.1 in
+    let second = count_line_determines (codes "told ") a.said b.said _ _ h.said k.said first.1 in
     let third = count_line_determines (codes "left ") a.left b.left r s h.left k.left second.1 in
-    ((λ i. record { report = first.0 i; told = second.0 i; left = third.0 i }), third.1)
+    ((λ i. record { report = first.0 i; said = second.0 i; left = third.0 i }), third.1)
 
 -- the parts of the text before the last line
 pub record SameParts (f g : Further) (p q : Text) (s t : Standing) (a b : Account) (u v : Text) : Type 0 where
@@ -207,7 +207,7 @@ pub IsStanding-of : (c : Checkpoint) → IsCheckpoint c → IsStanding (standing
 IsStanding-of c h = record { declared = h.root.declared; names = h.names }
 
 pub IsAccount-of : (c : Checkpoint) → IsCheckpoint c → IsAccount (account_of c)
-IsAccount-of c h = record { report = h.report; told = omega (arith, h.told, h.report.bytes); left = h.count }
+IsAccount-of c h = record { report = h.report; said = omega (arith, h.said, h.report.bytes); left = h.count }
 
 -- the parts of a body that was taken apart are those of its checkpoint
 pub parts_of_body : (f : Further) (path : Text) (s : Standing) (a : Account) (rest body : Text) (c : Checkpoint) → OneLine path → IsStanding s → IsAccount a
@@ -244,7 +244,7 @@ parts_are_of_one f path s a rest c d h k =
       phase = (standing i).phase;
       whole = (standing i).whole;
       report = (account i).report;
-      told = (account i).told;
+      said = (account i).said;
       left = lefts.0 i;
       part = stored.0 i;
       cursor = stored.1 i;
@@ -275,6 +275,6 @@ text_determines b c d h k =
 -- ---- a checkpoint whose parts fit
 
 pub parts_fit : (c : Checkpoint) → IsRoot c.root → AreNames c.names → IsMark c.report → All IsLeft c.left → length c.left < 2 ^ 64 → IfSome c.part AreEnds
-    → IsCursor c.cursor → c.told ≤ c.report.bytes → IsCheckpoint c
-parts_fit c root names report left count part cursor told =
-    record { root = root; names = names; report = report; told = told; left = left; count = count; part = part; cursor = cursor }
+    → IsCursor c.cursor → c.said ≤ c.report.bytes → IsCheckpoint c
+parts_fit c root names report left count part cursor said =
+    record { root = root; names = names; report = report; said = said; left = left; count = count; part = part; cursor = cursor }

@@ -4,7 +4,7 @@ use Rattle.hex.specs.Hex.{encode_lower}
 use Rattle.ocfl_tree.specs.Place.{Text}
 use Rattle.ocfl_cursor.specs.Lines.{stored_lines}
 use Rattle.ocfl_state.specs.Checkpoint.{Checkpoint, left_text, lines_then, shown_text, names_text, phase_text, yes_or_no, size_text, path_text}
-use Rattle.ocfl_state.specs.CheckpointLines.{field_line, root_lines, names_line, standing_lines, mark_lines, told_line, all_left, sizes_text}
+use Rattle.ocfl_state.specs.CheckpointLines.{field_line, root_lines, names_line, standing_lines, mark_lines, said_line, all_left, sizes_text}
 use Rattle.ocfl_state.specs.declared.checkpoint_parts.Left.{Left}
 use Rattle.ocfl_state.specs.declared.checkpoint_parts.ReportMark.{ReportMark}
 
@@ -27,11 +27,11 @@ step new old add rest whole e f = ap (λ t. t ++ rest) e ∙ append_assoc old ad
 abbrev from_left : Checkpoint → Text
 from_left c = all_left c.left (stored_lines c.part c.cursor)
 
-abbrev from_told : Checkpoint → Text
-from_told c = told_line c.told (from_left c)
+abbrev from_said : Checkpoint → Text
+from_said c = said_line c.said (from_left c)
 
 abbrev from_mark : Checkpoint → Text
-from_mark c = mark_lines c.report (from_told c)
+from_mark c = mark_lines c.report (from_said c)
 
 abbrev from_standing : Checkpoint → Text
 from_standing c = standing_lines c.phase c.whole (from_mark c)
@@ -39,9 +39,9 @@ from_standing c = standing_lines c.phase c.whole (from_mark c)
 abbrev from_names : Checkpoint → Text
 from_names c = names_line c.names (from_standing c)
 
-mark_lines-append : (c : Checkpoint) → mark_lines c.report [] ++ from_told c ≡ from_mark c
+mark_lines-append : (c : Checkpoint) → mark_lines c.report [] ++ from_said c ≡ from_mark c
 mark_lines-append c =
-    lines_then-append ((codes "report " ++ size_text c.report) ∷ (codes "pieces " ++ encode_lower c.report.pieces) ∷ (codes "tail " ++ encode_lower c.report.tail) ∷ []) (from_told c)
+    lines_then-append ((codes "report " ++ size_text c.report) ∷ (codes "pieces " ++ encode_lower c.report.pieces) ∷ (codes "tail " ++ encode_lower c.report.tail) ∷ []) (from_said c)
 
 standing_lines-append : (c : Checkpoint) → standing_lines c.phase c.whole [] ++ from_mark c ≡ from_standing c
 standing_lines-append c = lines_then-append ((codes "phase " ++ phase_text c.phase) ∷ (codes "whole " ++ yes_or_no c.whole) ∷ []) (from_mark c)
@@ -50,12 +50,12 @@ root_lines-append : (c : Checkpoint) → root_lines c.root [] ++ from_names c �
 root_lines-append c = lines_then-append ((codes "root " ++ path_text c.root.path) ∷ (codes "declared " ++ encode_lower c.root.declared) ∷ []) (from_names c)
 
 pub written_whole : (c : Checkpoint) (t₀ t₁ t₂ t₃ t₄ t₅ t₆ t₇ : Text) → t₀ ≡ [] → t₁ ≡ t₀ ++ root_lines c.root [] → t₂ ≡ t₁ ++ names_line c.names []
-    → t₃ ≡ t₂ ++ standing_lines c.phase c.whole [] → t₄ ≡ t₃ ++ mark_lines c.report [] → t₅ ≡ t₄ ++ told_line c.told [] → t₆ ≡ t₅ ++ all_left c.left []
+    → t₃ ≡ t₂ ++ standing_lines c.phase c.whole [] → t₄ ≡ t₃ ++ mark_lines c.report [] → t₅ ≡ t₄ ++ said_line c.said [] → t₆ ≡ t₅ ++ all_left c.left []
     → t₇ ≡ t₆ ++ stored_lines c.part c.cursor → t₇ ≡ shown_text c
 written_whole c t₀ t₁ t₂ t₃ t₄ t₅ t₆ t₇ e₀ e₁ e₂ e₃ e₄ e₅ e₆ e₇ =
     e₇ ∙ step t₆ t₅ (all_left c.left []) (stored_lines c.part c.cursor) (from_left c) e₆ (all_left-append c.left (stored_lines c.part c.cursor))
-    ∙ step t₅ t₄ (told_line c.told []) (from_left c) (from_told c) e₅ (lines_then-append ((codes "told " ++ decimal c.told) ∷ []) (from_left c))
-    ∙ step t₄ t₃ (mark_lines c.report []) (from_told c) (from_mark c) e₄ (mark_lines-append c)
+    ∙ step t₅ t₄ (said_line c.said []) (from_left c) (from_said c) e₅ (lines_then-append ((codes "told " ++ decimal c.said) ∷ []) (from_left c))
+    ∙ step t₄ t₃ (mark_lines c.report []) (from_said c) (from_mark c) e₄ (mark_lines-append c)
     ∙ step t₃ t₂ (standing_lines c.phase c.whole []) (from_mark c) (from_standing c) e₃ (standing_lines-append c)
     ∙ step t₂ t₁ (names_line c.names []) (from_standing c) (from_names c) e₂ (lines_then-append ((codes "names " ++ names_text c.names) ∷ []) (from_standing c))
     ∙ step t₁ t₀ (root_lines c.root []) (from_names c) (root_lines c.root (from_names c)) e₁ (root_lines-append c)

@@ -61,7 +61,7 @@ length-value : (n : ℕ) (text : Bytes) → length (chained no_pieces n text) �
 length-value zero text = refl
 length-value (suc n) text = length-sha256 (before_piece (chained no_pieces n text) ++ piece_at n text)
 
--- bytes are told by their digits
+-- bytes are determined by their digits
 abbrev decoded : Result Bytes FromHexError → Bytes
 decoded (Ok bytes) = bytes
 decoded (Err e) = []

@@ -22,7 +22,7 @@ pub record Checkpoint : Type 0 where
   pub phase : Phase
   pub whole : Bool
   pub report : ReportMark
-  pub told : ℕ
+  pub said : ℕ
   pub left : List Left
   pub part : Option PartEnds
   pub cursor : Cursor
@@ -57,7 +57,7 @@ pub record IsCheckpoint (c : Checkpoint) : Type 0 where
   pub root : IsRoot c.root
   pub names : AreNames c.names
   pub report : IsMark c.report
-  pub told : c.told ≤ c.report.bytes
+  pub said : c.said ≤ c.report.bytes
   pub left : All IsLeft c.left
   pub count : length c.left < 2 ^ 64
   pub part : IfSome c.part AreEnds
@@ -109,7 +109,7 @@ checkpoint_lines c =
     ∷ (codes "report " ++ size_text c.report)
     ∷ (codes "pieces " ++ encode_lower c.report.pieces)
     ∷ (codes "tail " ++ encode_lower c.report.tail)
-    ∷ (codes "told " ++ decimal c.told)
+    ∷ (codes "told " ++ decimal c.said)
     ∷ (codes "left " ++ decimal (length c.left))
     ∷ []
 

@@ -32,8 +32,8 @@ standing_lines phase whole rest = lines_then ((codes "phase " ++ phase_text phas
 abbrev pub mark_lines : ReportMark → Text → Text
 mark_lines m rest = lines_then ((codes "report " ++ size_text m) ∷ (codes "pieces " ++ encode_lower m.pieces) ∷ (codes "tail " ++ encode_lower m.tail) ∷ []) rest
 
-abbrev pub told_line : ℕ → Text → Text
-told_line told rest = lines_then ((codes "told " ++ decimal told) ∷ []) rest
+abbrev pub said_line : ℕ → Text → Text
+said_line said rest = lines_then ((codes "told " ++ decimal said) ∷ []) rest
 
 abbrev pub all_left : List Left → Text → Text
 all_left ls rest = lines_then ((codes "left " ++ decimal (length ls)) ∷ []) (flat_map left_text ls ++ rest)
@@ -58,11 +58,11 @@ mark_text m rest = field_line (codes "report ") (size_text m) (field_line (codes
 
 -- the lines from those of the report to that of how many branches were left out
 abbrev pub account_text : Account → Text → Text
-account_text a rest = mark_text a.report (field_line (codes "told ") (decimal a.told) (field_line (codes "left ") (decimal a.left) rest))
+account_text a rest = mark_text a.report (field_line (codes "told ") (decimal a.said) (field_line (codes "left ") (decimal a.left) rest))
 
 pub record IsAccount (a : Account) : Type 0 where
   pub report : IsMark a.report
-  pub told : a.told < 2 ^ 64
+  pub said : a.said < 2 ^ 64
   pub left : a.left < 2 ^ 64
 
 -- the text before the last line, by what the first line tells, the path of the root, the lines
@@ -83,7 +83,7 @@ abbrev pub standing_of : Checkpoint → Standing
 standing_of c = record { declared = c.root.declared; names = c.names; phase = c.phase; whole = c.whole }
 
 abbrev pub account_of : Checkpoint → Account
-account_of c = record { report = c.report; told = c.told; left = length c.left }
+account_of c = record { report = c.report; said = c.said; left = length c.left }
 
 -- what is read is that of this checkpoint
 pub record ArePartsOf (f : Further) (front : Text) (s : Standing) (a : Account) (back : Text) (c : Checkpoint) : Type 0 where

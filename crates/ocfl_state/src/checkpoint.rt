@@ -21,7 +21,7 @@ pub struct Checkpoint {
     /// As much of the report as belongs to the cursor.
     pub report: ReportMark,
     /// How many bytes of that were said: no finding before them is unsaid.
-    pub told: u64,
+    pub said: u64,
     /// The branches of the cycle that could not be read, in the order in which they were met.
     pub left: Vec<Left>,
     /// The part that the nights read; `None` if they read the whole root.
@@ -41,7 +41,7 @@ impl Checkpoint {
             phase: _phase,
             whole: _whole,
             report: _report,
-            told: _told,
+            said: _said,
             left: _left,
             part: _part,
             cursor: _cursor,
@@ -59,7 +59,7 @@ impl Drop for Checkpoint {
             phase: _phase,
             whole: _whole,
             report: _report,
-            told: _told,
+            said: _said,
             left: _left,
             part: _part,
             cursor: _cursor,
@@ -78,7 +78,7 @@ impl Model for Checkpoint {
       phase = a.phase;
       whole = a.whole;
       report = a.report;
-      told = a.told;
+      said = a.said;
       left = a.left.items;
       part = a.part;
       cursor = a.cursor;

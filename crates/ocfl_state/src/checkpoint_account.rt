@@ -12,7 +12,7 @@ use crate::checkpoint_fields::{
     read_count, read_digest, read_names, read_phase, read_sizes, read_whole, split_line,
 };
 use crate::checkpoint_form::{
-    DECLARED, FIRST_LINE_ONE, FIRST_LINE_TWO, LEFT, NAMES, PHASE, PIECES, REPORT, ROOT, TAIL, TOLD,
+    DECLARED, FIRST_LINE_ONE, FIRST_LINE_TWO, LEFT, NAMES, PHASE, PIECES, REPORT, ROOT, SAID, TAIL,
     WHOLE,
 };
 use crate::checkpoint_parts::{Phase, ReportMark, TopNames};
@@ -32,7 +32,7 @@ pub(crate) struct Standing {
 #[derive(Clone, Copy)]
 pub(crate) struct Account {
     pub(crate) report: ReportMark,
-    pub(crate) told: u64,
+    pub(crate) said: u64,
     pub(crate) left: u64,
 }
 
@@ -121,9 +121,9 @@ pub(crate) fn read_account(text: &[u8]) -> Option<(Account, &[u8])>
         → IsAccount account → text.now ≢ account_text account rest }
 {
     let (report, rest) = read_mark(text)?;
-    let (told, rest) = read_count_line(TOLD, rest)?;
+    let (said, rest) = read_count_line(SAID, rest)?;
     let (left, rest) = read_count_line(LEFT, rest)?;
-    let account = Account { report, told, left };
+    let account = Account { report, said, left };
     Some((account, rest))
 }
 

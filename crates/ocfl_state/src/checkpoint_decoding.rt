@@ -51,7 +51,7 @@ fn read_parts(alloc: Global, parts: Parts<'_>) -> Result<Checkpoint, TextStop>
         parts.entry.account parts.entry.rest.now c → ⊥ }
 {
     let account = parts.account;
-    if account.told > account.report.bytes {
+    if account.said > account.report.bytes {
         return Err(TextStop::Bad);
     }
     let path = read_path(alloc, parts.path)?;
@@ -65,7 +65,7 @@ fn read_parts(alloc: Global, parts: Parts<'_>) -> Result<Checkpoint, TextStop>
         phase: standing.phase,
         whole: standing.whole,
         report: account.report,
-        told: account.told,
+        said: account.said,
         left,
         part,
         cursor,

@@ -2,13 +2,15 @@
 ghost use Rattle.std.specs.Prelude.{◌≡◌, ◌++◌, [], ◌∷◌, IfOk, OnOk, flat_map, decimal, codes};
 ghost use Rattle.hex.specs.Hex.{encode_lower};
 ghost use Rattle.ocfl_state.specs.Checkpoint.{checkpoint_first_line, shown_text, checkpoint_text, path_text, left_text, stood_text, phase_text, yes_or_no};
-ghost use Rattle.ocfl_state.specs.CheckpointLines.{root_lines, names_line, standing_lines, mark_lines, told_line, all_left, field_line, sizes_text};
+ghost use Rattle.ocfl_state.specs.CheckpointLines.{root_lines, names_line, standing_lines};
+ghost use Rattle.ocfl_state.specs.CheckpointLines.{mark_lines, said_line, all_left, field_line};
+ghost use Rattle.ocfl_state.specs.CheckpointLines.{sizes_text};
 
 use crate::checkpoint::Checkpoint;
 use crate::checkpoint_fields::hex_digits;
 use crate::checkpoint_form::{
     AFTER, CLOSING, DECLARED, FIRST_LINE_ONE, FIRST_LINE_TWO, LEFT, NAMES, NO, OPEN, PHASE, PIECES,
-    REPORT, ROOT, SHA256, START, TAIL, TOLD, WHOLE, YES,
+    REPORT, ROOT, SAID, SHA256, START, TAIL, WHOLE, YES,
 };
 use crate::checkpoint_parts::{Left, Phase, ReportMark, RootIdentity, TopNames};
 use ocfl_cursor::{sealed_text, stored_lines};
@@ -45,7 +47,7 @@ pub fn checkpoint_lines(alloc: Global, checkpoint: &Checkpoint) -> Result<Vec<u8
     put_names(alloc, checkpoint.names, &mut lines)?;
     put_standing(checkpoint.phase, checkpoint.whole, &mut lines)?;
     put_mark(alloc, checkpoint.report, &mut lines)?;
-    put_count(alloc, TOLD, checkpoint.told, &mut lines)?;
+    put_count(alloc, SAID, checkpoint.said, &mut lines)?;
     put_all_left(alloc, &checkpoint.left, &mut lines)?;
     let cursor = stored_lines(alloc, &checkpoint.part, &checkpoint.cursor)?;
     lines.extend_from_slice(&cursor)?;

@@ -33,7 +33,7 @@ pub(crate) const PIECES: &[u8] = b"pieces ";
 
 pub(crate) const TAIL: &[u8] = b"tail ";
 
-pub(crate) const TOLD: &[u8] = b"told ";
+pub(crate) const SAID: &[u8] = b"told ";
 
 pub(crate) const LEFT: &[u8] = b"left ";
 

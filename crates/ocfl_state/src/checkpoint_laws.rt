@@ -27,10 +27,10 @@ pub fn no_checkpoint_is_refused()
         → (r : ModelRefused) → RefusedRightly b r → r ≡ Refused.Memory }
 {}
 
-/// Every [`Checkpoint`] that tells no more than belongs to the cursor keeps the rule of
+/// Every [`Checkpoint`] that counts no more as said than belongs to the cursor keeps the rule of
 /// checkpoints, so that its text is read.
 pub fn every_checkpoint_fits(checkpoint: &Checkpoint)
-    ensures { checkpoint.now.told ≤ checkpoint.now.report.bytes → IsCheckpoint checkpoint.now }
+    ensures { checkpoint.now.said ≤ checkpoint.now.report.bytes → IsCheckpoint checkpoint.now }
 {
     root_fits(&checkpoint.root);
     names_fit(checkpoint.names);
@@ -92,12 +92,12 @@ fn part_fits(part: &Option<PartEnds>)
     }
 }
 
-/// What is written of a checkpoint is read as that checkpoint, unless memory runs out, if it tells
-/// no more than belongs to the cursor.
+/// What is written of a checkpoint is read as that checkpoint, unless memory runs out, if it counts
+/// no more as said than belongs to the cursor.
 pub fn checkpoint_reads_back(alloc: Global, checkpoint: &Checkpoint) -> Result<Checkpoint, Refused>
-    ensures same { checkpoint.now.told ≤ checkpoint.now.report.bytes
+    ensures same { checkpoint.now.said ≤ checkpoint.now.report.bytes
         → IfOk result (λ read. read ≡ checkpoint.now) }
-    ensures not_refused { checkpoint.now.told ≤ checkpoint.now.report.bytes
+    ensures not_refused { checkpoint.now.said ≤ checkpoint.now.report.bytes
         → IfErr result (λ refused. refused ≡ Refused.Memory) }
 {
     every_checkpoint_fits(checkpoint);

@@ -23,8 +23,8 @@ pub enum Stop {
     Endless,
     /// Some of the report was not said.
     Unsaid,
-    /// The checkpoint tells more than the report has.
-    Overtold,
+    /// The checkpoint counts more as said than the report has.
+    Oversaid,
     /// The report ended before what was to be said of it.
     Short,
     /// The output did not commit what was said.

@@ -4,22 +4,22 @@ use Rattle.ocfl_tree.specs.Place.{Text, Place}
 use Rattle.ocfl_report.specs.{Line.{Line}, Text.{IsLineText}}
 use Rattle.ocfl_separators.specs.{Parts.{max_separators}, Separators.{AreSeparators}}
 use Rattle.ocfl_separators.specs.Splits.{HasText, AreInOrder, items_from, cuts_from, cuts}
-use Rattle.ocfl_separators.specs.{declared.costs.Told.{Told}, declared.splitting.SplitStop.{SplitStop}}
+use Rattle.ocfl_separators.specs.{declared.costs.ItemCost.{ItemCost}, declared.splitting.SplitStop.{SplitStop}}
 use Rattle.ocfl_separators.specs.declared.splitting.SplitStop.TheVariants.{Line as BadLine, Many, Read, Memory}
 
 -- the place of the item that was begun
-abbrev pub last_place : Option Told → Option Place
+abbrev pub last_place : Option ItemCost → Option Place
 last_place None = None
 last_place (Some i) = Some i.place
 
 -- the separators so far ascend, and the item that was begun is above them
-abbrev pub AreBelow : List Place → Option Told → Type 0
+abbrev pub AreBelow : List Place → Option ItemCost → Type 0
 AreBelow ps None = ps ≡ []
 AreBelow ps (Some i) = AreSeparators (ps ++ i.place ∷ [])
 
 -- after these lines there are these separators, the part has spent this much, and this item was
 -- begun. What further lines make of it is what they make of all
-pub record IsCutSoFar (budget : ℕ) (done : List Line) (ps : List Place) (spent : ℕ) (item : Option Told) : Type 0 where
+pub record IsCutSoFar (budget : ℕ) (done : List Line) (ps : List Place) (spent : ℕ) (item : Option ItemCost) : Type 0 where
   pub texts : All HasText done
   pub order : (more : List Line) → AreInOrder (last_place item) more ↔ AreInOrder None (done ++ more)
   pub cuts : (more : List Line) → cuts budget (done ++ more) ≡ ps ++ cuts_from budget spent (items_from item more)

@@ -137,7 +137,7 @@ fn checkpoint_of(alloc: Global, further: Further) -> Result<Checkpoint, Fail> {
             pieces: [0; 32],
             tail: [0xE3; 32],
         },
-        told: 60,
+        said: 60,
         left: Vec::new(alloc),
         part: None,
         cursor: Cursor::from_parts(1, 1, 4, 1, further, State::After(place)).ok_or("a cursor")?,
@@ -172,7 +172,7 @@ fn part_checkpoint(alloc: Global) -> Result<Checkpoint, Fail> {
             pieces: [0xE3; 32],
             tail: [0; 32],
         },
-        told: u64::MAX,
+        said: u64::MAX,
         left,
         part: Some(ends_of(alloc, "start", "z")?),
         cursor: Cursor::from_parts(7, 2, 9, 3, Further::Nothing, State::Ended).ok_or("a cursor")?,
@@ -299,7 +299,7 @@ fn each_part_of_a_checkpoint_is_read(rt: HostRuntime) -> Result<(), Fail> {
         (read.report.pieces, read.report.tail),
         ([0xE3; 32], [0; 32])
     );
-    assert_eq!(rt; read.told, u64::MAX);
+    assert_eq!(rt; read.said, u64::MAX);
     assert_eq!(rt; read.left.len(), 2);
     assert_eq!(rt;
         (read.left[0].place.depth(), read.left[0].after.is_none()),
@@ -514,7 +514,7 @@ fn a_part_is_known_by_what_was_kept(rt: HostRuntime) -> Result<(), Fail> {
             .starts_with("mnt/ré %/ocfl\n".as_bytes())
     );
     assert_eq!(rt; part.root.len(), 14 + 1 + 32);
-    assert!(rt; part.cycle == 7 && part.told && !part.whole);
+    assert!(rt; part.cycle == 7 && part.has_said && !part.whole);
     assert_eq!(rt; part.further, Further::Nothing);
     assert_eq!(rt; part.names, Some(u64::MAX));
     assert_eq!(rt; part.left.len(), 2);

@@ -131,6 +131,10 @@ impl ClosedDisk for OneCycle {
         ClosingStop::Failed
     }
 
+    fn refuse_rows(&mut self, _cycle: u64) -> ClosingStop {
+        ClosingStop::Failed
+    }
+
     fn refuse_lines(
         &mut self,
         _cycle: u64,

@@ -4,7 +4,7 @@ ghost use Rattle.std.proofs.lemmas.Bool.{false≢true};
 use crate::tests::common::closed_reports::{MemReport, closed_with, mark_of};
 use crate::tests::common::store::place_of;
 use ocfl_accounts::{ClosedCycle, ClosingStop, Pair};
-use ocfl_closed::{Account, ClosedDisk, Paths, SaidWith, Told, find_changes};
+use ocfl_closed::{Account, ChangesFound, ClosedDisk, Paths, SaidWith, find_changes};
 use ocfl_compare::CompareStop;
 use ocfl_messages::{Known, KnownEntry, Reach};
 use ocfl_report::{Code, Line, read_place};
@@ -161,6 +161,10 @@ impl ClosedDisk for ReportsOn {
     }
 
     fn refuse_list(&mut self, cycle: u64, _error: io::Error) -> ClosingStop {
+        self.note(format!(in self.alloc; "unread list {cycle};"))
+    }
+
+    fn refuse_rows(&mut self, cycle: u64) -> ClosingStop {
         self.note(format!(in self.alloc; "bad list {cycle};"))
     }
 
@@ -536,7 +540,11 @@ fn known_at(alloc: Global, place: &str) -> Result<Known, Fail> {
 }
 
 /// What was found of a cycle.
-fn find(alloc: Global, disk: &mut ReportsOn, row: &Row) -> Result<Result<Told, ClosingStop>, Fail> {
+fn find(
+    alloc: Global,
+    disk: &mut ReportsOn,
+    row: &Row,
+) -> Result<Result<ChangesFound, ClosingStop>, Fail> {
     let known = known_at(alloc, row.known)?;
     let with = SaidWith {
         root: "/r",
@@ -554,7 +562,7 @@ fn changes_are_those_of_the_right_reports(rt: HostRuntime) -> Result<(), Fail> {
     let alloc = rt.alloc();
     for (index, row) in ROWS.iter().enumerate() {
         let mut disk = disk_of(alloc, row);
-        let Told { found, .. } = find(alloc, &mut disk, row)??;
+        let ChangesFound { found, .. } = find(alloc, &mut disk, row)??;
         let text = String::from_utf8(found.text)?;
         assert_eq!(rt; disk.calls.as_str(), row.calls, "{index}");
         assert_eq!(rt; disk.list.as_slice(), row.list.as_bytes(), "{index}");

@@ -37,7 +37,7 @@ fn closed(alloc: Global, index: usize, whole: bool) -> Result<ClosedPart, Fail> 
         further: Further::Nothing,
         cycle: 7,
         whole,
-        told: true,
+        has_said: true,
         names: None,
         left: Vec::new(alloc),
     })

@@ -60,14 +60,14 @@ fn closed(cycle: u64, part: usize) -> MemClosed {
         cycle,
         part,
         whole: true,
-        told: true,
+        has_said: true,
     }
 }
 
 /// A disk on which both parts have closed the cycles up to 5, but the second none of cycle 2, and
 /// where the joined report of cycle 3 is compressed. The second part has not said what it found in
 /// one cycle, and its report of another one is not whole.
-fn disk_with(alloc: Global, disk: MemDisk, untold: u64, partial: u64) -> Result<MemJoinDisk, Fail> {
+fn disk_with(alloc: Global, disk: MemDisk, unsaid: u64, partial: u64) -> Result<MemJoinDisk, Fail> {
     let mut all = Vec::new(alloc);
     for cycle in 1..=5 {
         all.push(closed(cycle, 1))?;
@@ -76,7 +76,7 @@ fn disk_with(alloc: Global, disk: MemDisk, untold: u64, partial: u64) -> Result<
                 cycle,
                 part: 2,
                 whole: cycle != partial,
-                told: cycle != untold,
+                has_said: cycle != unsaid,
             })?;
         }
     }
@@ -87,17 +87,27 @@ fn disk_with(alloc: Global, disk: MemDisk, untold: u64, partial: u64) -> Result<
     Ok(disk)
 }
 
-/// Joins the cycles up to one, and gives the status and the disk.
-fn joins(alloc: Global, disk: MemJoinDisk, last: u64) -> Result<(u8, MemJoinDisk), Fail> {
+/// Joins the cycles up to one. Gives the status, the disk and the output.
+fn joins_with(
+    alloc: Global,
+    disk: MemJoinDisk,
+    last: u64,
+) -> Result<(u8, MemJoinDisk, MemOutput), Fail> {
     let (separators, facts) = (separators(alloc)?, facts(alloc)?);
     let out = MemOutput::new(alloc);
     let mut cycles = DiskCycles::over(alloc, &separators, &facts, disk, out);
     let end = join_cycles(&mut cycles, 2, last);
-    match cycles.into_disk() {
-        Some(disk) if end.said => Ok((end.status, disk)),
-        Some(_) => Err(Fail::new("a cycle that stopped was not said")),
-        None => Err(Fail::new("the disk is gone")),
+    match cycles.into_given() {
+        (Some(disk), out) if end.said => Ok((end.status, disk, out)),
+        (Some(_), _) => Err(Fail::new("a cycle that stopped was not said")),
+        (None, _) => Err(Fail::new("the disk is gone")),
     }
+}
+
+/// Joins the cycles up to one, and gives the status and the disk.
+fn joins(alloc: Global, disk: MemJoinDisk, last: u64) -> Result<(u8, MemJoinDisk), Fail> {
+    let (status, disk, _) = joins_with(alloc, disk, last)?;
+    Ok((status, disk))
 }
 
 /// The cycles up to 5 of which a joined report is there, that is whole or not.
@@ -134,6 +144,18 @@ fn cycles_that_are_due_are_joined(rt: HostRuntime) -> Result<(), Fail> {
     assert_eq!(rt; status, 3);
     let said = b"ocfl-scrub: part 2: its report of cycle 5 could not be joined\n";
     assert_eq!(rt; disk.noted(), said.as_slice());
+    Ok(())
+}
+
+#[test]
+fn the_output_is_given_the_word_on_each_report_once(rt: HostRuntime) -> Result<(), Fail> {
+    let alloc = rt.alloc();
+    let disk = disk_with(alloc, MemDisk::new(alloc), 0, 4)?;
+    let (_, disk, out) = joins_with(alloc, disk, 5)?;
+    // (the word of this disk is the cycle, and whether the report is whole)
+    assert_eq!(rt; out.text(), [1, 1, 4, 0, 5, 1].as_slice());
+    let (_, _, out) = joins_with(alloc, disk, 5)?;
+    assert_eq!(rt; out.text(), b"".as_slice());
     Ok(())
 }
 

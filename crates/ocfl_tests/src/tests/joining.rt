@@ -46,7 +46,7 @@ fn closed(alloc: Global, index: usize) -> Result<ClosedPart, Fail> {
         further: Further::Nothing,
         cycle: 7,
         whole: true,
-        told: true,
+        has_said: true,
         names: Some(9),
         left: Vec::new(alloc),
     })
@@ -195,7 +195,7 @@ fn the_first_fault_of_a_part_is_told(rt: HostRuntime) -> Result<(), Fail> {
     for fault in [
         PartFault::Incomplete,
         PartFault::FewNames,
-        PartFault::Untold,
+        PartFault::ClosingUnsaid,
         PartFault::OtherCycle,
         PartFault::OtherAudit,
         PartFault::OtherPart,
@@ -207,7 +207,7 @@ fn the_first_fault_of_a_part_is_told(rt: HostRuntime) -> Result<(), Fail> {
         match fault {
             PartFault::Incomplete => part.whole = false,
             PartFault::FewNames => part.names = Some(4),
-            PartFault::Untold => part.told = false,
+            PartFault::ClosingUnsaid => part.has_said = false,
             PartFault::OtherCycle => part.cycle = 6,
             PartFault::OtherAudit => part.further = Further::Inventories,
             PartFault::OtherPart => part.below = None,
@@ -267,7 +267,12 @@ fn parts_that_check_other_things_are_not_joined(rt: HostRuntime) -> Result<(), F
         }
         assert_eq!(rt; reports.joined().len(), 0);
     }
-    // All of them with the option.
+    Ok(())
+}
+
+#[test]
+fn parts_that_all_check_inventories_are_joined(rt: HostRuntime) -> Result<(), Fail> {
+    let alloc = rt.alloc();
     let mut parts = all_closed(alloc)?;
     for part in parts.iter_mut().flatten() {
         part.further = Further::Inventories;

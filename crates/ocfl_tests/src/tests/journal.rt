@@ -4,8 +4,8 @@ use ocfl_cursor::{Cursor, State};
 use ocfl_endings::{RunLog, Runs};
 use ocfl_files::failing::Failure;
 use ocfl_journal::SystemLog;
-use ocfl_journal::ending::{end_night, log_ended, log_unbegun, status_told};
-use ocfl_journal::noting::{Beside, OnDisk, Told, open_noting};
+use ocfl_journal::ending::{end_night, log_ended, log_unbegun, say_if_failed};
+use ocfl_journal::noting::{Beside, OnDisk, Totals, open_noting};
 use ocfl_kept::names::{About, Names};
 use ocfl_messages::Known;
 use ocfl_plan::Listener;
@@ -58,7 +58,7 @@ fn checkpoint(alloc: Global, runs: u64, branches: &[&str]) -> Result<Checkpoint,
             pieces: [0; 32],
             tail: [0x22; 32],
         },
-        told: 0,
+        said: 0,
         left,
         part: None,
         cursor: Cursor::from_parts(1, runs, spent, files, Further::Nothing, state).ok_or(
@@ -116,7 +116,7 @@ const ENDED: &str = r#"{"night":10,"row":"refusal","said":"stopped.%0A","status"
 "#;
 
 /// What the runs of a night came to that left one branch out.
-fn runs_of(alloc: Global, told: Told) -> Result<Runs, Fail> {
+fn runs_of(alloc: Global, totals: Totals) -> Result<Runs, Fail> {
     let mut left = Vec::new(alloc);
     left.push(place_of(alloc, "b")?)?;
     Ok(Runs {
@@ -127,7 +127,7 @@ fn runs_of(alloc: Global, told: Told) -> Result<Runs, Fail> {
             end: Halt::TimeUp,
         },
         why: None,
-        told,
+        totals,
     })
 }
 
@@ -145,7 +145,7 @@ fn a_night_is_logged_with_why_it_stopped(rt: HostRuntime) -> Result<(), Fail> {
     } = noting.beside(about, log)?;
     put(alloc, &mut noting, 2, &["b"])?;
     fs::remove_file(&rt, "ended/log")?;
-    let runs = runs_of(alloc, noting.told_by(speaker, &journal))?;
+    let runs = runs_of(alloc, noting.totals_by(speaker, &journal))?;
     assert!(rt; runs.said(alloc, about.names, None)?.is_none());
     let said = Some(String::from_str(alloc, "stopped.\n")?);
     let ended = runs.ended(&said);
@@ -208,7 +208,7 @@ fn a_night_that_did_not_begin_is_logged_if_its_root_is_read(rt: HostRuntime) -> 
     let log = fs::read_to_string(&rt, "unbegun/log")?;
     let first = r#"{"night":10,"row":"refusal","said":"gone%0A","status":3,"time":"#;
     assert!(rt; log.as_str().starts_with(first), "{log}");
-    assert_eq!(rt; status_told(&rt, Err(failure)), 3);
-    assert_eq!(rt; status_told(&rt, Ok(1)), 1);
+    assert_eq!(rt; say_if_failed(&rt, Err(failure)), 3);
+    assert_eq!(rt; say_if_failed(&rt, Ok(1)), 1);
     Ok(())
 }

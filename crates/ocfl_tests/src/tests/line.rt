@@ -86,11 +86,14 @@ fn expect_run(rt: &impl Runtime, row: &str, line: &str, limits: Limits) -> Resul
 }
 
 /// A line asks for splitting the report `P` by this budget.
-fn expect_split(rt: &impl Runtime, row: &str, line: &str, budget: u64) -> Result<(), Fail> {
-    let report = String::from_str(rt.alloc(), "P")?;
-    let wanted = Asked::Split(Split::Report { budget, report });
-    assert_eq!(rt; read(rt.alloc(), line)?, wanted, "{row}");
-    Ok(())
+fn expect_split(rt: &impl Runtime, row: &str, line: &str, wanted: u64) -> Result<(), Fail> {
+    match read(rt.alloc(), line)? {
+        Asked::Split(Split::Report { budget, report }) => {
+            assert_eq!(rt; (budget, report.as_str()), (wanted, "P"), "{row}");
+            Ok(())
+        }
+        _ => Err(Fail::from("no split by a report")),
+    }
 }
 
 /// The text of a line's fault, or of the help that it asks for.

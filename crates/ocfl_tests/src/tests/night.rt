@@ -355,7 +355,7 @@ fn a_run_that_stops_is_kept(rt: HostRuntime) -> Result<(), Fail> {
 }
 
 /// Each folder that a crash after these changes may leave closes the audit, and all of it is
-/// said: what was told by then, and what the nights say after the crash.
+/// said: what was said by then, and what the nights say after the crash.
 fn expect_audit_after(
     rt: &impl Runtime,
     folder: &MemState,
@@ -660,7 +660,7 @@ fn a_checkpoint_has_what_its_report_has(rt: HostRuntime) -> Result<(), Fail> {
         (report.bytes, report.lines),
         (folder.report().len() as u64, 3)
     );
-    assert_eq!(rt; checkpoint.told, report.bytes);
+    assert_eq!(rt; checkpoint.said, report.bytes);
     assert_eq!(rt; report.pieces, [0; 32]);
     assert_eq!(rt; report.tail, Sha256::digest(folder.report()));
     assert_eq!(rt; (checkpoint.names.count, checkpoint.left.len()), (2, 0));

@@ -384,13 +384,13 @@ fn a_night_that_lacks_something_ends_with_3(rt: HostRuntime) -> Result<(), Fail>
 #[test]
 fn a_night_ends_with_the_gravest_of_what_it_said(rt: HostRuntime) -> Result<(), Fail> {
     let end = ended(rt.alloc(), Halt::CycleEnded(4), false, &[])?;
-    for (row, findings, told, status) in [
+    for (row, findings, closings, status) in [
         ("nothing", 0, 0, 0),
         ("findings", 2, 0, 1),
         ("news of a cycle", 0, 1, 1),
         ("a cycle left out", 1, 3, 3),
     ] {
-        assert_eq!(rt; night_status(&end, 0, findings, told), status, "{row}");
+        assert_eq!(rt; night_status(&end, 0, findings, closings), status, "{row}");
     }
     Ok(())
 }

@@ -13,30 +13,30 @@ use Rattle.ocfl_night.proofs.closing.close.Goals as goal
 
 pub returns-in_err-move_as-clause-any_moment : goal.returns-in_err-move_as-clause-any_moment
 returns-in_err-move_as-clause-any_moment g c = λ told rounds t r.
-    let all = c.is_all_told.ensures.0 c.if-not-is_all_told.false in
+    let all = c.is_all_said.ensures.0 c.if-not-is_all_said.false in
     leaves (g.met.S.StateFolder.only_now told) (ready_sound r) (move_sound c.requires all r) (c.move_as.ensures.crash told (ready_to_close c.requires r))
 
 pub returns-in_err-put_checkpoint-clause-any_moment : goal.returns-in_err-put_checkpoint-clause-any_moment
 returns-in_err-put_checkpoint-clause-any_moment g c = λ told rounds t r.
-    let all = c.is_all_told.ensures.0 c.if-not-is_all_told.false in
+    let all = c.is_all_said.ensures.0 c.if-not-is_all_said.false in
     mark_after (g.met.S.StateFolder.only_now told) (ready_sound r) (move_sound c.requires all r) (c.move_as.ensures.crash told (ready_to_close c.requires r)) (c.in_ok-move_as.ensures.durable told r.only)
     (next_stands c.begun_anew-next.ensures (is_moved c.requires all r (c.in_ok-move_as.ensures.moved told))) (c.put_checkpoint.ensures.crash told)
 
 pub returns-clause-any_moment : goal.returns-clause-any_moment
 returns-clause-any_moment g c = λ told rounds t r.
-    let all = c.is_all_told.ensures.0 c.if-not-is_all_told.false in
+    let all = c.is_all_said.ensures.0 c.if-not-is_all_said.false in
     mark_after (g.met.S.StateFolder.only_now told) (ready_sound r) (move_sound c.requires all r) (c.move_as.ensures.crash told (ready_to_close c.requires r)) (c.in_ok-move_as.ensures.durable told r.only)
     (next_stands c.begun_anew-next.ensures (is_moved c.requires all r (c.in_ok-move_as.ensures.moved told))) (c.put_checkpoint.ensures.crash told)
 
 pub returns-clause-ready : goal.returns-clause-ready
 returns-clause-ready g c = λ told rounds t r.
     let is = c.begun_anew-next.ensures in
-    let moved = is_moved c.requires (c.is_all_told.ensures.0 c.if-not-is_all_told.false) r (c.in_ok-move_as.ensures.moved told) in
+    let moved = is_moved c.requires (c.is_all_said.ensures.0 c.if-not-is_all_said.false) r (c.in_ok-move_as.ensures.moved told) in
     put_ready (c.in_ok-put_checkpoint.ensures.put told) (next_stands is moved) (λ phase. ap length moved.empty ∙ sym (ap (λ (x : Checkpoint). x.report.bytes) is)) (c.in_ok-put_checkpoint.ensures.durable told (c.in_ok-move_as.ensures.durable told r.only))
 
 pub returns-clause-closed : goal.returns-clause-closed
 returns-clause-closed g c = λ told rounds t r.
-    let moved = is_moved c.requires (c.is_all_told.ensures.0 c.if-not-is_all_told.false) r (c.in_ok-move_as.ensures.moved told) in
+    let moved = is_moved c.requires (c.is_all_said.ensures.0 c.if-not-is_all_said.false) r (c.in_ok-move_as.ensures.moved told) in
     one_more r.at c.requires (c.in_ok-move_as.ensures.moved told (ready_to_close c.requires r)) moved (c.in_ok-put_checkpoint.ensures.put told)
 
 pub returns-clause-finished : goal.returns-clause-finished
@@ -48,8 +48,8 @@ returns-clause-finished g c = λ told.
       next = subst (λ (k : Checkpoint). IsCheckpointPut k (s c.move_as.new.folder) (s c.put_checkpoint.new.folder)) c.begun_anew-next.ensures (c.in_ok-put_checkpoint.ensures.put told);
     }
 
-pub returns-then-not-is_all_told-clause-crash : goal.returns-then-not-is_all_told-clause-crash
-returns-then-not-is_all_told-clause-crash g c = λ told rounds t r. unmoved (g.met.S.StateFolder.only_now told) (ready_there (GoesOn c.args.checkpoint) (goes_self c.args.checkpoint) r)
+pub returns-then-not-is_all_said-clause-crash : goal.returns-then-not-is_all_said-clause-crash
+returns-then-not-is_all_said-clause-crash g c = λ told rounds t r. unmoved (g.met.S.StateFolder.only_now told) (ready_there (GoesOn c.args.checkpoint) (goes_self c.args.checkpoint) r)
 
 pub returns-in_err-move_as-clause-crash : goal.returns-in_err-move_as-clause-crash
 returns-in_err-move_as-clause-crash g c = λ told rounds t r.
@@ -75,5 +75,5 @@ returns-in_err-put_checkpoint-clause-stop g c =
     let is = c.begun_anew-next.ensures in
     stops_at told (ForClose c.args.checkpoint) _ _ r why (cc (p.1, p.2))
     (put_by told (ForClose c.args.checkpoint) c.begun_anew-next.result _ (g.S.StateFolder.faults c.move_as.new.folder) _ why c.in_ok-move_as.ensures.stop
-    (λ over. let none : c.begun_anew-next.result.told ≡ 0 = ap (λ (x : Checkpoint). x.told) is in omega (arith, over))
+    (λ over. let none : c.begun_anew-next.result.said ≡ 0 = ap (λ (x : Checkpoint). x.said) is in omega (arith, over))
     (λ text long. too_long (λ l same. same ∙ is) long) c.in_err-put_checkpoint.ensures.stop)

@@ -7,7 +7,7 @@ use Rattle.ocfl_night.specs.declared.opening.Opened.{Opened}
 use Rattle.ocfl_night.proofs.Beginnings.{begins_so}
 use Rattle.ocfl_night.proofs.Moments.{joined_moments, leaves_weaker}
 use Rattle.ocfl_night.proofs.Heard.{found_heard, grows_none, is_err, since_found}
-use Rattle.ocfl_night.proofs.Whole.{told_whole}
+use Rattle.ocfl_night.proofs.Whole.{said_whole}
 use Rattle.ocfl_night.proofs.{Foreigners.{of_site}, Reasons.{caught_reason, opening_reason, opens_at, opens_so, put_first, put_self}}
 use Rattle.ocfl_night.proofs.nights.catch_up.Goals as goal
 
@@ -32,7 +32,7 @@ returns-clause-ready g c = λ told rounds checks kept.
 pub returns-clause-all : goal.returns-clause-all
 returns-clause-all g c =
     let is = c.in_ok-speak.ensures.all in
-    ap (λ (x : Checkpoint). x.told) is ∙ sym (ap (λ (x : Checkpoint). x.report.bytes) is)
+    ap (λ (x : Checkpoint). x.said) is ∙ sym (ap (λ (x : Checkpoint). x.report.bytes) is)
 
 pub returns-in_err-opened-clause-foreign : goal.returns-in_err-opened-clause-foreign
 returns-in_err-opened-clause-foreign g c = λ told k at foreign. (is_err _ c.from_residual.result c.from_residual.ensures.1, (c.open.ensures.foreign told k at foreign).1)
@@ -67,7 +67,7 @@ pub returns-clause-lost_only : goal.returns-clause-lost_only
 returns-clause-lost_only g c = λ told not_yet is. c.in_ok-opened.ensures.lost_only told is
 
 pub returns-clause-whole : goal.returns-clause-whole
-returns-clause-whole g c = λ told. told_whole c.in_ok-opened.opened.checkpoint c.in_ok-speak.ensures.all (c.in_ok-opened.ensures.whole told)
+returns-clause-whole g c = λ told. said_whole c.in_ok-opened.opened.checkpoint c.in_ok-speak.ensures.all (c.in_ok-opened.ensures.whole told)
 
 pub returns-clause-begins : goal.returns-clause-begins
 returns-clause-begins g c = λ told. begins_so (ap position c.in_ok-speak.ensures.all) (c.in_ok-opened.ensures.begins told)

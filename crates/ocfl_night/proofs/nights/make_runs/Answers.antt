@@ -10,7 +10,7 @@ use Rattle.ocfl_terms.specs.Output.{HasFailed}
 use Rattle.ocfl_night.proofs.Beginnings.{ended_in, none_ended, one_more_since, shut_before}
 use Rattle.ocfl_night.proofs.Runs.{halted_so, made_so, troubled_after, troubled_in}
 use Rattle.ocfl_night.proofs.{Moments.{joined_moments}, Heard.{grows_none, said_on, silent}}
-use Rattle.ocfl_night.proofs.Whole.{closing_by, come_whole, grown_whole, told_whole}
+use Rattle.ocfl_night.proofs.Whole.{closing_by, come_whole, grown_whole, said_whole}
 use Rattle.ocfl_night.proofs.Reasons.{close_reason, put_closed, put_on, put_self, speak_reason, stops_at}
 use Rattle.ocfl_night.proofs.Reading.{read_to}
 use Rattle.ocfl_night.proofs.Again.{little_on}
@@ -73,7 +73,7 @@ returns-clause-said g c = λ told tells root over short t r.
     let rounds = of_any c.args.checkpoint.cursor.further (part_of c.args.part.now) in
     let said = c.in_ok-said.ensures.ready told rounds t (c.in_ok-last.ensures.ready told tells root over short None tt t r) in
     let all = c.in_ok-said.ensures.all in
-    c.in_ok-ended.ensures.said told rounds (t ++ said.more) said.ready (ap (λ (x : Checkpoint). x.told) all ∙ sym (ap (λ (x : Checkpoint). x.report.bytes) all))
+    c.in_ok-ended.ensures.said told rounds (t ++ said.more) said.ready (ap (λ (x : Checkpoint). x.said) all ∙ sym (ap (λ (x : Checkpoint). x.report.bytes) all))
 
 pub returns-in_err-last-clause-told : goal.returns-in_err-last-clause-told
 returns-in_err-last-clause-told g c = λ told.
@@ -101,7 +101,7 @@ returns-clause-whole g c = λ told tells root over short t r cycle is d come.
     let ends = closing_by c.in_ok-said.said.phase c.in_ok-said.said.cursor.cycle cycle (sym c.in_ok-ended.ensures.ended ∙ c.halt_after.ensures.ended cycle (cc is)) in
     let closed = c.in_ok-said.ensures.closed told ∙ c.in_ok-last.ensures.closed told in
     let fits = come_whole ends said.ready (c.in_ok-ended.ensures.finished told ends) d (come ∙ ap (λ (l : List Closed). l ++ d ∷ []) (sym closed)) in
-    let all = told_whole c.in_ok-last.last c.in_ok-said.ensures.all (grown_whole c.in_ok-last.ensures.leads) in
+    let all = said_whole c.in_ok-last.last c.in_ok-said.ensures.all (grown_whole c.in_ok-last.ensures.leads) in
     ((λ it. all.0 (fits.0 it)), (λ both. fits.1 (all.1 both)))
 
 pub returns-in_err-last-clause-grew : goal.returns-in_err-last-clause-grew
@@ -132,7 +132,7 @@ returns-in_err-ended-clause-stop g c = λ may.
     let all = c.in_ok-said.ensures.all in
     stops_at given (ForRuns silenced c.args.checkpoint c.runs.new.tally.runs) _ _ r why (cc (p.1, p.2))
     (close_reason (IsTrue g.S.StateFolder.told) given silenced c.args.checkpoint c.in_ok-said.said c.runs.new.tally.runs _ (g.S.StateFolder.faults c.speak.new.folder) _ why
-    (ap (λ (x : Checkpoint). x.told) all ∙ sym (ap (λ (x : Checkpoint). x.report.bytes) all))
+    (ap (λ (x : Checkpoint). x.said) all ∙ sym (ap (λ (x : Checkpoint). x.report.bytes) all))
     (λ l is. put_on c.in_ok-last.ensures.leads.alike c.in_ok-last.ensures.cycle (put_closed c.in_ok-last.last all is))
     (λ at. at.folder) (λ at. let a = c.in_ok-last.ensures.stop may at in let b = c.in_ok-said.ensures.stop at.folder in omega arith)
     c.in_err-ended.ensures.stop)

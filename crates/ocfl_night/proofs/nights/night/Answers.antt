@@ -14,7 +14,7 @@ use Rattle.ocfl_night.specs.Stopping.{ForNight, ForRuns, IsGiven, IsUnlooked, Te
 use Rattle.ocfl_night.proofs.Beginnings.{one_more_since, refused_still, shut_since, still_on}
 use Rattle.ocfl_night.proofs.{Moments.{leaves_weaker}, Runs.{left_so, made_from, made_so}}
 use Rattle.ocfl_night.proofs.Looks.{counts_on, last_of}
-use Rattle.ocfl_night.proofs.Heard.{heard_through, on_ok, ready_since, since_sound, told_since}
+use Rattle.ocfl_night.proofs.Heard.{heard_through, on_ok, ready_since, since_sound, said_since}
 use Rattle.ocfl_night.proofs.Halting.{counts_failed, failed_first}
 use Rattle.ocfl_night.proofs.{Foreigners.{of_store}, Newest.{newest}}
 use Rattle.ocfl_night.proofs.Reasons.{ended_troubled, failed_since, night_reason, opened_reason, stopped_reason, unbegun_reason, unbegun_troubled}
@@ -60,7 +60,7 @@ module _ (g : given.Over) (c : After-make_runs-through g) (tells : IsTrue g.T.Tr
       let same = alike g c known in
       let r = c.in-Ok.ensures.ready told rounds refl kept in
       let last = last_at known one in
-      let runs = c.make_runs-through.ensures.heard told tells root (c.set_out.ensures.root tells ∙ over) short known last (told_since same r) (ready_since same r) in
+      let runs = c.make_runs-through.ensures.heard told tells root (c.set_out.ensures.root tells ∙ over) short known last (said_since same r) (ready_since same r) in
       heard_through same r (c.set_out.ensures.heard told rounds refl kept) c.make_runs-through.ensures.grew runs
 
 pub returns : goal.returns

@@ -28,7 +28,7 @@ use Rattle.ocfl_night.proofs.Asking.{asked_named, err_holds, may_named}
 use Rattle.ocfl_night.proofs.Halting.{begun_failed_so, none_failed, paused_failed_so, run_failed_so}
 use Rattle.ocfl_night.proofs.nights.runs.Given as given
 use Rattle.ocfl_night.proofs.nights.runs.Goals.{After-go_on_after}
-use Rattle.ocfl_night.proofs.Reasons.{counted_on, endless_before, none_counted, passed_within, put_on, put_passed, put_reason, put_run, slice_reason, stops_at, told_within, worn_after, worn_out}
+use Rattle.ocfl_night.proofs.Reasons.{counted_on, endless_before, none_counted, passed_within, put_on, put_passed, put_reason, put_run, slice_reason, stops_at, said_within, worn_after, worn_out}
 use Rattle.ocfl_night.proofs.nights.runs.Goals as goal
 use Rattle.ocfl_report.specs.declared.further.Further.{Further}
 
@@ -336,7 +336,7 @@ returns-in_err-made-clause-stop g c = λ may.
     (λ l run. put_on inv.leads.alike inv.cycle (put_run going run))
     (λ at. at.folder) (λ at. inv.faults at.folder)
     (λ at. ready_mark going (inv.ready at.folder at.store _ refl at.short None tt at.holds.0 at.holds.1))
-    (λ at. told_within (inv.ready at.folder at.store _ refl at.short None tt at.holds.0 at.holds.1).stands)
+    (λ at. said_within (inv.ready at.folder at.store _ refl at.short None tt at.holds.0 at.holds.1).stands)
     (worn_after c.args.start c.loop-run.checkpoint going inv.cycle inv.counted (omega (arith, begun)))
     (endless_before inv.leads (inv.left may).ends)
     c.in_err-made.ensures.stop)
@@ -356,7 +356,7 @@ returns-in_err-next-clause-stop g c = λ may.
     (λ l passed. put_on inv.leads.alike inv.cycle (put_passed going c.in_ok-made.ensures.slice passed))
     (λ x. x.folder)
     (λ x. le_trans (c.loop-run.invariant.faults x.folder) (c.in_ok-made.ensures.stop x.folder))
-    (λ x l passed. passed_within c.in_ok-made.made (told_within (made_ready g at x.store _ refl x.short None tt x.folder x.holds.0 x.holds.1).stands) passed)
+    (λ x l passed. passed_within c.in_ok-made.made (said_within (made_ready g at x.store _ refl x.short None tt x.folder x.holds.0 x.holds.1).stands) passed)
     c.in_err-next.ensures.stop)
 
 pub returns-clause-stop : goal.returns-clause-stop

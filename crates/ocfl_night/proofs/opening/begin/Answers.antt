@@ -53,6 +53,6 @@ returns-in_err-put_checkpoint-clause-stop g c =
     let is = c.in_ok-checkpoint.ensures in
     opens_at told here _ _ r why (cc (p.1, p.2))
     (put_by told here c.in_ok-checkpoint.checkpoint _ (g.S.StateFolder.faults c.is_new.new.folder) _ why c.in_ok-is_new.ensures.stop
-    (λ over. let none : c.in_ok-checkpoint.checkpoint.told ≡ 0 = ap (λ (x : Checkpoint). x.told) is in omega (arith, over))
+    (λ over. let none : c.in_ok-checkpoint.checkpoint.said ≡ 0 = ap (λ (x : Checkpoint). x.said) is in omega (arith, over))
     (λ text long. too_long (λ l same. record { is = same ∙ is; empty = λ tells. search rules; unclosed = λ tells. search rules }) long)
     c.in_err-put_checkpoint.ensures.stop)

@@ -3,7 +3,7 @@ use Rattle.std.proofs.{Common.{◌≡◌, ◌≤◌, ◌∙◌, [], ap, refl, ru
 use Rattle.ocfl_state.specs.{Checkpoint.{Checkpoint}, Content.{Content}}
 use Rattle.ocfl_night.specs.{Beginning.{position, stored}, Older.{IsOlder}, Refusing.{IsDisowned, IsOutdated, not_own, outdated}, Sound.{IsAt, IsNew}, Steps.{IsOpened, IsTakenUp}, Stopping.{ForFirst, ForOpen, ForPut, IsToOpen}}
 use Rattle.ocfl_night.proofs.{Beginnings.{begun_first, first_to_open, taken_stays, taken_within}, Foreigners.{at_once, first_own, own_at, taken_own}, Moments.{same_twice, unchanged}, Heard.{is_err, kept_found}}
-use Rattle.ocfl_night.proofs.TakingUp.{found_on, found_ready, none_found, same_found, settled_there, shown_new, some_found, taken_moments, told_none}
+use Rattle.ocfl_night.proofs.TakingUp.{found_on, found_ready, none_found, same_found, settled_there, shown_new, some_found, taken_moments, said_none}
 use Rattle.ocfl_night.specs.{Site.{IsOwn}, declared.opening.Opened.{Opened}}
 use Rattle.ocfl_night.proofs.Reasons.{first_reason, open_reason, opens_over}
 use Rattle.ocfl_night.proofs.{Lost.{first_not, lost_opened, opened_as}, Whole.{first_whole, opened_whole}}
@@ -40,7 +40,7 @@ returns-in_default-clause-any_moment g c = λ told rounds checks kept.
     let same = c.look.ensures.seen told in
     let none = none_found (g.S.StateFolder.seen c.args.folder.now) (c.in_ok-found.ensures.value told) c.in_default.is in
     let new = shown_new rounds (kept (g.S.StateFolder.seen c.args.folder.now) was) none in
-    found_on (g.met.S.StateFolder.only_now told) was kept (c.look.ensures.crash told) (told_none rounds _ (kept (g.S.StateFolder.seen c.args.folder.now) was) none)
+    found_on (g.met.S.StateFolder.only_now told) was kept (c.look.ensures.crash told) (said_none rounds _ (kept (g.S.StateFolder.seen c.args.folder.now) was) none)
     (c.begin.ensures.any_moment told rounds checks (c.in_ok-found.ensures.only told) (ap (λ (x : Content). x.checkpoint) same ∙ none) (subst (IsNew []) (sym same) new))
 
 pub returns-in_default-clause-ready : goal.returns-in_default-clause-ready
@@ -48,7 +48,7 @@ returns-in_default-clause-ready g c = λ told rounds checks kept.
     let was = g.met.S.StateFolder.stays told c.args.folder.now in
     let none = none_found (g.S.StateFolder.seen c.args.folder.now) (c.in_ok-found.ensures.value told) c.in_default.is in
     let new = shown_new rounds (kept (g.S.StateFolder.seen c.args.folder.now) was) none in
-    IfOk-weaker c.begin.result _ _ (λ o r. found_ready kept _ was (told_none rounds _ (kept (g.S.StateFolder.seen c.args.folder.now) was) none) r)
+    IfOk-weaker c.begin.result _ _ (λ o r. found_ready kept _ was (said_none rounds _ (kept (g.S.StateFolder.seen c.args.folder.now) was) none) r)
     (c.begin.ensures.ready told rounds checks (c.in_ok-found.ensures.only told) (subst (IsNew []) (sym (c.look.ensures.seen told)) new))
 
 pub returns-in_err-found-clause-foreign : goal.returns-in_err-found-clause-foreign
@@ -175,4 +175,4 @@ returns-in-Ok-clause-stop g c =
     opens_over (ForPut (IsTakenUp c.args.identity.now c.in-Ok.checkpoint)) (ForOpen to_open here) _ (g.S.StateFolder.faults c.look.new.folder) _ c.go_on.result (λ it. it) c.in_ok-found.ensures.stop
     (λ why. open_reason told {Two = to_open} here _ (g.S.StateFolder.faults c.look.new.folder) _ why c.in_ok-found.ensures.stop
     (λ l up. record { own = taken_own (owned g at) up; begins = λ it. stored c.in-Some.found (found it) (taken_stays c.args.identity.now up ∙ ap position c.in-Ok.ensures.same) })
-    (λ it l up. taken_within c.args.identity.now (subst (λ (x : Checkpoint). x.told ≤ x.report.bytes) (sym c.in-Ok.ensures.same) (found it).text.keeps.told) up)) c.go_on.ensures.stop
+    (λ it l up. taken_within c.args.identity.now (subst (λ (x : Checkpoint). x.said ≤ x.report.bytes) (sym c.in-Ok.ensures.same) (found it).text.keeps.said) up)) c.go_on.ensures.stop

@@ -18,5 +18,5 @@ returns-clause-grew g c = gave_grows _ _ c.give.ensures.grew c.give.ensures.kept
 pub returns-clause-said : goal.returns-clause-said
 returns-clause-said g c = λ told.
     subst (Appends (g.O.Output.said c.args.out.now).given (g.O.Output.said c.give.new.self).given)
-    (piece_read (g.S.StateFolder.seen c.args.folder.now).report c.read.new.buffer c.args.start c.in_ok-count.count c.min-told.result (omega (arith, c.min-told.ensures)) c.in_ok-count.ensures.bound (c.in_ok-count.ensures.value told).are)
+    (piece_read (g.S.StateFolder.seen c.args.folder.now).report c.read.new.buffer c.args.start c.in_ok-count.count c.min-given.result (omega (arith, c.min-given.ensures)) c.in_ok-count.ensures.bound (c.in_ok-count.ensures.value told).are)
     c.in_ok-give.ensures.given

@@ -13,5 +13,5 @@ returns-clause-grew g c = grows_on _ _ _ c.say_between.ensures.grew (committed_g
 pub returns-clause-said : goal.returns-clause-said
 returns-clause-said g c = λ told.
     subst (λ (l : Text). HasCommitted l (g.O.Output.said c.args.out.now) (g.O.Output.said c.commit.new.self))
-    (unsaid_as c.args.checkpoint.now (g.S.StateFolder.seen c.args.folder.now) c.told_of.result c.bytes_of.result c.told_of.ensures c.bytes_of.ensures)
+    (unsaid_as c.args.checkpoint.now (g.S.StateFolder.seen c.args.folder.now) c.said_of.result c.bytes_of.result c.said_of.ensures c.bytes_of.ensures)
     (has_committed _ (g.O.Output.said c.args.out.now) (g.O.Output.said c.say_between.new.out) (g.O.Output.said c.commit.new.self) (c.in_ok-say_between.ensures.said told) c.commit.ensures.given c.in_ok-commit.ensures.all)

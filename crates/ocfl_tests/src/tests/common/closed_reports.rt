@@ -58,7 +58,7 @@ pub fn closed_with(
         phase: Phase::Closing,
         whole,
         report,
-        told: 0,
+        said: 0,
         left,
         part: None,
         cursor: Cursor::from_parts(1, 1, 4, 1, Further::Nothing, State::Ended)?,

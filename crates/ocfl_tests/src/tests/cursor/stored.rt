@@ -229,6 +229,12 @@ fn lines_of_cursors_are_read_by_themselves(rt: HostRuntime) -> Result<(), Fail> 
         let written = stored_lines(alloc, &part, &cursor)?;
         assert_eq!(rt; written.as_slice(), lines.as_bytes(), "{row}");
     }
+    Ok(())
+}
+
+#[test]
+fn other_lines_than_those_of_a_cursor_are_bad(rt: HostRuntime) -> Result<(), Fail> {
+    let alloc = rt.alloc();
     for (row, lines) in [
         ("no lines", ""),
         (

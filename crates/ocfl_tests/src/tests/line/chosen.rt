@@ -177,6 +177,17 @@ fn has_parts_only_where_they_are_taken(rt: HostRuntime) {
     );
 }
 
+/// A line asks for splitting the folder `R` into so many parts.
+fn expect_listing(rt: &impl Runtime, row: &str, line: &str, wanted: usize) -> Result<(), Fail> {
+    match read(rt.alloc(), line)? {
+        Asked::Split(Split::Listing { count, root }) => {
+            assert_eq!(rt; (count, root.as_str()), (wanted, "R"), "{row}");
+            Ok(())
+        }
+        _ => Err(Fail::from("no split by listing")),
+    }
+}
+
 #[test]
 fn splits_by_either(rt: HostRuntime) -> Result<(), Fail> {
     for (name, line, count) in [
@@ -188,9 +199,7 @@ fn splits_by_either(rt: HostRuntime) -> Result<(), Fail> {
             2,
         ),
     ] {
-        let root = String::from_str(rt.alloc(), "R")?;
-        let wanted = Asked::Split(Split::Listing { count, root });
-        assert_eq!(rt; read(rt.alloc(), line)?, wanted, "{name}");
+        expect_listing(&rt, name, line, count)?;
     }
     for (name, line, budget) in [
         ("by the least budget", "split --budget 1 --report P", 1),

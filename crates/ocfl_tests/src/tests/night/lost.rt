@@ -21,7 +21,7 @@ fn a_report_that_lost_its_end_is_closed_as_incomplete(rt: HostRuntime) -> Result
         let text = folder.checkpoint_bytes().ok_or("no checkpoint")?;
         let checkpoint = decode_checkpoint(alloc, text)?;
         let (whole, bytes) = (checkpoint.whole, checkpoint.report.bytes);
-        assert_eq!(rt; (whole, bytes, checkpoint.told), (false, most, most));
+        assert_eq!(rt; (whole, bytes, checkpoint.said), (false, most, most));
         let made = night_of(alloc, &mut folder, &plan(None, None, false)?, &mut said)?;
         assert_eq!(rt;
             (ending(&made.end), made.lost),
@@ -68,7 +68,7 @@ fn a_report_with_another_byte_is_lost_once(rt: HostRuntime) -> Result<(), Fail> 
         assert_eq!(rt; checkpoint.report.tail, Sha256::digest(&changed), "{place}");
         let long = changed.len() as u64;
         assert_eq!(rt;
-            (checkpoint.whole, checkpoint.told),
+            (checkpoint.whole, checkpoint.said),
             (false, long),
             "{place}"
         );

@@ -401,13 +401,9 @@ fn lines_are_counted(rt: HostRuntime) -> Result<(), Fail> {
     ] {
         tally.add(&line_of(alloc, text)?)?;
     }
-    let counts = Counts {
-        right: 2,
-        files: 4,
-        objects: 2,
-        bytes: 7,
-    };
-    assert_eq!(rt; tally.counts(), counts);
+    let counts = tally.counts();
+    assert_eq!(rt; (counts.right, counts.files), (2, 4));
+    assert_eq!(rt; (counts.objects, counts.bytes), (2, 7));
     Ok(())
 }
 

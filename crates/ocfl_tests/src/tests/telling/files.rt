@@ -1,7 +1,7 @@
 //! How many files of an object are right, as a night says it.
 use crate::tests::common::store::place_of;
 use ocfl_messages::{
-    FileCounts, Found, Gathering, Gravest, Heads, Known, KnownEntry, Night, Reach, night_text,
+    Finding, Found, Gathering, Gravest, Heads, Known, KnownEntry, Night, Reach, night_text,
 };
 use ocfl_report::read_line;
 use std::alloc::Global;
@@ -127,6 +127,14 @@ fn files_with_known_findings_are_counted(rt: HostRuntime) -> Result<(), Fail> {
     Ok(())
 }
 
+/// How many files of its object are right, how many there are, and whether these are all.
+fn counts_of(finding: &Finding) -> Option<(u64, u64, bool)> {
+    match finding.files {
+        Some(counts) => Some((counts.right, counts.files, counts.is_whole)),
+        None => None,
+    }
+}
+
 /// Files that are right count alike whether they come one by one or together.
 #[test]
 fn files_are_counted_together(rt: HostRuntime) -> Result<(), Fail> {
@@ -139,12 +147,8 @@ fn files_are_counted_together(rt: HostRuntime) -> Result<(), Fail> {
         }
         found.take_right(right);
         let (gravest, _) = found.end(true)?;
-        let files = FileCounts {
-            right,
-            files: right.saturating_add(1),
-            is_whole: true,
-        };
-        assert_eq!(rt; gravest.bytes.first.as_slice()[0].files, Some(files));
+        let counts = counts_of(&gravest.bytes.first.as_slice()[0]);
+        assert_eq!(rt; counts, Some((right, right.saturating_add(1), true)));
     }
     Ok(())
 }
@@ -174,12 +178,7 @@ fn gatherings_count_what_is_not_told(rt: HostRuntime) -> Result<(), Fail> {
         let kept = gravest.bytes.first.as_slice();
         assert_eq!(rt; kept.len(), 1);
         assert_eq!(rt; kept[0].line.place, place_of(alloc, "o/b")?);
-        let files = FileCounts {
-            right: 1,
-            files: 3,
-            is_whole: true,
-        };
-        assert_eq!(rt; kept[0].files, Some(files));
+        assert_eq!(rt; counts_of(&kept[0]), Some((1, 3, true)));
     }
     Ok(())
 }

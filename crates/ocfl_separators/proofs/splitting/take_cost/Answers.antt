@@ -1,7 +1,7 @@
 use Rattle.std.proofs.Common.{◌<◌, ◌^◌, Err, ap, sym, ◌∙◌, arith}
 use Rattle.std.proofs.lemmas.Result.{err_from_is_err_and}
 use Rattle.ocfl_separators.proofs.Cuts.{first_taken, same_taken, later_taken, close_refused}
-use Rattle.ocfl_separators.proofs.splitting.take_told.Goals as goal
+use Rattle.ocfl_separators.proofs.splitting.take_cost.Goals as goal
 
 pub returns-in_default-clause-ok : goal.returns-in_default-clause-ok
 returns-in_default-clause-ok c = λ done line has e h.

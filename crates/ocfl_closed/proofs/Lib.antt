@@ -2,7 +2,7 @@ mod Findings
 mod Losing
 mod Marks
 mod NotedIn
-mod Passing
+pub mod Passing
 mod Pushing
 mod Putting
 mod Reading

@@ -22,8 +22,6 @@ pub record ClosedState : Type 1 where
   pub moment : ℕ
   -- what a cut at some moment from that one on might have left
   pub left_since : ℕ → Outcomes
-  -- how often a call has failed, for another reason than memory
-  pub faults : ℕ
 
 -- One call passes: what a cut may leave after it, or might have left in it, is what it might have
 -- left before, or that after a step. What it might have left before stays so.
@@ -82,5 +80,4 @@ untold = record {
   may_leave = λ _. ⊤;
   moment = 0;
   left_since = λ _ _. ⊤;
-  faults = 0;
 }

@@ -15,7 +15,6 @@ next files beside is_synced may_leave d = record {
   may_leave = may_leave;
   moment = d.moment + 1;
   left_since = λ t k. ((t ≤ d.moment) × d.left_since t k) ⊎ may_leave k;
-  faults = d.faults;
 }
 
 -- a list is made, or ended with these bytes, of which nothing is on the disk
@@ -52,7 +51,6 @@ begun files = record {
   may_leave = λ k. k ≡ kept_of files;
   moment = 0;
   left_since = λ t k. k ≡ kept_of files;
-  faults = 0;
 }
 
 -- from these files on, the last call first

@@ -37,8 +37,7 @@ pub(crate) fn account_of<D: ClosedDisk>(
     ensures back { IsTrue D.told → IfOk result (λ a.
         AreBack (kept_of (D.state disk.old).files) pair.now a.back.items) }
     ensures still { IsTrue D.told → Still (D.state disk.old) (D.state disk.new) }
-    ensures cause { IsTrue D.told
-        → HasCause (D.state disk.old).faults (D.state disk.new).faults result }
+    ensures cause { IsTrue D.told → HasCause (D.faults disk.old) (D.faults disk.new) result }
 {
     let kept = read_kept(alloc, disk, pair.closed.cycle())?;
     let paths = disk.find_paths(pair)?;
@@ -106,8 +105,7 @@ fn find_returned<D: ClosedDisk>(
     ensures back { IsTrue D.told → IfOk result (λ back.
         AreBack (kept_of (D.state disk.old).files) pair.now back.items) }
     ensures still { IsTrue D.told → Still (D.state disk.old) (D.state disk.new) }
-    ensures cause { IsTrue D.told
-        → HasCause (D.state disk.old).faults (D.state disk.new).faults result }
+    ensures cause { IsTrue D.told → HasCause (D.faults disk.old) (D.faults disk.new) result }
 {
     if pair.closed.is_lost() {
         return Ok(Vec::new(alloc));

@@ -80,8 +80,7 @@ fn take_list<D: ClosedDisk>(
         → gone.old.items ≡ take most_objects all
         → gone.new.items ≡ take most_objects (all ++ more)))) }
     ensures still { IsTrue D.told → Still (D.state disk.old) (D.state disk.new) }
-    ensures cause { IsTrue D.told
-        → HasCause (D.state disk.old).faults (D.state disk.new).faults result }
+    ensures cause { IsTrue D.told → HasCause (D.faults disk.old) (D.faults disk.new) result }
 {
     match disk.open_list(cycle)? {
         Some(list) => take_opened(alloc, disk, cycle, list, gone),
@@ -105,8 +104,7 @@ fn take_opened<D: ClosedDisk>(
         → gone.old.items ≡ take most_objects all
         → gone.new.items ≡ take most_objects (all ++ more))))) }
     ensures still { IsTrue D.told → Still (D.state disk.old) (D.state disk.new) }
-    ensures cause { IsTrue D.told
-        → HasCause (D.state disk.old).faults (D.state disk.new).faults result }
+    ensures cause { IsTrue D.told → HasCause (D.faults disk.old) (D.faults disk.new) result }
 {
     let mut list = list;
     match take_rows(alloc, &mut list, gone) {
@@ -128,8 +126,7 @@ fn take_before<D: ClosedDisk>(
         → gone.old.items ≡ take most_objects all
         → gone.new.items ≡ take most_objects (all ++ more)))) }
     ensures still { IsTrue D.told → Still (D.state disk.old) (D.state disk.new) }
-    ensures cause { IsTrue D.told
-        → HasCause (D.state disk.old).faults (D.state disk.new).faults result }
+    ensures cause { IsTrue D.told → HasCause (D.faults disk.old) (D.faults disk.new) result }
 {
     if cycle == 0 {
         return Ok(());
@@ -147,8 +144,7 @@ fn gone_before<D: ClosedDisk>(
         × (AreLostLately (D.state disk.old).files.lists cycle all
         × (places.items ≡ take most_objects all))) }
     ensures still { IsTrue D.told → Still (D.state disk.old) (D.state disk.new) }
-    ensures cause { IsTrue D.told
-        → HasCause (D.state disk.old).faults (D.state disk.new).faults result }
+    ensures cause { IsTrue D.told → HasCause (D.faults disk.old) (D.faults disk.new) result }
 {
     let mut gone = Vec::new(alloc);
     for back in 0..MOST_BACK {
@@ -169,8 +165,7 @@ fn find_lacking<D: ClosedDisk>(
     ensures lacking { IsTrue D.told → IfOk result (λ lacking. AreLacking left.now objects.items
         ((kept_of (D.state disk.old).files).reports cycle) lacking.items) }
     ensures still { IsTrue D.told → Still (D.state disk.old) (D.state disk.new) }
-    ensures cause { IsTrue D.told
-        → HasCause (D.state disk.old).faults (D.state disk.new).faults result }
+    ensures cause { IsTrue D.told → HasCause (D.faults disk.old) (D.faults disk.new) result }
 {
     let mut objects = objects;
     let mut lacking = Places {
@@ -199,8 +194,7 @@ fn find_between<D: ClosedDisk>(
         ((kept_of (D.state disk.old).files).reports before.now.cycle)
         ((kept_of (D.state disk.old).files).reports now.now.cycle) back.items) }
     ensures still { IsTrue D.told → Still (D.state disk.old) (D.state disk.new) }
-    ensures cause { IsTrue D.told
-        → HasCause (D.state disk.old).faults (D.state disk.new).faults result }
+    ensures cause { IsTrue D.told → HasCause (D.faults disk.old) (D.faults disk.new) result }
 {
     let left = left_by_both(alloc, now, before)?;
     let lacking = find_lacking(alloc, disk, before.cycle(), gone, &left)?;
@@ -224,8 +218,7 @@ pub(crate) fn find_back<D: ClosedDisk>(
     ensures back { IsTrue D.told → IfOk result (λ back. AreBackSince
         (kept_of (D.state disk.old).files) pair.now.closed pair.now.before back.items) }
     ensures still { IsTrue D.told → Still (D.state disk.old) (D.state disk.new) }
-    ensures cause { IsTrue D.told
-        → HasCause (D.state disk.old).faults (D.state disk.new).faults result }
+    ensures cause { IsTrue D.told → HasCause (D.faults disk.old) (D.faults disk.new) result }
 {
     match &pair.before {
         Some(before) => find_since(alloc, disk, before, &pair.closed),
@@ -243,8 +236,7 @@ fn find_since<D: ClosedDisk>(
     ensures back { IsTrue D.told → IfOk result (λ back. AreBackSince
         (kept_of (D.state disk.old).files) now.now (Some before.now) back.items) }
     ensures still { IsTrue D.told → Still (D.state disk.old) (D.state disk.new) }
-    ensures cause { IsTrue D.told
-        → HasCause (D.state disk.old).faults (D.state disk.new).faults result }
+    ensures cause { IsTrue D.told → HasCause (D.faults disk.old) (D.faults disk.new) result }
 {
     let gone = gone_before(alloc, disk, now.cycle())?;
     if gone.is_empty() {

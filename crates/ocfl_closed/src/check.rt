@@ -87,8 +87,7 @@ pub(crate) fn check_of<D: ClosedDisk>(
         ((D.state disk.old).files.checkpoint cycle) report) }
     ensures begun { IfOk result (λ check. HasTaken check []) }
     ensures still { IsTrue D.told → Still (D.state disk.old) (D.state disk.new) }
-    ensures cause { IsTrue D.told
-        → HasCause (D.state disk.old).faults (D.state disk.new).faults result }
+    ensures cause { IsTrue D.told → HasCause (D.faults disk.old) (D.faults disk.new) result }
 {
     match disk.kept_checkpoint(cycle)? {
         Some(bytes) => check_by(alloc, &bytes),

@@ -50,11 +50,25 @@ impl<'n, D: ClosedDisk> DiskClosings<'n, D> {
         }
     }
 
+    /// The disk alone.
+    pub fn into_disk(self) -> D
+        ensures { result ≡ self.entry.disk }
+    {
+        let DiskClosings {
+            alloc: _alloc,
+            disk,
+            with: _with,
+            closed: _closed,
+            account: _account,
+        } = self;
+        disk
+    }
+
     /// Logs what was found last.
     fn log(&mut self, pair: &Pair) -> Result<(), ClosingStop>
         ensures calm { IsTrue D.told → Calm (D.state self.old.disk) (D.state self.new.disk) }
         ensures cause { IsTrue D.told
-            → HasCause (D.state self.old.disk).faults (D.state self.new.disk).faults result }
+            → HasCause (D.faults self.old.disk) (D.faults self.new.disk) result }
     {
         match self.account.take() {
             Some(account) => self.disk.log(pair, &account),
@@ -76,8 +90,7 @@ fn put_list<D: ClosedDisk>(disk: &mut D, cycle: u64) -> Result<(), ClosingStop>
     ensures durable { IsTrue D.told → OnOk result (Follows
         (IsPut (account_with cycle (D.state disk.old).beside))
         (D.state disk.old).may_leave (D.state disk.new).may_leave) }
-    ensures cause { IsTrue D.told
-        → HasCause (D.state disk.old).faults (D.state disk.new).faults result }
+    ensures cause { IsTrue D.told → HasCause (D.faults disk.old) (D.faults disk.new) result }
 {
     disk.sync_list()?;
     disk.rename_list(cycle)?;
@@ -97,7 +110,7 @@ impl<D: ClosedDisk> Closings for DiskClosings<'_, D> {
 
     ghost left_since = { λ closings. (D.state closings.disk).left_since };
 
-    ghost faults = { λ closings. (D.state closings.disk).faults };
+    ghost faults = { λ closings. D.faults closings.disk };
 
     ghost says = { said_of };
 

@@ -62,8 +62,7 @@ pub fn find_changes<D: ClosedDisk>(
     ensures unchanged { IsTrue D.told
         → OnOk result (AreUnchanged (D.state disk.old).files pair.now) }
     ensures calm { IsTrue D.told → Calm (D.state disk.old) (D.state disk.new) }
-    ensures cause { IsTrue D.told
-        → HasCause (D.state disk.old).faults (D.state disk.new).faults result }
+    ensures cause { IsTrue D.told → HasCause (D.faults disk.old) (D.faults disk.new) result }
 {
     let list = disk.make_list(pair.closed.cycle())?;
     let taking = Taking {
@@ -103,8 +102,7 @@ fn end_changes<D: ClosedDisk>(
         AreBack (kept_of (D.state disk.old).files) pair.now it.account.back.items) }
     ensures grave { IfOk result (λ it. it.found.is_grave ≡ taking.entry.is_grave) }
     ensures calm { IsTrue D.told → Calm (D.state disk.old) (D.state disk.new) }
-    ensures cause { IsTrue D.told
-        → HasCause (D.state disk.old).faults (D.state disk.new).faults result }
+    ensures cause { IsTrue D.told → HasCause (D.faults disk.old) (D.faults disk.new) result }
 {
     let Taking {
         list,
@@ -143,8 +141,7 @@ fn take_changes<'n, D: ClosedDisk>(
     ensures unchanged { IsTrue D.told
         → OnOk result (AreUnchanged (D.state disk.old).files pair.now) }
     ensures still { IsTrue D.told → Still (D.state disk.old) (D.state disk.new) }
-    ensures cause { IsTrue D.told
-        → HasCause (D.state disk.old).faults (D.state disk.new).faults result }
+    ensures cause { IsTrue D.told → HasCause (D.faults disk.old) (D.faults disk.new) result }
 {
     if pair.closed.is_lost() {
         return Ok(taking);
@@ -170,8 +167,7 @@ fn take_all<'n, D: ClosedDisk>(
     ensures unchanged { IsTrue D.told
         → OnOk result (AreAllUnchanged (D.state disk.old).files pair.now) }
     ensures still { IsTrue D.told → Still (D.state disk.old) (D.state disk.new) }
-    ensures cause { IsTrue D.told
-        → HasCause (D.state disk.old).faults (D.state disk.new).faults result }
+    ensures cause { IsTrue D.told → HasCause (D.faults disk.old) (D.faults disk.new) result }
 {
     let mut taking = take_since(alloc, disk, pair, taking)?;
     taking.words.end_since()?;
@@ -195,8 +191,7 @@ fn take_since<D: ClosedDisk, T: TakeChange + Drop>(
     ensures unchanged { IsTrue D.told
         → OnOk result (IsBeforeUnchanged (D.state disk.old).files pair.now) }
     ensures still { IsTrue D.told → Still (D.state disk.old) (D.state disk.new) }
-    ensures cause { IsTrue D.told
-        → HasCause (D.state disk.old).faults (D.state disk.new).faults result }
+    ensures cause { IsTrue D.told → HasCause (D.faults disk.old) (D.faults disk.new) result }
 {
     match &pair.before {
         Some(before) => compare_before(alloc, disk, pair, before, taker),
@@ -219,8 +214,7 @@ fn compare_before<D: ClosedDisk, T: TakeChange + Drop>(
     ensures unchanged { IsTrue D.told
         → OnOk result (IsUnchangedSince (D.state disk.old).files pair.now before.now.cycle) }
     ensures still { IsTrue D.told → Still (D.state disk.old) (D.state disk.new) }
-    ensures cause { IsTrue D.told
-        → HasCause (D.state disk.old).faults (D.state disk.new).faults result }
+    ensures cause { IsTrue D.told → HasCause (D.faults disk.old) (D.faults disk.new) result }
 {
     let mut taker = taker;
     let left = left_by_both(alloc, &pair.closed, before)?;
@@ -239,8 +233,7 @@ fn see_lines<D: ClosedDisk, T: TakeChange + Drop>(
         (IsSeenSince (kept_of (D.state disk.old).files) pair.now.closed None)
         (λ seen. T.takes taker seen after)) }
     ensures still { IsTrue D.told → Still (D.state disk.old) (D.state disk.new) }
-    ensures cause { IsTrue D.told
-        → HasCause (D.state disk.old).faults (D.state disk.new).faults result }
+    ensures cause { IsTrue D.told → HasCause (D.faults disk.old) (D.faults disk.new) result }
 {
     let mut within = Within {
         places: Vec::new(alloc),
@@ -265,8 +258,7 @@ fn see_all<D: ClosedDisk, T: TakeChange>(
         ((kept_of (D.state disk.old).files).reports pair.now.closed.cycle)
         (λ seen. T.takes taker.old seen taker.new)) }
     ensures still { IsTrue D.told → Still (D.state disk.old) (D.state disk.new) }
-    ensures cause { IsTrue D.told
-        → HasCause (D.state disk.old).faults (D.state disk.new).faults result }
+    ensures cause { IsTrue D.told → HasCause (D.faults disk.old) (D.faults disk.new) result }
 {
     let cycle = pair.closed.cycle();
     let mut none: &[u8] = &[];
@@ -340,8 +332,7 @@ fn take_since_whole<D: ClosedDisk, T: TakeChange + Drop>(
     ensures unchanged { IsTrue D.told
         → OnOk result (IsWholeUnchanged (D.state disk.old).files pair.now.whole) }
     ensures still { IsTrue D.told → Still (D.state disk.old) (D.state disk.new) }
-    ensures cause { IsTrue D.told
-        → HasCause (D.state disk.old).faults (D.state disk.new).faults result }
+    ensures cause { IsTrue D.told → HasCause (D.faults disk.old) (D.faults disk.new) result }
 {
     match &pair.whole {
         Some(whole) => compare_whole(alloc, disk, pair, whole, taker),
@@ -364,8 +355,7 @@ fn compare_whole<D: ClosedDisk, T: TakeChange + Drop>(
     ensures unchanged { IsTrue D.told → OnOk result
         (is_unchanged (D.state disk.old).files whole.now.cycle ≡ true) }
     ensures still { IsTrue D.told → Still (D.state disk.old) (D.state disk.new) }
-    ensures cause { IsTrue D.told
-        → HasCause (D.state disk.old).faults (D.state disk.new).faults result }
+    ensures cause { IsTrue D.told → HasCause (D.faults disk.old) (D.faults disk.new) result }
 {
     let Ok(places) = both(alloc, pair.again.as_slice(), &[]) else {
         return Err(ClosingStop::Memory);
@@ -395,8 +385,7 @@ fn take_missing<D: ClosedDisk>(
         seen
         (stand_of (D.List.contents taking.new.list.out) taking.new.words taking.new.is_grave))) }
     ensures still { IsTrue D.told → Still (D.state disk.old) (D.state disk.new) }
-    ensures cause { IsTrue D.told
-        → HasCause (D.state disk.old).faults (D.state disk.new).faults result }
+    ensures cause { IsTrue D.told → HasCause (D.faults disk.old) (D.faults disk.new) result }
 {
     match disk.read_listed()? {
         Some(listed) => take_missing_of(alloc, disk, pair, listed, taking),
@@ -420,8 +409,7 @@ fn take_missing_of<D: ClosedDisk>(
         seen
         (stand_of (D.List.contents taking.new.list.out) taking.new.words taking.new.is_grave))) }
     ensures still { IsTrue D.told → Still (D.state disk.old) (D.state disk.new) }
-    ensures cause { IsTrue D.told
-        → HasCause (D.state disk.old).faults (D.state disk.new).faults result }
+    ensures cause { IsTrue D.told → HasCause (D.faults disk.old) (D.faults disk.new) result }
 {
     let mut listed = listed;
     search(alloc, disk, pair, &mut listed, taking)?;
@@ -441,8 +429,7 @@ fn search<D: ClosedDisk, T: TakeChange>(
         ((kept_of (D.state disk.old).files).reports pair.now.closed.cycle)
         (λ seen. T.takes taker.old seen taker.new)) }
     ensures still { IsTrue D.told → Still (D.state disk.old) (D.state disk.new) }
-    ensures cause { IsTrue D.told
-        → HasCause (D.state disk.old).faults (D.state disk.new).faults result }
+    ensures cause { IsTrue D.told → HasCause (D.faults disk.old) (D.faults disk.new) result }
 {
     let mut report = open_reader(alloc, disk, pair.closed.cycle())?;
     match find_expected(alloc, listed, &mut report, pair.closed.left(), taker) {
@@ -471,8 +458,7 @@ fn compare_with<D: ClosedDisk, T: TakeChange>(
     ensures unchanged { IsTrue D.told
         → OnOk result (IsUnchangedSince (D.state disk.old).files pair.now before) }
     ensures still { IsTrue D.told → Still (D.state disk.old) (D.state disk.new) }
-    ensures cause { IsTrue D.told
-        → HasCause (D.state disk.old).faults (D.state disk.new).faults result }
+    ensures cause { IsTrue D.told → HasCause (D.faults disk.old) (D.faults disk.new) result }
 {
     let mut earlier = open_checked(alloc, disk, before)?;
     let mut later = open_now(alloc, disk, pair, before)?;
@@ -496,8 +482,7 @@ fn refuse<D: ClosedDisk>(
     later: &ReportReader<D::Report>,
 ) -> ClosingStop
     ensures still { IsTrue D.told → Still (D.state disk.old) (D.state disk.new) }
-    ensures cause { IsTrue D.told
-        → IsCause (D.state disk.old).faults (D.state disk.new).faults result }
+    ensures cause { IsTrue D.told → IsCause (D.faults disk.old) (D.faults disk.new) result }
 {
     if earlier.is_changed() {
         return disk.refuse_changed(pair, before);

@@ -19,8 +19,7 @@ pub fn look_at<D: ClosedDisk>(alloc: Global, disk: &mut D, cycle: u64) -> Result
     ensures value { IsTrue D.told → IfOk result (λ look.
         IsSight cycle (sight_of (D.state disk.old).files cycle) look) }
     ensures still { IsTrue D.told → Still (D.state disk.old) (D.state disk.new) }
-    ensures cause { IsTrue D.told
-        → HasCause (D.state disk.old).faults (D.state disk.new).faults result }
+    ensures cause { IsTrue D.told → HasCause (D.faults disk.old) (D.faults disk.new) result }
 {
     if disk.open_report(cycle, true)?.is_some() {
         return look_at_whole(alloc, disk, cycle);
@@ -40,8 +39,7 @@ fn look_at_whole<D: ClosedDisk>(
     ensures value { IsTrue D.told → IfOk result (λ look. sight_of_look look
         ≡ whole_by cycle ((D.state disk.old).files.checkpoint cycle)) }
     ensures still { IsTrue D.told → Still (D.state disk.old) (D.state disk.new) }
-    ensures cause { IsTrue D.told
-        → HasCause (D.state disk.old).faults (D.state disk.new).faults result }
+    ensures cause { IsTrue D.told → HasCause (D.faults disk.old) (D.faults disk.new) result }
 {
     let kept = read_kept(alloc, disk, cycle)?;
     let left = left_by(alloc, &kept)?;
@@ -58,8 +56,7 @@ fn look_at_incomplete<D: ClosedDisk>(
     ensures value { IsTrue D.told → IfOk result (λ look. sight_of_look look ≡ incomplete_by cycle
         ((D.state disk.old).files.checkpoint cycle) (D.Report.bytes report.now)) }
     ensures still { IsTrue D.told → Still (D.state disk.old) (D.state disk.new) }
-    ensures cause { IsTrue D.told
-        → HasCause (D.state disk.old).faults (D.state disk.new).faults result }
+    ensures cause { IsTrue D.told → HasCause (D.faults disk.old) (D.faults disk.new) result }
 {
     let kept = read_kept(alloc, disk, cycle)?;
     let left = left_by(alloc, &kept)?;
@@ -77,8 +74,7 @@ fn look_for_away<D: ClosedDisk>(
         ≡ away_of ((D.state disk.old).files.checkpoint cycle)
         ((D.state disk.old).files.packed cycle)) }
     ensures still { IsTrue D.told → Still (D.state disk.old) (D.state disk.new) }
-    ensures cause { IsTrue D.told
-        → HasCause (D.state disk.old).faults (D.state disk.new).faults result }
+    ensures cause { IsTrue D.told → HasCause (D.faults disk.old) (D.faults disk.new) result }
 {
     let kept = read_kept(alloc, disk, cycle)?;
     let packed = disk.is_packed(cycle)?;
@@ -95,8 +91,7 @@ pub(crate) fn read_kept<D: ClosedDisk>(
     ensures value { IsTrue D.told → IfOk result (λ kept.
         kept ≡ (D.state disk.old).files.checkpoint cycle) }
     ensures still { IsTrue D.told → Still (D.state disk.old) (D.state disk.new) }
-    ensures cause { IsTrue D.told
-        → HasCause (D.state disk.old).faults (D.state disk.new).faults result }
+    ensures cause { IsTrue D.told → HasCause (D.faults disk.old) (D.faults disk.new) result }
 {
     match disk.kept_checkpoint(cycle)? {
         Some(bytes) => checkpoint_of(alloc, &bytes),
@@ -158,8 +153,7 @@ fn is_lost<D: ClosedDisk>(
     ensures value { IsTrue D.told → IfOk result (λ lost.
         lost ≡ is_lost_by kept.now (D.Report.bytes report.now)) }
     ensures still { IsTrue D.told → Still (D.state disk.old) (D.state disk.new) }
-    ensures cause { IsTrue D.told
-        → HasCause (D.state disk.old).faults (D.state disk.new).faults result }
+    ensures cause { IsTrue D.told → HasCause (D.faults disk.old) (D.faults disk.new) result }
 {
     match kept {
         Some(checkpoint) if checkpoint.whole && !leaves_none(checkpoint) => {

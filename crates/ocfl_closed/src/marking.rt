@@ -44,8 +44,7 @@ fn push_part<D: ClosedDisk>(
         → Carries digests.old (take start (D.Report.bytes report.now)) → IfOk result (λ count.
         IsPushed (D.Report.bytes report.now) start count digests.new) }
     ensures still { IsTrue D.told → Still (D.state disk.old) (D.state disk.new) }
-    ensures cause { IsTrue D.told
-        → HasCause (D.state disk.old).faults (D.state disk.new).faults result }
+    ensures cause { IsTrue D.told → HasCause (D.faults disk.old) (D.faults disk.new) result }
 {
     match read_part(report, start, buffer, READ_LEN) {
         Ok(count) => {
@@ -65,8 +64,7 @@ fn push_all<D: ClosedDisk>(
     ensures carried { IsTrue D.told → Carries digests.old []
         → OnOk result (Carries digests.new (D.Report.bytes report.now)) }
     ensures still { IsTrue D.told → Still (D.state disk.old) (D.state disk.new) }
-    ensures cause { IsTrue D.told
-        → HasCause (D.state disk.old).faults (D.state disk.new).faults result }
+    ensures cause { IsTrue D.told → HasCause (D.faults disk.old) (D.faults disk.new) result }
 {
     let mut buffer = [0; READ_LEN];
     let mut start: u64 = 0;
@@ -84,8 +82,7 @@ fn push_all<D: ClosedDisk>(
 fn mark_of<D: ClosedDisk>(disk: &mut D, report: &D::Report) -> Result<ReportMark, ClosingStop>
     ensures value { IsTrue D.told → IfOk result (λ mark. mark ≡ summary_of (D.Report.bytes report.now)) }
     ensures still { IsTrue D.told → Still (D.state disk.old) (D.state disk.new) }
-    ensures cause { IsTrue D.told
-        → HasCause (D.state disk.old).faults (D.state disk.new).faults result }
+    ensures cause { IsTrue D.told → HasCause (D.faults disk.old) (D.faults disk.new) result }
 {
     let mut digests = ReportDigests::new();
     push_all(disk, report, &mut digests)?;
@@ -101,8 +98,7 @@ pub(crate) fn has_mark<D: ClosedDisk>(
     ensures value { IsTrue D.told → IfOk result (λ has.
         has ≡ is_mark mark.now (summary_of (D.Report.bytes report.now))) }
     ensures still { IsTrue D.told → Still (D.state disk.old) (D.state disk.new) }
-    ensures cause { IsTrue D.told
-        → HasCause (D.state disk.old).faults (D.state disk.new).faults result }
+    ensures cause { IsTrue D.told → HasCause (D.faults disk.old) (D.faults disk.new) result }
 {
     let found = mark_of(disk, report)?;
     Ok(is_same(mark, &found))

@@ -18,8 +18,7 @@ fn open_closed<D: ClosedDisk>(disk: &mut D, cycle: u64) -> Result<D::Report, Clo
     ensures bytes { IsTrue D.told → IfOk result (λ report. D.Report.bytes report
         ≡ (kept_of (D.state disk.old).files).reports cycle) }
     ensures still { IsTrue D.told → Still (D.state disk.old) (D.state disk.new) }
-    ensures cause { IsTrue D.told
-        → HasCause (D.state disk.old).faults (D.state disk.new).faults result }
+    ensures cause { IsTrue D.told → HasCause (D.faults disk.old) (D.faults disk.new) result }
 {
     if let Some(report) = disk.open_report(cycle, true)? {
         return Ok(report);
@@ -57,8 +56,7 @@ pub(crate) fn open_reader<D: ClosedDisk>(
         ⟦<BufReader<ReportReader<D::Report>> as Read>⟧.remaining reader
         ≡ Some ((kept_of (D.state disk.old).files).reports cycle)) }
     ensures still { IsTrue D.told → Still (D.state disk.old) (D.state disk.new) }
-    ensures cause { IsTrue D.told
-        → HasCause (D.state disk.old).faults (D.state disk.new).faults result }
+    ensures cause { IsTrue D.told → HasCause (D.faults disk.old) (D.faults disk.new) result }
 {
     let report = open_closed(disk, cycle)?;
     reader_of(alloc, report, ClosedCheck::Unchecked)
@@ -76,8 +74,7 @@ pub(crate) fn open_checked<D: ClosedDisk>(
         ≡ Some ((kept_of (D.state disk.old).files).reports cycle
         ++ end_of (is_unchanged (D.state disk.old).files cycle))) }
     ensures still { IsTrue D.told → Still (D.state disk.old) (D.state disk.new) }
-    ensures cause { IsTrue D.told
-        → HasCause (D.state disk.old).faults (D.state disk.new).faults result }
+    ensures cause { IsTrue D.told → HasCause (D.faults disk.old) (D.faults disk.new) result }
 {
     let report = open_closed(disk, cycle)?;
     let check = check_of(alloc, disk, cycle)?;
@@ -98,8 +95,7 @@ pub(crate) fn open_now<D: ClosedDisk>(
         ++ end_of (not (is_before_by pair.now before)
         || is_unchanged (D.state disk.old).files pair.now.closed.cycle))) }
     ensures still { IsTrue D.told → Still (D.state disk.old) (D.state disk.new) }
-    ensures cause { IsTrue D.told
-        → HasCause (D.state disk.old).faults (D.state disk.new).faults result }
+    ensures cause { IsTrue D.told → HasCause (D.faults disk.old) (D.faults disk.new) result }
 {
     let cycle = pair.closed.cycle();
     if is_before(pair, before) {

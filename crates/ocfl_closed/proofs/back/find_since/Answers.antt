@@ -29,4 +29,4 @@ returns-clause-still g c = λ told.
 pub returns-clause-cause : goal.returns-clause-cause
 returns-clause-cause g c = λ told.
     let D = g.D.ClosedDisk in
-    cause_later c.find_between.result (D.state c.args.disk.now).faults (D.state c.gone_before.new.disk).faults (D.state c.find_between.new.disk).faults (c.in_ok-gone.ensures.cause told) (c.find_between.ensures.cause told)
+    cause_later c.find_between.result (D.faults c.args.disk.now) (D.faults c.gone_before.new.disk) (D.faults c.find_between.new.disk) (c.in_ok-gone.ensures.cause told) (c.find_between.ensures.cause told)

@@ -9,6 +9,6 @@ invariant-loop-back g l =
     let D = g.D.ClosedDisk in
     record {
       still : IsTrue D.told → Still (D.state l.fn.disk) (D.state l.disk);
-      faults : IsTrue D.told → (D.state l.fn.disk).faults ≤ (D.state l.disk).faults;
+      faults : IsTrue D.told → (D.faults l.fn.disk) ≤ (D.faults l.disk);
       lost : IsTrue D.told → AreKept (D.state l.fn.disk).files.lists l.cycle l.back l.gone.items;
     }

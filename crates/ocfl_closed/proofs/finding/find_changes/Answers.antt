@@ -68,6 +68,6 @@ pub returns-in_err-found-clause-cause : goal.returns-in_err-found-clause-cause
 returns-in_err-found-clause-cause g c = λ told.
     let first = c.in_ok-list.ensures.cause told in
     let next = c.in_ok-taking.ensures.cause told in
-    let before : (g.D.ClosedDisk.state c.args.disk.now).faults ≤ (g.D.ClosedDisk.state c.take_changes.new.disk).faults = omega (arith, first, next) in
+    let before : (g.D.ClosedDisk.faults c.args.disk.now) ≤ (g.D.ClosedDisk.faults c.take_changes.new.disk) = omega (arith, first, next) in
     let p = err_from_is_err_and c.from_residual-in_err-found.result c.from_residual-in_err-found.ensures.1 in
-    rw (p.1, p.2) (cause_later {T = ℕ} (Err c.in_err-found.field-0.0) _ (g.D.ClosedDisk.state c.take_changes.new.disk).faults _ before (c.in_err-found.ensures.cause told))
+    rw (p.1, p.2) (cause_later {T = ℕ} (Err c.in_err-found.field-0.0) _ (g.D.ClosedDisk.faults c.take_changes.new.disk) _ before (c.in_err-found.ensures.cause told))

@@ -9,7 +9,7 @@ invariant-loop-start g l =
     let D = g.D.ClosedDisk in
     record {
       still : IsTrue D.told → Still (D.state l.fn.disk) (D.state l.disk);
-      faults : IsTrue D.told → (D.state l.fn.disk).faults ≤ (D.state l.disk).faults;
+      faults : IsTrue D.told → (D.faults l.fn.disk) ≤ (D.faults l.disk);
       within : IsTrue D.told → Carries l.fn.digests [] → l.start ≤ length (g.D.Report.OpenReport.bytes l.report);
       carries : IsTrue D.told → Carries l.fn.digests [] → Carries l.digests (take l.start (g.D.Report.OpenReport.bytes l.report));
     }

@@ -227,8 +227,12 @@ class Reads(Room):
         self.assertEqual(found, {WALK})
 
     def test_edits_owe_themselves(self) -> None:
-        found = self.due_after("ocfl_low/edits/place.edits", "No names", "No name")
+        found = self.due_after("ocfl_low/edits/place.edits", "new: 0", "new: 1")
         self.assertEqual(found, {PLACE})
+
+    def test_edits_owe_nothing_for_what_they_say(self) -> None:
+        found = self.due_after("ocfl_low/edits/place.edits", "No names", "No name")
+        self.assertEqual(found, set())
 
     def test_an_edit_of_a_contract_may_be_refused_anywhere_in_its_crate(self) -> None:
         self.put("ocfl_high/edits/item.edits",

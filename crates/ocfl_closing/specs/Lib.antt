@@ -1,3 +1,5 @@
+pub mod Calls
+pub mod Closing
 pub mod Naming
 pub mod Comparing
 pub mod Logging

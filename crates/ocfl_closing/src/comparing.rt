@@ -1,16 +1,16 @@
 //! Comparing the closed reports of a state folder.
-ghost use Rattle.std.specs.Prelude.{◌≡◌, IfErr, IsErr, IsOk, IsTrue};
-ghost use Rattle.ocfl_files.specs.Failing.{OrMemory, Says, out_of_memory, stopped_status};
-ghost use Rattle.ocfl_kept.specs.Keeping.{IsAsClosed, IsShort};
+ghost use Rattle.std.specs.Prelude.{◌≡◌, IsErr};
+ghost use Rattle.ocfl_files.specs.Failing.{OrMemory, Says, StopsOn, out_of_memory};
+ghost use Rattle.ocfl_files.specs.Failing.{stopped_status};
+ghost use Rattle.ocfl_kept.specs.FilePaths.{list_path as path_of_list};
+ghost use Rattle.ocfl_kept.specs.FilePaths.{report_path as path_of_report};
 ghost use Rattle.ocfl_closing.specs.Comparing.{SaysSome, changed_text, gone_text};
 ghost use Rattle.ocfl_closing.specs.Comparing.{uncompared_text, uncounted_text};
 
-use ocfl_accounts::Pair;
-use ocfl_closed::compared;
 use ocfl_compare::CompareStop;
 use ocfl_files::failing::Failure;
-use ocfl_kept::kept::is_as_closed;
-use ocfl_kept::state_dir::Folder;
+use ocfl_files::making::failed_file;
+use ocfl_kept::kept::{list_path, report_path};
 use ocfl_messages::Shown;
 use std::alloc::{AllocError, Global};
 use std::io;
@@ -78,44 +78,6 @@ pub(crate) fn changed_report(alloc: Global, cycle: u64, before: u64, changed: u6
     ))
 }
 
-/// Refuses the report of a cycle, one of a pair, that is not as it was closed.
-fn refuse_changed<F: Folder>(
-    alloc: Global,
-    folder: &mut F,
-    state: &str,
-    cycle: u64,
-    before: u64,
-    changed: u64,
-) -> Result<(), Failure>
-    ensures value { IsTrue F.shown → IsShort ((F.holding folder.old).reports changed)
-        → IsOk result → IsAsClosed ((F.holding folder.old).kept changed)
-        ((F.holding folder.old).reports changed) }
-    ensures failed { IfErr result (λ failure. failure.status ≡ stopped_status) }
-{
-    if is_as_closed(alloc, folder, state, changed)? {
-        return Ok(());
-    }
-    Err(changed_report(alloc, cycle, before, changed))
-}
-
-/// Refuses a pair of which one report is not as it was closed.
-pub(crate) fn refuse_changed_pair<F: Folder>(
-    alloc: Global,
-    folder: &mut F,
-    state: &str,
-    pair: &Pair,
-) -> Result<(), Failure>
-    ensures { IfErr result (λ failure. failure.status ≡ stopped_status) }
-{
-    let (cycle, before) = (pair.closed.cycle(), compared(pair));
-    refuse_changed(alloc, folder, state, cycle, before, before)?;
-    refuse_changed(alloc, folder, state, cycle, before, cycle)?;
-    match &pair.whole {
-        Some(whole) => refuse_changed(alloc, folder, state, cycle, whole.cycle(), whole.cycle()),
-        None => Ok(()),
-    }
-}
-
 /// That the lines of the report of a cycle could not be counted, with words why.
 fn uncounted_for(alloc: Global, state: &str, cycle: u64, words: &str) -> Failure
     ensures { OrMemory (Says stopped_status (uncounted_text state.now cycle words.now)) result }
@@ -139,6 +101,32 @@ pub(crate) fn uncounted(
 {
     match words_of(alloc, stop, error) {
         Ok(words) => uncounted_for(alloc, state, cycle, words.as_str()),
+        Err(error) => Failure::from(error),
+    }
+}
+
+/// That the closed report of a cycle could not be read.
+pub(crate) fn failed_report(
+    alloc: Global,
+    state: &str,
+    cycle: u64,
+    whole: bool,
+    error: &io::Error,
+) -> Failure
+    ensures { OrMemory (StopsOn (path_of_report state.now cycle whole)) result }
+{
+    match report_path(alloc, state, cycle, whole) {
+        Ok(path) => failed_file(alloc, path.as_str(), error),
+        Err(error) => Failure::from(error),
+    }
+}
+
+/// That the list of what is gone at the end of a cycle could not be read.
+pub(crate) fn failed_list(alloc: Global, state: &str, cycle: u64, error: &io::Error) -> Failure
+    ensures { OrMemory (StopsOn (path_of_list state.now cycle)) result }
+{
+    match list_path(alloc, state, cycle) {
+        Ok(path) => failed_file(alloc, path.as_str(), error),
         Err(error) => Failure::from(error),
     }
 }

@@ -1,5 +1,7 @@
 //! How the files of closed cycles are called.
-ghost use Rattle.std.specs.Prelude.{◌≡◌, IfOk, string_bytes};
+ghost use Rattle.std.specs.Prelude.{◌≡◌, IfOk, false, string_bytes};
+ghost use Rattle.ocfl_kept.specs.FilePaths.{packed_path as path_of_packed};
+ghost use Rattle.ocfl_closing.specs.Calls.{reports_path as path_of_reports};
 ghost use Rattle.ocfl_closing.specs.Naming.{ArePaths, earlier_path as path_of_earlier, path_of};
 
 use ocfl_accounts::{ClosedCycle, Pair};
@@ -34,4 +36,20 @@ pub(crate) fn paths_of(alloc: Global, state: &str, pair: &Pair) -> Result<Paths,
         earlier: earlier_path(alloc, state, pair)?,
         list: list_path(alloc, state, pair.closed.cycle())?,
     })
+}
+
+/// The path of the folder of the closed reports.
+pub(crate) fn reports_path(alloc: Global, state: &str) -> Result<String, AllocError>
+    ensures { IfOk result (λ path. string_bytes path ≡ path_of_reports state.now) }
+{
+    format!(in alloc; "{state}/reports")
+}
+
+/// The path of the report of a cycle that is not whole, when it is compressed.
+pub(crate) fn packed_path(alloc: Global, state: &str, cycle: u64) -> Result<String, AllocError>
+    ensures { IfOk result (λ path. string_bytes path ≡ path_of_packed state.now cycle false) }
+{
+    let mut path = report_path(alloc, state, cycle, false)?;
+    path.push_str(".gz")?;
+    Ok(path)
 }

@@ -5,7 +5,7 @@ ghost use Rattle.std.specs.Io.KnownBytes.{Appends};
 ghost use Rattle.std.specs.Option.{option_map};
 ghost use Rattle.ocfl_tree.specs.Place.{Text};
 ghost use Rattle.ocfl_accounts.specs.Kept.{is_some};
-ghost use Rattle.ocfl_kept.specs.Keeping.{IsAsClosed, IsShort};
+ghost use Rattle.ocfl_kept.specs.{FilePaths.{list_path as path_of_list}, Keeping.{IsAsClosed, IsShort}};
 ghost use Rattle.ocfl_files.specs.Failing.{stopped_status};
 ghost use Rattle.ocfl_closed.specs.Cut.{AreNamed, Calm, Names, Still};
 ghost use Rattle.ocfl_closed.specs.Files.{report_named};
@@ -24,6 +24,14 @@ use ocfl_kept::kept::{list_path, new_list_path};
 use ocfl_reading::expected::Listed;
 use std::alloc::AllocError;
 
+/// The path of the list of what is gone at the end of a cycle.
+fn list_of<C: ClosingCalls>(calls: &C, cycle: u64) -> Result<String, AllocError>
+    ensures { IsTrue C.told → IfOk result (λ path.
+        string_bytes path ≡ path_of_list (C.room calls.now).path cycle) }
+{
+    list_path(calls.global(), calls.path(), cycle)
+}
+
 /// Whether the list of what is gone at the end of a cycle is there.
 pub(crate) fn has_list<C: ClosingCalls>(calls: &mut C, cycle: u64) -> Result<bool, AllocError>
     ensures room { IsTrue C.told → C.room calls.new ≡ C.room calls.old }
@@ -32,7 +40,7 @@ pub(crate) fn has_list<C: ClosingCalls>(calls: &mut C, cycle: u64) -> Result<boo
     ensures value { IsTrue C.told → IfOk result (λ is.
         is ≡ is_some ((C.state calls.old).files.lists cycle)) }
 {
-    let path = list_path(calls.global(), calls.path(), cycle)?;
+    let path = list_of(calls, cycle)?;
     calls.has(path.as_str())
 }
 
@@ -59,7 +67,7 @@ pub(crate) fn open_list<C: ClosingCalls>(
         ≡ option_map Some ((C.state calls.old).files.lists cycle)) }
     ensures fault { IsTrue C.told → HasFault (C.faults calls.old) (C.faults calls.new) result }
 {
-    let path = list_path(calls.global(), calls.path(), cycle)?;
+    let path = list_of(calls, cycle)?;
     calls.open_rows(path.as_str())
 }
 
@@ -138,7 +146,7 @@ pub(crate) fn name_list<C: ClosingCalls>(calls: &mut C, cycle: u64) -> Result<()
         ⊎ Names cycle (C.state calls.old) (C.state calls.new)) }
     ensures fault { IsTrue C.told → HasFault (C.faults calls.old) (C.faults calls.new) result }
 {
-    let path = list_path(calls.global(), calls.path(), cycle)?;
+    let path = list_of(calls, cycle)?;
     calls.put_made(path.as_str())
 }
 

@@ -1,5 +1,5 @@
 mod Findings
-mod Losing
+pub mod Losing
 mod Marks
 mod NotedIn
 pub mod Passing

@@ -1,5 +1,6 @@
 -- What closings see of a state folder, by the calls that they make there.
-use Rattle.std.specs.Prelude.{◌≡◌, ◌⊎◌, ℕ, ◌<◌, ◌≤◌, ◌++◌, List, [], ◌∷◌, Bool, true, false, Option, Some, None, Result, Ok, Err, codes}
+use Rattle.std.specs.Prelude.{◌≡◌, ◌⊎◌, ℕ, ◌<◌, ◌≤◌, ◌++◌, List, [], ◌∷◌, Bool, true, false, Option, Some, None, Result, Ok, Err, codes, string_bytes}
+use Rattle.std.specs.Option.{option_map}
 use Rattle.ocfl_tree.specs.Place.{Place, Text}
 use Rattle.ocfl_cursor.specs.declared.ends.PartEnds.{PartEnds}
 use Rattle.ocfl_files.specs.declared.failing.Failure.{Failure}
@@ -18,13 +19,14 @@ reports_path state = state ++ codes "/reports"
 
 -- The path of the state folder. The objects on the list of those that must be there, if there is such a
 -- list. The ends of the part that the folder is of, if it is of a part. What the log of the folder has,
--- if that is known. And what was said to have failed, in order.
+-- if that is known. And what was said to have failed, in order: the text of each, or none where memory
+-- was refused.
 pub record Room : Type 0 where
   pub path : Text
   pub expected : Option (List Place)
   pub ends : Option PartEnds
   pub log : Option Text
-  pub noted : List Failure
+  pub noted : List (Option Text)
 
 abbrev pub no_room : Room
 no_room = record { path = []; expected = None; ends = None; log = None; noted = [] }
@@ -35,7 +37,7 @@ with_log log r = record { path = r.path; expected = r.expected; ends = r.ends; l
 
 -- one more failure was said
 abbrev pub with_note : Failure → Room → Room
-with_note failure r = record { path = r.path; expected = r.expected; ends = r.ends; log = r.log; noted = r.noted ++ failure ∷ [] }
+with_note failure r = record { path = r.path; expected = r.expected; ends = r.ends; log = r.log; noted = r.noted ++ option_map string_bytes failure.text ∷ [] }
 
 -- the closed report of a cycle: the one that is called whole counts before the other
 abbrev pub first_of : Option Text → Option Text → Option ClosedReport

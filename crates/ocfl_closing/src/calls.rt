@@ -1,6 +1,6 @@
 //! The calls that closings make in a state folder.
 ghost use Rattle.std.specs.Prelude.{◌≡◌, ◌⊎◌, ◌↔◌, ◌≤◌, ℕ, Bool, IsTrue, [], IfErr, IfOk, MatchResult};
-ghost use Rattle.std.specs.Prelude.{OnOk, Some, false};
+ghost use Rattle.std.specs.Prelude.{OnErr, OnOk, Some, false};
 ghost use Rattle.std.specs.Io.KnownBytes.{Appends};
 ghost use Rattle.std.specs.Option.{option_map};
 ghost use Rattle.ocfl_tree.specs.Place.{Text};
@@ -188,9 +188,12 @@ pub trait ClosingCalls {
         ensures fault { IsTrue told → HasFault (faults self.old) (faults self.new) result }
         ensures failed { IfErr result (λ failure. failure.status ≡ stopped_status) };
 
-    /// Says on standard error what failed. A standard error that cannot be written changes nothing.
-    fn say(&mut self, failure: &Failure)
-        ensures room { IsTrue told → room self.new ≡ with_note failure.now (room self.old) }
+    /// Says on standard error what failed. The only error is running out of memory: a standard error
+    /// that cannot be written changes nothing.
+    fn say(&mut self, failure: &Failure) -> Result<(), AllocError>
+        ensures said { IsTrue told → OnOk result
+            (room self.new ≡ with_note failure.now (room self.old)) }
+        ensures silent { IsTrue told → OnErr result (room self.new ≡ room self.old) }
         ensures calm { IsTrue told → Calm (state self.old) (state self.new) }
         ensures faults { IsTrue told → faults self.new ≡ faults self.old };
 

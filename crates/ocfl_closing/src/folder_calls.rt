@@ -170,11 +170,7 @@ impl<R: Room + Clock + Eprint, F: Folder> ClosingCalls for FolderCalls<'_, R, F>
         let Some(file) = self.expected else {
             return Ok(None);
         };
-        Ok(Some(read_expected(
-            self.rt.global(),
-            file,
-            self.rt.open_file(file),
-        )?))
+        Ok(Some(read_expected(self.rt.global(), file, self.rt.open_file(file))?))
     }
 
     fn open_rows(&mut self, path: &str) -> Result<Option<BufReader<File>>, Failure> {
@@ -222,7 +218,8 @@ impl<R: Room + Clock + Eprint, F: Folder> ClosingCalls for FolderCalls<'_, R, F>
         self.answer(added)
     }
 
-    fn say(&mut self, failure: &Failure) {
+    fn say(&mut self, failure: &Failure) -> Result<(), AllocError> {
         let _ = say_failure(self.rt, failure);
+        Ok(())
     }
 }

@@ -202,19 +202,9 @@ impl<C: ClosingCalls + Drop> ClosedDisk for FolderClosings<C> {
         self.refuse(failure)
     }
 
-    fn refuse_report(
-        &mut self,
-        report: &NamedReport<C::Report>,
-        error: io::Error,
-    ) -> ClosingStop {
+    fn refuse_report(&mut self, report: &NamedReport<C::Report>, error: io::Error) -> ClosingStop {
         let (cycle, whole) = (report.cycle, report.whole);
-        let failure = failed_report(
-            self.calls.global(),
-            self.calls.path(),
-            cycle,
-            whole,
-            &error,
-        );
+        let failure = failed_report(self.calls.global(), self.calls.path(), cycle, whole, &error);
         self.refuse(failure)
     }
 
@@ -265,13 +255,7 @@ impl<C: ClosingCalls + Drop> ClosedDisk for FolderClosings<C> {
         stop: CompareStop,
         error: Option<io::Error>,
     ) -> ClosingStop {
-        let failure = uncounted(
-            self.calls.global(),
-            self.calls.path(),
-            cycle,
-            stop,
-            error,
-        );
+        let failure = uncounted(self.calls.global(), self.calls.path(), cycle, stop, error);
         self.refuse(failure)
     }
 
@@ -332,6 +316,6 @@ impl<C: ClosingCalls + Drop> ClosedDisk for FolderClosings<C> {
 
     fn fail(&mut self, stop: ClosingStop) {
         let failure = self.failure_of(stop);
-        self.calls.say(&failure);
+        let _ = self.calls.say(&failure);
     }
 }

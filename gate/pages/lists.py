@@ -21,7 +21,7 @@ CYCLE = [("ocfl_scrub", "cycling", "cycle")]
 NIGHTS = [("ocfl_night", "nights", "night"), ("ocfl_night_laws", "nights", None)]
 # Crates of which no contract is named.
 WITHOUT_CONTRACTS = (TESTS, "ocfl_scrub_cli", "ocfl_files", "ocfl_kept", "ocfl_reading",
-                     "ocfl_closing", "ocfl_part_folders", "ocfl_tasks")
+                     "ocfl_tasks")
 # What stands in backquotes, and a file of a crate, whose name stands before it on the line.
 QUOTED = re.compile(r"`([^`]+)`")
 SOURCE = re.compile(r"(?:(\w+)/)?((?:src|specs|proofs)/[\w/]+\.(?:rt|antt))")

@@ -1,5 +1,5 @@
 -- Closings that were said, by the calls that were made.
-use Rattle.std.proofs.Common.{◌≡◌, ◌≤◌, ℕ, [], max, refl, sym, subst}
+use Rattle.std.proofs.Common.{◌≡◌, ◌≤◌, ℕ, [], max, refl, subst}
 use Rattle.ocfl_say.specs.Said.{Said, Grows}
 use Rattle.ocfl_accounts.specs.{Crash.{Same}, Kept.{Kept}, Rounds.{MayAccounts}, Telling.{AreSaid, stand_of}, Unsaid.{NoneUnsaid, oldest}}
 use Rattle.ocfl_closed.specs.{Cut.{ClosedState, Passes}, Files.{kept_of}, Words.{said_of}}

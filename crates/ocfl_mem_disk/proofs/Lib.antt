@@ -2,3 +2,4 @@ mod Calling
 mod Naming
 mod Named
 mod Parted
+mod Closing

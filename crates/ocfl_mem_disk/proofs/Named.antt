@@ -1,15 +1,17 @@
 -- The paths of joined reports, and those of other files.
-use Rattle.std.proofs.Common.{◌≡◌, ◌≢◌, ◌∙◌, ◌++◌, ◌==◌, ◌<◌, ◌^◌, ◌-◌, ◌||◌, ◌&&◌, ◌+◌, Bor, take, drop, nat_eq, ℕ, zero, suc, List, [], ◌∷◌, Bool, true, false, Option, Some, None, codes, decimal, length, replicate, get_or, refl, sym, ap, subst, arith, append_assoc, length-append, if◌then◌else◌}
+use Rattle.std.proofs.Common.{◌≡◌, ◌≢◌, ◌∙◌, ◌++◌, ◌==◌, ◌<◌, ◌≤◌, ◌⊎◌, inl, inr, ◌/◌, ◌%◌, ◌^◌, ◌-◌, ◌||◌, ◌&&◌, ◌+◌, Bor, take, drop, nat_eq, ℕ, zero, suc, [], ◌∷◌, Bool, true, false, Option, Some, None, codes, decimal, length, replicate, get_or, refl, sym, ap, subst, arith, append_assoc, length-append, if◌then◌else◌}
 use Rattle.std.specs.Prelude.{Result, Ok, Err, IfOk, IfSome, MatchOption, option_map}
-use Rattle.std.specs.{Char.{digit_value}, Result.{result_ok}, List.{list_any}, Str.Parse.{AllDigits, ParsesUnsigned, digits_value, without_leading_plus}}
+use Rattle.std.specs.{List.{list_any}, Str.Parse.{AllDigits, ParsesUnsigned, digits_value}}
 use Rattle.std.specs.Cmp.Lexicographic.{pointwise}
 use Rattle.std.proofs.Math.Bool.{or-true}
-use Rattle.std.proofs.lemmas.Bool.{eq-eqb, ne_eqb}
-use Rattle.std.proofs.lemmas.Fmt.{decimal_is_IsNumeral, decimal_nonempty}
+use Rattle.std.proofs.lemmas.Bool.{cases_lt, eq-eqb, ne_eqb}
+use Rattle.std.proofs.Math.Nat.{pow-suc}
+use Rattle.std.specs.Fmt.{digits, digits_onto, digit_glyph}
+use Rattle.std.proofs.lemmas.Fmt.{decimal_is_IsNumeral, decimal_is_IsNumeral_wide}
 use Rattle.std.proofs.lemmas.Str.Parse.{digit_at, digit_from_value, without_leading_plus_none}
 use Rattle.ocfl_tree.specs.Place.{Text}
-use Rattle.ocfl_kept.specs.FilePaths.{list_path, packed_path, part_path, report_path, six_digits}
-use Rattle.ocfl_mem_disk.specs.Paths.{JoinedName, behind_front, is_dot, joined_name, name_in, without_dot}
+use Rattle.ocfl_kept.specs.FilePaths.{part_path, report_path, six_digits}
+use Rattle.ocfl_mem_disk.specs.Paths.{behind_front, is_dot, joined_name, name_in, without_dot}
 
 pub behind_its_front : (front text : Text) → behind_front front (front ++ text) ≡ Some text
 behind_its_front [] text = refl
@@ -28,8 +30,11 @@ zeros_value (suc k) ds = zeros_value k ds
 are_digits : (n : ℕ) → n < 2 ^ 64 → AllDigits 10 (six_digits n)
 are_digits n l = zeros_are_digits (6 - length (decimal n)) (decimal n) (decimal_is_IsNumeral n l).0.1
 
-pub six_value : (n : ℕ) → n < 2 ^ 64 → digits_value 10 (six_digits n) ≡ n
-six_value n l = zeros_value (6 - length (decimal n)) (decimal n) ∙ (decimal_is_IsNumeral n l).1
+are_digits_wide : (n : ℕ) → n < 10 ^ 64 → AllDigits 10 (six_digits n)
+are_digits_wide n l = zeros_are_digits (6 - length (decimal n)) (decimal n) (decimal_is_IsNumeral_wide n l).0.1
+
+six_value_wide : (n : ℕ) → n < 10 ^ 64 → digits_value 10 (six_digits n) ≡ n
+six_value_wide n l = zeros_value (6 - length (decimal n)) (decimal n) ∙ (decimal_is_IsNumeral_wide n l).1
 
 no_dot : (ds : Text) → AllDigits 10 ds → list_any is_dot ds ≡ false
 no_dot [] h = refl
@@ -64,23 +69,45 @@ no_name_beside folder cycle false more =
 
 -- ---- what is read from them
 
-first_digit : (number : ℕ) → number < 2 ^ 64 → get_or (six_digits number) 0 0 ≢ 43
-first_digit number l e = omega (arith, digit_at (six_digits number) 0 (are_digits number l) (omega (arith, decimal_nonempty number l, length-append (replicate (6 - length (decimal number)) 48) (decimal number))))
+first_digit : (number : ℕ) → number < 10 ^ 64 → get_or (six_digits number) 0 0 ≢ 43
+first_digit number l e = omega (arith, digit_at (six_digits number) 0 (are_digits_wide number l) (omega (arith, (decimal_is_IsNumeral_wide number l).0.0, length-append (replicate (6 - length (decimal number)) 48) (decimal number))))
+
+ten_some : (k : ℕ) → 0 < 10 ^ k
+ten_some zero = omega arith
+ten_some (suc k) = omega (arith, pow-suc 10 k, ten_some k)
+
+-- a number past 10^64 has the digits of the greatest ones
+onto_long : (k n : ℕ) (acc : Text) → 10 ^ k ≤ n → length (digits_onto k 10 false n acc) ≡ k + length acc
+onto_long zero n acc h = omega arith
+onto_long (suc k) n acc h =
+    let less : 10 ^ k ≤ n / 10 = omega (arith, h, pow-suc 10 k) in
+    rw (ne_eqb (n / 10) 0 (λ e. omega (arith, less, e, ten_some k))) (onto_long k (n / 10) (digit_glyph false (n % 10) ∷ acc) less ∙ omega arith)
+
+decimal_long : (n : ℕ) → 10 ^ 64 ≤ n → length (decimal n) ≡ 64
+unfolding digits
+decimal_long n h = onto_long 64 n [] h
+
+six_long : (n : ℕ) → 10 ^ 64 ≤ n → 64 ≤ length (six_digits n)
+six_long n h = omega (arith, decimal_long n h, length-append (replicate (6 - length (decimal n)) 48) (decimal n))
 
 abbrev IsNumberIn : Text → ℕ → Type 0
-IsNumberIn ds n = (number : ℕ) → number < 2 ^ 64 → ds ≡ six_digits number → n ≡ number
+IsNumberIn ds n = (number : ℕ) → ds ≡ six_digits number → n ≡ number
 
-pub number_read : {E : Type 0} (ds : Text) (r : Result ℕ E) → ParsesUnsigned 64 10 ds r → IfOk r (IsNumberIn ds)
-number_read ds (Err e) h = tt
-number_read ds (Ok n) h = λ number l is.
-    let plain : get_or ds 0 0 ≢ 43 = subst (λ t. get_or t 0 0 ≢ 43) (sym is) (first_digit number l) in
-    h.1 ∙ ap (digits_value 10) (without_leading_plus_none ds plain ∙ is) ∙ six_value number l
+pub number_read : {E : Type 0} (ds : Text) (r : Result ℕ E) → length ds ≤ 20 → ParsesUnsigned 64 10 ds r → IfOk r (IsNumberIn ds)
+number_read ds (Err e) short h = tt
+number_read ds (Ok n) short h = λ number is. by number is (cases_lt number (10 ^ 64))
+  where
+    by : (number : ℕ) → ds ≡ six_digits number → (number < 10 ^ 64) ⊎ (10 ^ 64 ≤ number) → n ≡ number
+    by number is (inl l) =
+        let plain : get_or ds 0 0 ≢ 43 = subst (λ t. get_or t 0 0 ≢ 43) (sym is) (first_digit number l) in
+        h.1 ∙ ap (digits_value 10) (without_leading_plus_none ds plain ∙ is) ∙ six_value_wide number l
+    by number is (inr m) = absurd (omega (arith, short, ap length is, six_long number m))
 
 -- of a part, by what is behind the fronts of its path
 pub part_read : (folder path name digits : Text) (r : Option ℕ) → Some name ≡ behind_front folder path → Some digits ≡ behind_front (codes "/part-") name → IfSome r (IsNumberIn digits)
-    → IfSome r (λ n. (part : ℕ) → part < 2 ^ 64 → path ≡ part_path folder part → n ≡ part)
+    → IfSome r (λ n. (part : ℕ) → path ≡ part_path folder part → n ≡ part)
 part_read folder path name digits None named numbered h = tt
-part_read folder path name digits (Some n) named numbered h = λ part l is. h part l (digits_are part is)
+part_read folder path name digits (Some n) named numbered h = λ part is. h part (digits_are part is)
   where
     behind_in : Option Text → Option Text
     behind_in None = None

@@ -5,6 +5,9 @@ ghost use Rattle.ocfl_kept.specs.FilePaths.{part_path, six_digits};
 ghost use Rattle.ocfl_mem_disk.specs.Paths.{behind_front, is_dot, joined_name as joined_name_of};
 ghost use Rattle.ocfl_mem_disk.specs.Paths.{name_in, without_dot};
 
+/// How many digits a number of 64 bits has at most.
+const MOST_DIGITS: usize = 20;
+
 /// A joined report by its path.
 #[derive(Clone, Copy)]
 pub(crate) struct JoinedName<'a> {
@@ -14,7 +17,7 @@ pub(crate) struct JoinedName<'a> {
 }
 
 /// What is behind a front of a text, if the text has it.
-fn behind<'a>(front: &[u8], text: &'a [u8]) -> Option<&'a [u8]>
+pub(crate) fn behind<'a>(front: &[u8], text: &'a [u8]) -> Option<&'a [u8]>
     ensures { option_map (λ rest. rest.now) result ≡ behind_front front.now text.now }
 {
     text.strip_prefix(front)
@@ -61,9 +64,12 @@ pub(crate) fn joined_name<'a>(folder: &str, path: &'a str) -> Option<JoinedName<
 
 /// The number with these digits, if it has 64 bits.
 pub(crate) fn number_in(digits: &[u8]) -> Option<u64>
-    ensures { IfSome result (λ found. (number : ℕ) → number < 2 ^ 64
+    ensures { IfSome result (λ found. (number : ℕ)
         → digits.now ≡ six_digits number → found ≡ number) }
 {
+    if digits.len() > MOST_DIGITS {
+        return None;
+    }
     match std::str::from_utf8(digits) {
         Ok(text) => text.parse().ok(),
         Err(_) => None,
@@ -72,7 +78,7 @@ pub(crate) fn number_in(digits: &[u8]) -> Option<u64>
 
 /// The part that has a folder with this path, if one can have it.
 pub(crate) fn part_in(folder: &str, path: &str) -> Option<u64>
-    ensures { IfSome result (λ found. (part : ℕ) → part < 2 ^ 64
+    ensures { IfSome result (λ found. (part : ℕ)
         → path.now ≡ part_path folder.now part → found ≡ part) }
 {
     let name = behind(folder.as_bytes(), path.as_bytes())?;

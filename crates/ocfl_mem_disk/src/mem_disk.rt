@@ -240,7 +240,7 @@ fn find_file(closed: &[ReportName], cycle: u64, whole: bool) -> Option<usize>
 }
 
 /// Gives the bytes from an offset on, as many as there is room for.
-fn give_from(bytes: &[u8], start: u64, buffer: &mut [u8]) -> usize
+pub(crate) fn give_from(bytes: &[u8], start: u64, buffer: &mut [u8]) -> usize
     ensures bound { result ≤ length buffer.new }
     ensures given { IsReadOf bytes.now start (take result buffer.new) (length buffer.new) }
 {

@@ -27,6 +27,27 @@ pub(crate) fn has_file(files: &[MemFile], path: &str) -> bool
     file_at(files, path).is_some()
 }
 
+/// The bytes of the file with a path.
+pub(crate) fn text_at<'a>(files: &'a [MemFile], path: &str) -> Option<&'a [u8]>
+    ensures { option_map (λ text. text.now) result ≡ bytes_at_path files.now path.now }
+{
+    match file_at(files, path) {
+        Some(file) => Some(file.bytes.as_slice()),
+        None => None,
+    }
+}
+
+/// These bytes, if there are any, copied.
+pub(crate) fn copied(alloc: Global, bytes: Option<&[u8]>) -> Result<Option<Vec<u8>>, AllocError>
+    ensures { IfOk result (λ copy. option_map bytes_of copy
+        ≡ option_map (λ bytes. bytes.now) bytes.entry) }
+{
+    match bytes {
+        Some(bytes) => Ok(Some(bytes.to_vec(alloc)?)),
+        None => Ok(None),
+    }
+}
+
 /// The bytes of the file with a path, copied.
 pub(crate) fn bytes_at(
     alloc: Global,
@@ -41,8 +62,8 @@ pub(crate) fn bytes_at(
     }
 }
 
-/// The closed report of a part, by the path of its folder, whole or not.
-fn closed_as(
+/// The closed report of a cycle, by the path of a state folder, whole or not.
+pub(crate) fn closed_as(
     alloc: Global,
     files: &[MemFile],
     part: &str,

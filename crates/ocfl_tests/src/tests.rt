@@ -5,6 +5,7 @@ mod checkpoint;
 mod clock;
 mod closed;
 mod closed_changes;
+mod closing_calls;
 mod codes;
 mod common;
 mod compare;

@@ -1,4 +1,4 @@
-use Rattle.std.proofs.Common.{◌≡◌, ◌<◌, ◌^◌, ℕ}
+use Rattle.std.proofs.Common.{◌≡◌, ℕ, arith}
 use Rattle.ocfl_report.proofs.Numbers.{IfSome-result_ok}
 use Rattle.ocfl_kept.specs.FilePaths.{six_digits}
 use Rattle.ocfl_mem_disk.proofs.Named.{number_read}
@@ -8,4 +8,4 @@ pub returns-in-Ok : goal.returns-in-Ok
 returns-in-Ok c =
     let digits = c.args.digits.now in
     let same : c.in-Ok.text.now ≡ digits = c.in-Ok.ensures.cases.0 in
-    IfSome-result_ok _ _ (λ n. (number : ℕ) → number < 2 ^ 64 → digits ≡ six_digits number → n ≡ number) c.ok.ensures.value (number_read digits c.parse.result (rw same at c.parse.ensures.value.0))
+    IfSome-result_ok _ _ (λ n. (number : ℕ) → digits ≡ six_digits number → n ≡ number) c.ok.ensures.value (number_read digits c.parse.result (omega (arith, c.if-digits-gt-MOST_DIGITS.false)) (rw same at c.parse.ensures.value.0))

@@ -1,5 +1,5 @@
-use Rattle.std.proofs.Common.{◌∙◌, List, Option, Bor, ℕ, ap, sym}
-use Rattle.std.specs.Prelude.{option_map, codes}
+use Rattle.std.proofs.Common.{◌∙◌, Option, Bor, ap, sym}
+use Rattle.std.specs.Prelude.{option_map}
 use Rattle.ocfl_tree.specs.Place.{Text}
 use Rattle.ocfl_mem_disk.specs.Paths.{behind_front}
 use Rattle.ocfl_mem_disk.proofs.Named.{part_read}

@@ -1,6 +1,6 @@
 //! The calls that closings make in a state folder.
-ghost use Rattle.std.specs.Prelude.{◌≡◌, ◌⊎◌, ◌↔◌, ◌≤◌, ℕ, Bool, IsTrue, [], IfErr, IfOk, MatchResult};
-ghost use Rattle.std.specs.Prelude.{OnErr, OnOk, Some, false};
+ghost use Rattle.std.specs.Prelude.{◌≡◌, ◌⊎◌, ◌↔◌, ◌<◌, ◌≤◌, ◌^◌, ℕ, Bool, IsTrue, [], IfErr, IfOk};
+ghost use Rattle.std.specs.Prelude.{MatchResult, OnErr, OnOk, Some, false};
 ghost use Rattle.std.specs.Io.KnownBytes.{Appends};
 ghost use Rattle.std.specs.Option.{option_map};
 ghost use Rattle.ocfl_tree.specs.Place.{Text};
@@ -64,10 +64,10 @@ pub trait ClosingCalls {
         ensures room { IsTrue told → room self.new ≡ room self.old }
         ensures still { IsTrue told → Still (state self.old) (state self.new) }
         ensures faults { IsTrue told → faults self.old ≤ faults self.new }
-        ensures list { IsTrue told → (cycle : ℕ)
+        ensures list { IsTrue told → (cycle : ℕ) → cycle < 2 ^ 64
             → path.now ≡ list_path (room self.old).path cycle
             → IfOk result (λ is. is ≡ is_some ((state self.old).files.lists cycle)) }
-        ensures packed { IsTrue told → (cycle : ℕ)
+        ensures packed { IsTrue told → (cycle : ℕ) → cycle < 2 ^ 64
             → path.now ≡ packed_path (room self.old).path cycle false
             → IfOk result (λ is. is ≡ (state self.old).files.packed cycle) };
 
@@ -121,7 +121,7 @@ pub trait ClosingCalls {
     fn open_rows(&mut self, path: &str) -> Result<Option<Self::Rows>, Failure>
         ensures room { IsTrue told → room self.new ≡ room self.old }
         ensures still { IsTrue told → Still (state self.old) (state self.new) }
-        ensures value { IsTrue told → (cycle : ℕ)
+        ensures value { IsTrue told → (cycle : ℕ) → cycle < 2 ^ 64
             → path.now ≡ list_path (room self.old).path cycle
             → IfOk result (λ found. option_map Self.Rows.remaining found
             ≡ option_map Some ((state self.old).files.lists cycle)) }
@@ -131,7 +131,7 @@ pub trait ClosingCalls {
     /// made last, until the next one is made.
     fn make(&mut self, path: &str) -> Result<Self::List, Failure>
         ensures room { IsTrue told → room self.new ≡ room self.old }
-        ensures calm { IsTrue told → (cycle : ℕ)
+        ensures calm { IsTrue told → (cycle : ℕ) → cycle < 2 ^ 64
             → path.now ≡ new_list_path (room self.old).path cycle
             → Calm (state self.old) (state self.new) }
         ensures empty { IsTrue told → IfOk result (λ list. Self.List.contents list ≡ Some []) }
@@ -156,7 +156,7 @@ pub trait ClosingCalls {
     /// made.
     fn put_made(&mut self, path: &str) -> Result<(), Failure>
         ensures room { IsTrue told → room self.new ≡ room self.old }
-        ensures names { IsTrue told → (cycle : ℕ)
+        ensures names { IsTrue told → (cycle : ℕ) → cycle < 2 ^ 64
             → path.now ≡ list_path (room self.old).path cycle
             → IsTrue (state self.old).is_synced → MatchResult result
             (λ _. Names cycle (state self.old) (state self.new))

@@ -5,4 +5,4 @@ use Rattle.ocfl_closing.proofs.asking.make_list.Goals as goal
 
 pub returns-clause-calm : goal.returns-clause-calm
 returns-clause-calm g c = λ told.
-    c.make.ensures.calm told c.args.cycle (c.as_str.ensures.value ∙ c.in_ok-path.ensures ∙ ap (λ (p : Text). new_list_path p c.args.cycle) (c.path.ensures told))
+    c.make.ensures.calm told c.args.cycle c.ranges.cycle.fits (c.as_str.ensures.value ∙ c.in_ok-path.ensures ∙ ap (λ (p : Text). new_list_path p c.args.cycle) (c.path.ensures told))

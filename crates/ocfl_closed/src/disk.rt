@@ -1,5 +1,6 @@
 //! The calls of the system that are made on the files of closed cycles.
-ghost use Rattle.std.specs.Prelude.{◌≡◌, ◌⊎◌, ◌<◌, ◌^◌, ℕ, Bool, false, IsTrue, IfOk, MatchResult, OnOk, Some, [], length, take};
+ghost use Rattle.std.specs.Prelude.{◌≡◌, ◌⊎◌, ◌<◌, ◌^◌, ℕ, Bool, false, IsTrue, IfOk};
+ghost use Rattle.std.specs.Prelude.{MatchResult, OnOk, Some, [], length, take};
 ghost use Rattle.std.specs.Io.{ReadsAtMost};
 ghost use Rattle.std.specs.Option.{option_map};
 ghost use Rattle.ocfl_tree.specs.Place.{Text};
@@ -132,7 +133,7 @@ pub trait ClosedDisk {
         ensures cause { IsTrue told → IsCause (faults self.old) (faults self.new) result };
 
     /// Keeps that what was read in place of the list of what is gone at the end of a cycle is no
-    /// such list: it has a row that is that of no change.
+    /// such list: one of its rows shows no change.
     fn refuse_rows(&mut self, cycle: u64) -> ClosingStop
         requires bad { IsTrue told → IsBadList ((state self.old).files.lists cycle) }
         ensures still { IsTrue told → Still (state self.old) (state self.new) }

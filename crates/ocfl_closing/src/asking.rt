@@ -1,11 +1,12 @@
 //! What closings ask for, over the calls that are made for it.
-ghost use Rattle.std.specs.Prelude.{◌≡◌, ◌⊎◌, ◌≤◌, ℕ, IsTrue, [], IfErr, IfOk, IsOk, MatchResult, OnOk};
-ghost use Rattle.std.specs.Prelude.{Some, string_bytes};
+ghost use Rattle.std.specs.Prelude.{◌≡◌, ◌⊎◌, ◌≤◌, ℕ, IsTrue, [], IfErr, IfOk, IsOk};
+ghost use Rattle.std.specs.Prelude.{MatchResult, OnOk, Some, string_bytes};
 ghost use Rattle.std.specs.Io.KnownBytes.{Appends};
 ghost use Rattle.std.specs.Option.{option_map};
 ghost use Rattle.ocfl_tree.specs.Place.{Text};
 ghost use Rattle.ocfl_accounts.specs.Kept.{is_some};
-ghost use Rattle.ocfl_kept.specs.{FilePaths.{list_path as path_of_list}, Keeping.{IsAsClosed, IsShort}};
+ghost use Rattle.ocfl_kept.specs.FilePaths.{list_path as path_of_list};
+ghost use Rattle.ocfl_kept.specs.Keeping.{IsAsClosed, IsShort};
 ghost use Rattle.ocfl_files.specs.Failing.{stopped_status};
 ghost use Rattle.ocfl_closed.specs.Cut.{AreNamed, Calm, Names, Still};
 ghost use Rattle.ocfl_closed.specs.Files.{report_named};

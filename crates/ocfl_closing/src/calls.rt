@@ -109,7 +109,7 @@ pub trait ClosingCalls {
         ensures value { IsTrue told → IfOk result (λ ends. ends ≡ (room self.old).ends) }
         ensures fault { IsTrue told → HasFault (faults self.old) (faults self.new) result };
 
-    /// Reads the list of the objects that must be there. `None` if there is none.
+    /// Reads the list of the objects that must be there. `None` if no list was given.
     fn read_expected(&mut self) -> Result<Option<Listed>, Failure>
         ensures room { IsTrue told → room self.new ≡ room self.old }
         ensures still { IsTrue told → Still (state self.old) (state self.new) }
@@ -117,7 +117,7 @@ pub trait ClosingCalls {
             option_map (λ listed. listed.places.items) found ≡ (room self.old).expected) }
         ensures fault { IsTrue told → HasFault (faults self.old) (faults self.new) result };
 
-    /// Opens a list of what is gone. `None` if there is none at this path.
+    /// Opens a list of what is gone. `None` if nothing is at this path.
     fn open_rows(&mut self, path: &str) -> Result<Option<Self::Rows>, Failure>
         ensures room { IsTrue told → room self.new ≡ room self.old }
         ensures still { IsTrue told → Still (state self.old) (state self.new) }
@@ -127,8 +127,8 @@ pub trait ClosingCalls {
             ≡ option_map Some ((state self.old).files.lists cycle)) }
         ensures fault { IsTrue told → HasFault (faults self.old) (faults self.new) result };
 
-    /// Makes an empty list of what is gone, in place of what is at this path. It is the one that was
-    /// made last, until the next one is made.
+    /// Makes an empty list of what is gone, in place of what is at this path. Until the next one is
+    /// made, it is the list that was made last.
     fn make(&mut self, path: &str) -> Result<Self::List, Failure>
         ensures room { IsTrue told → room self.new ≡ room self.old }
         ensures calm { IsTrue told → (cycle : ℕ) → cycle < 2 ^ 64
@@ -188,8 +188,8 @@ pub trait ClosingCalls {
         ensures fault { IsTrue told → HasFault (faults self.old) (faults self.new) result }
         ensures failed { IfErr result (λ failure. failure.status ≡ stopped_status) };
 
-    /// Says on standard error what failed. The only error is running out of memory: a standard error
-    /// that cannot be written changes nothing.
+    /// Says on standard error what failed. The only error is running out of memory: a standard
+    /// error that cannot be written changes nothing.
     fn say(&mut self, failure: &Failure) -> Result<(), AllocError>
         ensures said { IsTrue told → OnOk result
             (room self.new ≡ with_note failure.now (room self.old)) }

@@ -23,13 +23,13 @@ use ocfl_tree::Place;
 use std::alloc::AllocError;
 use std::io::{self, ErrorKind};
 
-/// The closed reports of a state folder. It tells what is on the disk if the calls do that are made.
+/// The closed reports of a state folder. It tells what is on the disk if its calls do.
 pub(crate) struct FolderClosings<C: ClosingCalls + Drop> {
     calls: C,
     /// When the night began that says them, in seconds since the epoch.
     began: u64,
-    /// The digest of the bytes of the list of the objects that must be there; empty if none was read
-    /// since a list of what is gone was made.
+    /// The digest of the bytes of the list of the objects that must be there. Empty if none was
+    /// read since a list of what is gone was made.
     listed: String,
     /// How often what had been opened was not read.
     refused: u64,

@@ -339,6 +339,15 @@ fn answers_with_help(rt: HostRuntime) -> Result<(), Fail> {
                 "--help",
                 "\n  3  stopped, worn or the cursor file failed\n  4  cursor refused\n",
             ),
+        ],
+    )
+}
+
+#[test]
+fn answers_with_help_on_a_cycle(rt: HostRuntime) -> Result<(), Fail> {
+    expect_in_usage(
+        &rt,
+        &[
             (
                 "cycle --help",
                 "\nUsage: ocfl-scrub cycle [OPTIONS] --budget <N> --runs <COUNT> <ROOT>\n",

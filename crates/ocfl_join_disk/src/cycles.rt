@@ -2,13 +2,13 @@
 ghost use Rattle.std.specs.Prelude.{◌≡◌, [], Ok, IfErr, IfOk, IsOkAnd, IsTrue, Some, true, false};
 ghost use Rattle.std.specs.Prelude.{if◌then◌else◌, string_bytes};
 ghost use Rattle.ocfl_tree.specs.Place.{Text};
-ghost use Rattle.ocfl_joining.specs.{Cycles.{TellsStop}, Folders.{with_noted}, Stops.{IsCallStop}};
+ghost use Rattle.ocfl_joining.specs.{Cycles.{SaysStop}, Folders.{with_noted}, Stops.{IsCallStop}};
 ghost use Rattle.ocfl_joining.specs.Saying.{stop_text, words_of};
 ghost use Rattle.ocfl_join_disk.specs.Cycles.{cycles_on};
 
 use crate::coming::{Asked, Ended, join_one, stop_of};
 use crate::disk::JoinDisk;
-use crate::looking::{has_told, look_at, stop_at};
+use crate::looking::{has_said, look_at, stop_at};
 use ocfl_joining::{
     Facts, FailedCall, JoinEnd, JoinStop, JoinedLook, PartCycles, ReportTrouble, failed_status,
     say_stop,
@@ -96,7 +96,7 @@ fn note_why<D: JoinDisk>(
 
 /// The same. Gives the status too.
 fn note_stop<D: JoinDisk>(alloc: Global, disk: &mut D, cycle: u64, stop: &JoinStop) -> JoinEnd
-    ensures told { IsTrue D.told → (text : Text) × (TellsStop cycle stop.now result text
+    ensures says { IsTrue D.told → (text : Text) × (SaysStop cycle stop.now result text
         × ((D.parts disk.new).folders ≡ with_noted text (D.parts disk.old).folders)) }
     ensures seen { IsTrue D.told → (D.state disk.new).seen ≡ (D.state disk.old).seen }
 {
@@ -143,7 +143,7 @@ impl<D: JoinDisk + Drop, S: Say + Drop> PartCycles for DiskCycles<'_, D, S> {
 
     fn has_closed(&mut self, part: usize, cycle: u64) -> Result<bool, JoinStop> {
         match &mut self.disk {
-            Some(disk) => closed(part, has_told(disk, part, cycle)),
+            Some(disk) => closed(part, has_said(disk, part, cycle)),
             None => Err(JoinStop::Memory),
         }
     }

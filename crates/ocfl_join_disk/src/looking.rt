@@ -59,7 +59,7 @@ pub(crate) fn look_at<D: JoinDisk>(disk: &mut D, cycle: u64) -> Result<JoinedLoo
 }
 
 /// Whether a part has a closed report of a cycle, and has said what that found.
-pub(crate) fn has_told<D: JoinDisk>(
+pub(crate) fn has_said<D: JoinDisk>(
     disk: &mut D,
     part: usize,
     cycle: u64,

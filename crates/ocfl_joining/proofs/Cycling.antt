@@ -5,7 +5,7 @@ use Rattle.std.proofs.lemmas.Grind.{flat_map-append}
 use Rattle.ocfl_tree.specs.Place.{Text}
 use Rattle.ocfl_say.specs.Said.{Said, Grows}
 use Rattle.ocfl_say.proofs.Outputs.{grows_none}
-use Rattle.ocfl_joining.specs.Cycles.{SeenCycles, Round, passed, ended, stopped, Comes, ComesTo, IsStopped, IsBeside, IsEarlier, IsHeard, IsLast, MayCome, NamesAs, AreEarlier, AreJoined, TellsStop, have_all, is_there, is_due, is_none, last_part, look_of, whole_of, made_of, oldest, end_by, end_of, end_text, ends_of, with_said, said_by}
+use Rattle.ocfl_joining.specs.Cycles.{SeenCycles, Round, passed, ended, stopped, Comes, ComesTo, IsStopped, IsBeside, IsEarlier, IsHeard, IsLast, MayCome, NamesAs, AreEarlier, AreJoined, SaysStop, have_all, is_there, is_due, is_none, last_part, look_of, whole_of, made_of, oldest, end_by, end_of, end_text, ends_of, with_said, said_by}
 use Rattle.ocfl_joining.specs.{Failing.{more_of}, Missing.{part_count}, Reports.{Seen}, Status.{status_of}, Stops.{IsCallStop, IsStopRight, IsUpTo}}
 use Rattle.ocfl_joining.specs.declared.{failing.JoinEnd.{JoinEnd}, joining.JoinStop.{JoinStop}, status.CycleEnd.{CycleEnd}}
 use Rattle.ocfl_joining.proofs.Stopping.{at_none, call_right, right_more}
@@ -104,12 +104,12 @@ due_joined parts cycle old mid new status same e j b = let k = subst (λ s. Join
 }
 
 -- it stopped, and then why was said
-module _ (parts cycle : ℕ) (old mid new : SeenCycles) (why : JoinStop) (result : JoinEnd) (n : JoinsNone parts cycle old mid why) (text : Text) (tells : TellsStop cycle why result text) (same : new ≡ with_said text mid) where
+module _ (parts cycle : ℕ) (old mid new : SeenCycles) (why : JoinStop) (result : JoinEnd) (n : JoinsNone parts cycle old mid why) (text : Text) (says : SaysStop cycle why result text) (same : new ≡ with_said text mid) where
   stops_then : IsStopped old parts cycle why result text (new.reports cycle) old.said new.said
   stops_then = record {
     may = subst (λ s. MayCome old.separators (old.parts cycle) cycle (old.word cycle) (old.reports cycle) (s.reports cycle) old.said s.said) (sym same) n.may;
     right = n.right;
-    told = tells;
+    says = says;
   }
 
   noted_then : new.noted ≡ old.noted ++ text
@@ -127,7 +127,7 @@ module _ (parts cycle : ℕ) (old mid new : SeenCycles) (why : JoinStop) (result
     others = λ other apart. ap (λ s. s.reports other) same ∙ n.beside.others other apart;
   }
 
-pub earlier_failed : (parts cycle : ℕ) (old mid new : SeenCycles) (why : JoinStop) (result : JoinEnd) → JoinsNone parts cycle old mid why → (text : Text) × (TellsStop cycle why result text × (new ≡ with_said text mid))
+pub earlier_failed : (parts cycle : ℕ) (old mid new : SeenCycles) (why : JoinStop) (result : JoinEnd) → JoinsNone parts cycle old mid why → (text : Text) × (SaysStop cycle why result text × (new ≡ with_said text mid))
     → TriesEarlier parts cycle old new result
 earlier_failed parts cycle old mid new why result n said = record {
   round = stopped why result said.0;
@@ -141,7 +141,7 @@ pub last_joined : (cycle : ℕ) (old new : SeenCycles) (status : ℕ) → Joins 
     → TriesLast cycle old new (record { status = status; said = true })
 last_joined cycle old new status j b = record { round = ended j.end j.text; is = j.comes; noted = j.noted; result_is = λ i. record { status = j.status_is i; said = true }; beside = b }
 
-pub last_failed : (cycle : ℕ) (old mid new : SeenCycles) (why : JoinStop) (result : JoinEnd) → JoinsNone 0 cycle old mid why → (text : Text) × (TellsStop cycle why result text × (new ≡ with_said text mid))
+pub last_failed : (cycle : ℕ) (old mid new : SeenCycles) (why : JoinStop) (result : JoinEnd) → JoinsNone 0 cycle old mid why → (text : Text) × (SaysStop cycle why result text × (new ≡ with_said text mid))
     → TriesLast cycle old new result
 last_failed cycle old mid new why result n said = record {
   round = stopped why result said.0;
@@ -177,7 +177,7 @@ module _ (a b : SeenCycles) (cycle : ℕ) (separators : b.separators ≡ a.separ
     right = subst (λ r. IsStopRight (last_part a count cycle) a.separators r why) reports
         (subst (λ p. IsStopRight (max count (part_count a.separators (p cycle))) a.separators (b.reports cycle) why) parts
         (subst (λ s. IsStopRight (max count (part_count s (b.parts cycle))) s (b.reports cycle) why) separators h.right));
-    told = h.told;
+    says = h.says;
   }
 
   earlier_same : (count : ℕ) (r : Round) → is_due b count cycle ≡ is_due a count cycle → IsEarlier b count cycle new before after r → IsEarlier a count cycle new before after r

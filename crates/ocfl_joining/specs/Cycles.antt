@@ -180,7 +180,7 @@ pub record Comes (s : SeenCycles) (cycle : ℕ) (made : Option Bool) (names : Bo
 
 -- It was said why a cycle stopped, with what the system said of a call that failed, if that is known;
 -- or that could not be said.
-pub record TellsStop (cycle : ℕ) (why : JoinStop) (end : JoinEnd) (text : Text) : Type 0 where
+pub record SaysStop (cycle : ℕ) (why : JoinStop) (end : JoinEnd) (text : Text) : Type 0 where
   pub call : Option FailedCall
   pub status_is : end.status ≡ failed_status why call
   pub text_is : text ≡ (if end.said then stop_text cycle why (words_of call) else [])
@@ -193,7 +193,7 @@ last_part s parts cycle = max parts (part_count s.separators (s.parts cycle))
 pub record IsStopped (s : SeenCycles) (parts cycle : ℕ) (why : JoinStop) (end : JoinEnd) (text : Text) (new : Seen) (before after : Said) : Type 0 where
   pub may : MayCome s.separators (s.parts cycle) cycle (s.word cycle) (s.reports cycle) new before after
   pub right : IsStopRight (last_part s parts cycle) s.separators (s.reports cycle) why
-  pub told : TellsStop cycle why end text
+  pub says : SaysStop cycle why end text
 
 -- A cycle before the last one, with the reports that are there of it then, and what the output was given
 -- before it and after it: if it is due it is made, and no part is named; else it is passed by.

@@ -3,7 +3,7 @@ ghost use Rattle.std.specs.Prelude.{◌≡◌, ◌⊎◌, ◌≤◌, ◌&&◌, �
 ghost use Rattle.std.specs.Prelude.{IfErr, IfOk, OnErr};
 ghost use Rattle.ocfl_tree.specs.Place.{Text};
 ghost use Rattle.ocfl_joining.specs.Cycles.{AreJoined, ComesTo, IsBeside, IsHeard, MayCome};
-ghost use Rattle.ocfl_joining.specs.Cycles.{SeenCycles, TellsStop};
+ghost use Rattle.ocfl_joining.specs.Cycles.{SeenCycles, SaysStop};
 ghost use Rattle.ocfl_joining.specs.Cycles.{end_of as end_by, end_text, have_all as have_all_of};
 ghost use Rattle.ocfl_joining.specs.Cycles.{is_due as is_due_by, is_none as is_none_of};
 ghost use Rattle.ocfl_joining.specs.Cycles.{is_there as is_there_by, look_at, made_of, no_cycles};
@@ -88,7 +88,7 @@ pub trait PartCycles {
 
     /// Says why the joining of a cycle stopped. Gives the status, and whether that was said.
     fn fail(&mut self, cycle: u64, stop: &JoinStop) -> JoinEnd
-        ensures told { IsTrue told → (text : Text) × (TellsStop cycle stop.now result text
+        ensures says { IsTrue told → (text : Text) × (SaysStop cycle stop.now result text
             × (seen self.new ≡ with_said text (seen self.old))) };
 }
 

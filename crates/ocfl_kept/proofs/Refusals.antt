@@ -4,10 +4,10 @@ use Rattle.ocfl_tree.specs.Place.{Text}
 use Rattle.ocfl_disk.specs.declared.state_file.Reason.{Reason}
 use Rattle.ocfl_files.specs.Failing.{StopsOn, stopped_status}
 use Rattle.ocfl_files.specs.declared.failing.Failure.{Failure}
-use Rattle.ocfl_kept.specs.Refusing.{AreWordsOf, TellsFailure}
+use Rattle.ocfl_kept.specs.Refusing.{AreWordsOf, SaysFailure}
 
 -- a call that failed stopped the command
-pub failure_stops : (state : Text) (reason : Option Reason) (f : Failure) → TellsFailure state reason f → f.status ≡ stopped_status
+pub failure_stops : (state : Text) (reason : Option Reason) (f : Failure) → SaysFailure state reason f → f.status ≡ stopped_status
 failure_stops state None f h = h.status
 failure_stops state (Some r) f h = h.2.status
 

@@ -46,23 +46,23 @@ abbrev pub SaysReason : Text → StateFile → Text → Failure → Type 0
 SaysReason state f ending failure = (line : Text) × IsReasonLine state f ending line × Says stopped_status line failure
 
 -- what is said of a call that failed in a night
-abbrev pub TellsFailure : Text → Option Reason → Failure → Type 0
-TellsFailure state None f = Says stopped_status (escape state ++ codes " failed\n") f
-TellsFailure state (Some r) f = SaysReason state r.file (codes "\n") f
+abbrev pub SaysFailure : Text → Option Reason → Failure → Type 0
+SaysFailure state None f = Says stopped_status (escape state ++ codes " failed\n") f
+SaysFailure state (Some r) f = SaysReason state r.file (codes "\n") f
 
 -- what is said of a folder that was not opened
-abbrev pub TellsStop : Text → Text → StateStop → Failure → Type 0
-TellsStop state root stop.NoFolder f = Says stopped_status (refusal_text message.NoCheckpoint root state) f
-TellsStop state root stop.NoCheckpoint f = Says stopped_status (refusal_text message.NoCheckpoint root state) f
-TellsStop state root stop.Held f = Says held_status (held_text state) f
-TellsStop state root (stop.OfScripts _) f = Says stopped_status (refusal_text message.OfScripts root state) f
-TellsStop state root (stop.Used _) f = Says stopped_status (refusal_text message.HasReports root state) f
-TellsStop state root (stop.Failed r) f = SaysReason state r.file (codes ". Nothing was run.\n") f
+abbrev pub SaysStop : Text → Text → StateStop → Failure → Type 0
+SaysStop state root stop.NoFolder f = Says stopped_status (refusal_text message.NoCheckpoint root state) f
+SaysStop state root stop.NoCheckpoint f = Says stopped_status (refusal_text message.NoCheckpoint root state) f
+SaysStop state root stop.Held f = Says held_status (held_text state) f
+SaysStop state root (stop.OfScripts _) f = Says stopped_status (refusal_text message.OfScripts root state) f
+SaysStop state root (stop.Used _) f = Says stopped_status (refusal_text message.HasReports root state) f
+SaysStop state root (stop.Failed r) f = SaysReason state r.file (codes ". Nothing was run.\n") f
 
 -- what is said of a lock that is not held
-abbrev pub TellsLock : Text → Text → TryLockError → Failure → Type 0
-TellsLock state path lock.WouldBlock f = Says held_status (joined_now_text state) f
-TellsLock state path (lock.Error _) f = StopsOn path f
+abbrev pub SaysLock : Text → Text → TryLockError → Failure → Type 0
+SaysLock state path lock.WouldBlock f = Says held_status (joined_now_text state) f
+SaysLock state path (lock.Error _) f = StopsOn path f
 
 -- the system's words on the last call that failed, with the file below the folder
 abbrev pub AreWordsOf : Option Reason → Option Text → Type 0

@@ -5,7 +5,7 @@ ghost use Rattle.std.specs.{IoError.{error_kind}, Option.{option_map}};
 ghost use Rattle.ocfl_report.specs.Text.{escape};
 ghost use Rattle.ocfl_messages.specs.Refusal.{refusal_text};
 ghost use Rattle.ocfl_files.specs.Failing.{OrMemory, Says, stopped_status};
-ghost use Rattle.ocfl_kept.specs.Refusing.{AreWordsOf, IsReasonLine, SaysReason, ShowsFile, TellsFailure, TellsLock, TellsStop, held_status, held_text, joined_now_text, of_parts_text};
+ghost use Rattle.ocfl_kept.specs.Refusing.{AreWordsOf, IsReasonLine, SaysReason, ShowsFile, SaysFailure, SaysLock, SaysStop, held_status, held_text, joined_now_text, of_parts_text};
 
 use crate::kept::part_path;
 use crate::state_dir::{Folder, StateDir};
@@ -68,7 +68,7 @@ fn opened<F>(
     folder: Result<F, StateStop>,
 ) -> Result<F, Failure>
     ensures { MatchResult folder (λ folder. result ≡ Ok folder) (λ stop. IsErrAnd result
-        (λ failure. OrMemory (TellsStop state.now root.now stop) failure)) }
+        (λ failure. OrMemory (SaysStop state.now root.now stop) failure)) }
 {
     match folder {
         Ok(folder) => Ok(folder),
@@ -140,7 +140,7 @@ fn held_by(
 ) -> Result<(), Failure>
     ensures held { IfOk answer (λ _. IsOk result) }
     ensures refused { IfErr answer (λ error. IsErrAnd result
-        (λ failure. OrMemory (TellsLock state.now path.now error) failure)) }
+        (λ failure. OrMemory (SaysLock state.now path.now error) failure)) }
 {
     match answer {
         Ok(()) => Ok(()),
@@ -178,7 +178,7 @@ fn refused(
 
 /// Why the folder was not opened.
 fn unopened(alloc: Global, state: &str, root: &str, stop: StateStop) -> Result<Failure, AllocError>
-    ensures { IfOk result (λ failure. TellsStop state.now root.now stop failure) }
+    ensures { IfOk result (λ failure. SaysStop state.now root.now stop failure) }
 {
     match stop {
         StateStop::NoFolder => refused(alloc, RefusalMessage::NoCheckpoint, root, state),
@@ -283,7 +283,7 @@ pub fn folder_failure(
     state: &str,
     reason: Option<Reason>,
 ) -> Result<Failure, AllocError>
-    ensures { IfOk result (λ failure. TellsFailure state.now reason failure) }
+    ensures { IfOk result (λ failure. SaysFailure state.now reason failure) }
 {
     match reason {
         Some(reason) => failure_of(alloc, state, reason, "\n"),

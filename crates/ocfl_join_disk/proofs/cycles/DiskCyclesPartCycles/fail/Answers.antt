@@ -4,8 +4,8 @@ use Rattle.ocfl_join_disk.proofs.cycles.DiskCyclesPartCycles.fail.Goals as goal
 
 pub returns-in-Some : goal.returns-in-Some
 returns-in-Some g c = record {
-  told = λ told.
-      let s = c.note_stop.ensures.told told in (
+  says = λ told.
+      let s = c.note_stop.ensures.says told in (
         s.0,
         (
           s.1.0,

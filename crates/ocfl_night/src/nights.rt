@@ -87,7 +87,8 @@ fn next_limits(plan: &Plan, tally: &Tally, now: u64) -> Option<Limits>
 
 /// The limits of the next run, and the time at which it begins. Or why none is made.
 fn allowed<C: Clock>(plan: &Plan, clock: &mut C, tally: &Tally) -> Result<(Limits, u64), Pause>
-    ensures { IsTrue C.told → IsAllowed plan.now (done_of tally.now)
+    ensures told { IsTrue (C.told clock.new) → IsTrue (C.told clock.old) }
+    ensures allowed { IsTrue (C.told clock.new) → IsAllowed plan.now (done_of tally.now)
         (C.events clock.old) (C.events clock.new) result }
 {
     if clock.is_stopped() {
@@ -278,7 +279,7 @@ fn runs<S: StateFolder, T: Tree, C: Clock>(
         (reached start) (reached next.0)
         (halt_after (cycle_ended next.0.phase next.0.cursor.cycle) next.1)
         (content_since start.cursor.further root (T.state tree.old) (T.state tree.new)))) }
-    ensures again { IsTrue C.told → IsTrue S.told → AreDeclarations identity.now
+    ensures again { IsTrue (C.told clock.new) → IsTrue S.told → AreDeclarations identity.now
         → OverShort T.told (T.state tree.old) (λ root. IsDeclaredBy root identity.now →
         IfReadyIn S.StateFolder (of_any start.cursor.further (part_of part.now)) start folder.old
         (λ _.
@@ -286,10 +287,11 @@ fn runs<S: StateFolder, T: Tree, C: Clock>(
         (C.events clock.old) (C.events clock.new)
         (T.state tree.old) (T.state tree.new) folder.new)) }
     ensures closed { IsTrue S.told → OnOk result (SameClosed S.StateFolder folder.old folder.new) }
-    ensures told { IsTrue C.told → AreMade plan.now (C.events clock.old) (C.events clock.new)
+    ensures told { IsTrue (C.told clock.new) → AreMade plan.now
+        (C.events clock.old) (C.events clock.new)
         (done_of tally.old) start
         (λ d k last. IsEndedBy plan.now d k last (done_of tally.new) result) }
-    ensures failed { IsTrue C.told → OverShort T.told (T.state tree.old) (λ root.
+    ensures failed { IsTrue (C.told clock.new) → OverShort T.told (T.state tree.old) (λ root.
         AreFailed (C.events clock.old) (C.events clock.new)
         (T.state tree.old) (T.state tree.new)) }
     ensures leads { IfOk result (λ next. LeadsOn start tally.old.left.items
@@ -411,7 +413,7 @@ fn make_runs<S: StateFolder, T: Tree, C: Clock, O: Output>(
         → IsReadTo (T.state tree.old) (T.state tree.new) (reached checkpoint) end
         (S.seen folder.new) (content_since checkpoint.cursor.further root (T.state tree.old)
         (T.state tree.new))))) }
-    ensures again { IsTrue C.told → IsTrue S.told → AreDeclarations identity.now
+    ensures again { IsTrue (C.told clock.new) → IsTrue S.told → AreDeclarations identity.now
         → OverShort T.told (T.state tree.old) (λ root. IsDeclaredBy root identity.now →
         IfReadyIn S.StateFolder (of_any checkpoint.cursor.further
         (part_of part.now)) checkpoint folder.old (λ _.
@@ -428,11 +430,12 @@ fn make_runs<S: StateFolder, T: Tree, C: Clock, O: Output>(
     ensures goes_on { IsTrue S.told → IfOk result (λ end.
         ((cycle : ℕ) → end ≢ halt.CycleEnded cycle)
         → SameClosed S.StateFolder folder.old folder.new) }
-    ensures told { IsTrue C.told → AreMade plan.now (C.events clock.old) (C.events clock.new)
+    ensures told { IsTrue (C.told clock.new) → AreMade plan.now
+        (C.events clock.old) (C.events clock.new)
         (done_of tally.old) checkpoint
         (EndsBy (λ p. IsTrue S.told → IsAt checkpoint (S.seen folder.old)
         → StandsAt (S.seen folder.new) p) plan.now (ended_by result) (done_of tally.new)) }
-    ensures failed { IsTrue C.told → OverShort T.told (T.state tree.old) (λ root.
+    ensures failed { IsTrue (C.told clock.new) → OverShort T.told (T.state tree.old) (λ root.
         AreFailed (C.events clock.old) (C.events clock.new)
         (T.state tree.old) (T.state tree.new)) }
     ensures left { StillMayLeave plan.now.stop_at_faults tally.old tally.new }
@@ -603,7 +606,8 @@ pub fn night<S: StateFolder, T: Tree, C: Clock, O: Output>(
     // of the one before it, if its limits ended that one. Between two, before the first and after
     // the last no file is opened but those that declare the root, and nothing is listed but, when
     // the night begins, the top folder.
-    ensures again { IsTrue C.told → IsTrue S.told → OverShort T.told (T.state tree.old) (λ root.
+    ensures again { IsTrue (C.told clock.new) → IsTrue S.told
+        → OverShort T.told (T.state tree.old) (λ root.
         IsKept S.StateFolder (of_any site.now.further (part_at site.now.ends)) folder.old
         → HasLooked site.now.further root (T.state tree.old) (T.state tree.new)
         ⊎ IsLittleSince site.now.further plan.now.create root (part_at site.now.ends) S.StateFolder
@@ -688,11 +692,12 @@ pub fn night<S: StateFolder, T: Tree, C: Clock, O: Output>(
     // to stop and that the end has not come, within the limits of the plan. By these it ended as it
     // says, unless troubled, and its figures are theirs. Where the last one led, the folder's
     // checkpoint stands then, or at the beginning of the next cycle if that one has ended.
-    ensures told { IsTrue C.told → IsNight site.now.further plan.now S.told (S.seen folder.old)
+    ensures told { IsTrue (C.told clock.new) → IsNight site.now.further plan.now S.told
+        (S.seen folder.old)
         (S.seen folder.new) (C.events clock.old) (C.events clock.new) result }
 
     // At each place the store failed at least as often as runs stopped there.
-    ensures failed { IsTrue C.told → OverShort T.told (T.state tree.old) (λ root.
+    ensures failed { IsTrue (C.told clock.new) → OverShort T.told (T.state tree.old) (λ root.
         AreFailed (C.events clock.old) (C.events clock.new)
         (T.state tree.old) (T.state tree.new)) }
 {

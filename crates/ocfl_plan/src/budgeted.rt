@@ -39,13 +39,13 @@ pub struct Budgeted<C: Clock + Drop> {
     budget: Option<Budget>,
     /// What the runs cost that it heard of, at most 2^64 - 1.
     spent: u64,
-    ghost spent_is: { IsTrue C.told → spent ≡ spent_in 0 (C.events clock) },
+    ghost spent_is: { IsTrue (C.told clock) → spent ≡ spent_in 0 (C.events clock) },
 }
 
 impl<C: Clock + Drop> Budgeted<C> {
     /// The clock of a night that is asked for, made of one to which nothing has happened.
     pub fn of(asked: &NightAsked, clock: C) -> Budgeted<C>
-        requires { IsTrue C.told → C.events clock ≡ [] }
+        requires { IsTrue (C.told clock) → C.events clock ≡ [] }
         ensures clock { result.clock ≡ clock }
         ensures budget { result.budget ≡ asked.now.bounds.budget }
         ensures spent { result.spent ≡ 0 }
@@ -59,14 +59,15 @@ impl<C: Clock + Drop> Budgeted<C> {
 
     /// What the runs cost that it heard of, at most 2^64 - 1.
     pub fn spent(&self) -> u64
-        ensures { IsTrue C.told → result ≡ spent_in 0 (C.events self.now.clock) }
+        ensures { IsTrue (C.told self.now.clock)
+            → result ≡ spent_in 0 (C.events self.now.clock) }
     {
         self.spent
     }
 }
 
 impl<C: Clock + Drop> Clock for Budgeted<C> {
-    ghost told = { C.told };
+    ghost told = { λ b. C.told b.clock };
 
     ghost events = { λ b. budgeted b.budget 0 (C.events b.clock) };
 

@@ -34,12 +34,13 @@ pub struct Hearing<C: Clock + Drop, L: Listener + Drop> {
 /// Does what the clock does, with the same contract. The listener hears each time, and each run of
 /// which something is kept.
 impl<C: Clock + Drop, L: Listener + Drop> Clock for Hearing<C, L> {
-    ghost told = { C.told };
+    ghost told = { λ h. C.told h.clock };
 
     ghost events = { λ h. C.events h.clock };
 
     fn now(&mut self) -> u64
-        ensures clock { IsTrue C.told
+        ensures told { IsTrue (C.told self.new.clock) → IsTrue (C.told self.old.clock) }
+        ensures clock { IsTrue (C.told self.new.clock)
             → C.events self.new.clock ≡ C.events self.old.clock ++ Read result ∷ [] }
         ensures noted { IsTrue L.told
             → L.noted self.new.listener ≡ L.noted self.old.listener ++ Shown result ∷ [] }
@@ -50,7 +51,8 @@ impl<C: Clock + Drop, L: Listener + Drop> Clock for Hearing<C, L> {
     }
 
     fn is_stopped(&mut self) -> bool
-        ensures clock { IsTrue C.told
+        ensures told { IsTrue (C.told self.new.clock) → IsTrue (C.told self.old.clock) }
+        ensures clock { IsTrue (C.told self.new.clock)
             → C.events self.new.clock ≡ C.events self.old.clock ++ Asked result ∷ [] }
         ensures noted { self.new.listener ≡ self.old.listener }
     {
@@ -58,7 +60,8 @@ impl<C: Clock + Drop, L: Listener + Drop> Clock for Hearing<C, L> {
     }
 
     fn hears(&mut self, made: &Made)
-        ensures clock { IsTrue C.told
+        ensures told { IsTrue (C.told self.new.clock) → IsTrue (C.told self.old.clock) }
+        ensures clock { IsTrue (C.told self.new.clock)
             → C.events self.new.clock ≡ C.events self.old.clock ++ Heard made.now ∷ [] }
         ensures noted { IsTrue L.told
             → L.noted self.new.listener ≡ L.noted self.old.listener ++ noted_of made.now }

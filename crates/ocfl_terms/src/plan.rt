@@ -12,23 +12,30 @@ use ocfl_tree::Place;
 /// A clock, which also knows whether the night is asked to stop, and hears of its runs. It may
 /// answer anything.
 pub trait Clock {
-    /// Whether the clock is told. If not, the clauses promise nothing.
-    ghost told: { Bool };
+    /// Whether it tells what happened to it. One that could not keep something of that does not
+    /// tell from then on. Of a clock that does not tell, the clauses say nothing.
+    ghost told: { Self → Bool };
 
     /// What it answered and heard so far, oldest first.
     ghost events: { Self → List Event };
 
     /// The time, in seconds since the epoch.
     fn now(&mut self) -> u64
-        ensures { IsTrue told → events self.new ≡ events self.old ++ Read result ∷ [] };
+        ensures told { IsTrue (told self.new) → IsTrue (told self.old) }
+        ensures event { IsTrue (told self.new)
+            → events self.new ≡ events self.old ++ Read result ∷ [] };
 
     /// Whether the night is asked to stop. It is asked before each run.
     fn is_stopped(&mut self) -> bool
-        ensures { IsTrue told → events self.new ≡ events self.old ++ Asked result ∷ [] };
+        ensures told { IsTrue (told self.new) → IsTrue (told self.old) }
+        ensures event { IsTrue (told self.new)
+            → events self.new ≡ events self.old ++ Asked result ∷ [] };
 
     /// It hears what a run made, right after it.
     fn hears(&mut self, made: &Made)
-        ensures { IsTrue told → events self.new ≡ events self.old ++ Heard made.now ∷ [] };
+        ensures told { IsTrue (told self.new) → IsTrue (told self.old) }
+        ensures event { IsTrue (told self.new)
+            → events self.new ≡ events self.old ++ Heard made.now ∷ [] };
 }
 
 /// What a night may do.

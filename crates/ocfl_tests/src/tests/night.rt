@@ -57,7 +57,7 @@ impl Still {
 }
 
 impl Clock for Still {
-    ghost told = { false };
+    ghost told = { λ _. false };
 
     ghost events = { λ _. [] };
 

@@ -98,18 +98,24 @@ module _ (g : given.Over) (c : After-go_on_after g) (tells : IsTrue g.T.Tree.tol
         (c.go_on_after.ensures.any_moment told (record { part = part_of c.args.part.now; further = c.args.start.cursor.further; known = known }) stops_next t (made_ready told t r))
 
 -- a run that was made, and what the clock heard of it
-module _ (g : given.Over) (c : After-go_on_after g) (told : IsTrue g.C.Clock.told) where
+module _ (g : given.Over) (c : After-go_on_after g) (told : IsTrue (g.C.Clock.told c.hears.new.self)) where
   abbrev run : Run
   run = record { now = c.in-Ok.allowed.1; made = c.in_ok-made.made }
 
+  told_then : IsTrue (g.C.Clock.told c.allowed.new.clock)
+  told_then = c.hears.ensures.told told
+
+  told_before : IsTrue (g.C.Clock.told c.loop-run.clock)
+  told_before = c.in-Ok.ensures.told told_then
+
   may : MayBeginAt c.args.plan.now (done_of c.loop-run.tally) c.loop-run.checkpoint c.in-Ok.allowed.1
-  may = let is = c.in-Ok.ensures told in record { goes_on = is_open g c; in_time = is.1; files = is.2 }
+  may = let is = c.in-Ok.ensures.allowed told_then in record { goes_on = is_open g c; in_time = is.1; files = is.2 }
 
   is_run : IsRunOf c.args.plan.now (done_of c.loop-run.tally) c.loop-run.checkpoint run
-  is_run = let is = c.in-Ok.ensures told in record { may = may; limits = c.in-Ok.allowed.0; budget = is.3; files = is.4; made = c.in_ok-made.ensures.slice }
+  is_run = let is = c.in-Ok.ensures.allowed told_then in record { may = may; limits = c.in-Ok.allowed.0; budget = is.3; files = is.4; made = c.in_ok-made.ensures.slice }
 
   heard : g.C.Clock.events c.hears.new.self ≡ g.C.Clock.events c.loop-run.clock ++ events_of run
-  heard = c.hears.ensures told ∙ ap (λ (x : List Event). x ++ Heard c.in_ok-made.made ∷ []) (c.in-Ok.ensures told).0 ∙ append_assoc (g.C.Clock.events c.loop-run.clock) _ _
+  heard = c.hears.ensures.event told ∙ ap (λ (x : List Event). x ++ Heard c.in_ok-made.made ∷ []) (c.in-Ok.ensures.allowed told_then).0 ∙ append_assoc (g.C.Clock.events c.loop-run.clock) _ _
 
 -- where a run leads, with what was left out for it
 turned : (g : given.Over) (c : After-go_on_after g) {next : Checkpoint × Option Pause} → c.loop-run.checkpoint.phase ≡ Open → (StopsOpen c.in_ok-made.made → turn_of (done_of c.go_on_after.new.tally) next ≡ after_made c.args.plan.now.stop_at_faults (done_of c.count.new.self) c.in_ok-made.made)
@@ -149,11 +155,11 @@ slice_asked g c tells root over short named =
 
 -- the store failed where runs stopped
 
-failed_then : (g : given.Over) (c : After-go_on_after g) (told : IsTrue g.C.Clock.told) (tells : IsTrue g.T.Tree.told) (root : StorageRoot) → (g.T.Tree.state c.args.tree.now).tree ≡ root → HasShortFiles root
+failed_then : (g : given.Over) (c : After-go_on_after g) (told : IsTrue (g.C.Clock.told c.hears.new.self)) (tells : IsTrue g.T.Tree.told) (root : StorageRoot) → (g.T.Tree.state c.args.tree.now).tree ≡ root → HasShortFiles root
     → AreFailed (g.C.Clock.events c.args.clock.now) (g.C.Clock.events c.hears.new.self) (g.T.Tree.state c.args.tree.now) (g.T.Tree.state c.slice.new.tree)
 failed_then g c told tells root over short =
     let inv = c.loop-run.invariant in
-    run_failed_so (run g c told) (inv.failed told tells root over short) (heard g c told) (made_counts g c tells root over short) (c.in_ok-made.ensures.failed tells root (inv.root tells root over short) short (inv.walk tells root over short))
+    run_failed_so (run g c told) (inv.failed (told_before g c told) tells root over short) (heard g c told) (made_counts g c tells root over short) (c.in_ok-made.ensures.failed tells root (inv.root tells root over short) short (inv.walk tells root over short))
 
 pub loop-run-init : goal.loop-run-init
 loop-run-init g c = record {
@@ -263,10 +269,10 @@ loop-run-preserved g c =
       passed = let one = one_run g at in omega (arith, inv.passed, c.loop-run-test.true);
       leads = grown_on inv.leads (turned g at (is_open g at) c.in_ok-next.ensures.turn);
       cycle = next_in c.args.plan.now.stop_at_faults (done_of c.count.new.self) (done_of c.go_on_after.new.tally) (c.in_ok-next.next, c.in_ok-next.pause) (is_open g at) c.in_ok-made.ensures.slice c.in_ok-next.ensures.turn ∙ inv.cycle;
-      told = λ told. run_more (run g at told) (inv.told told) (heard g at told) (is_run g at told) (led_by c.args.plan.now (done_of c.loop-run.tally) c.in-Ok.allowed.1 (may g at told).goes_on c.in_ok-made.ensures.slice c.begin.ensures.done c.count.ensures.done c.in_ok-next.ensures.turn ∙ ap (λ (o : Option Pause). turn_of (done_of c.go_on_after.new.tally) (c.in_ok-next.next, o)) c.in_default.is);
+      told = λ told. run_more (run g at told) (inv.told (told_before g at told)) (heard g at told) (is_run g at told) (led_by c.args.plan.now (done_of c.loop-run.tally) c.in-Ok.allowed.1 (may g at told).goes_on c.in_ok-made.ensures.slice c.begin.ensures.done c.count.ensures.done c.in_ok-next.ensures.turn ∙ ap (λ (o : Option Pause). turn_of (done_of c.go_on_after.new.tally) (c.in_ok-next.next, o)) c.in_default.is);
       failed = λ told tells root over short. failed_then g at told tells root over short;
       again = λ told folder_told declares tells root over short named t r.
-          little_more (inv.again told folder_told declares tells root over short named t r) inv.cycle (g.T.Tree.state c.slice.new.tree) c.go_on_after.new.folder
+          little_more (inv.again (told_before g at told) folder_told declares tells root over short named t r) inv.cycle (g.T.Tree.state c.slice.new.tree) c.go_on_after.new.folder
           (slice_beyond g at tells root over short declares) (slice_once g at tells root over short declares) (slice_crash g at tells root over short declares folder_told t r) (inv.at folder_told r.at)
           (run g at told) (heard g at told) (slice_asked g at tells root over short named) (slice_took g at tells root over short declares) (made_read g at tells root over short declares).stays
           (next_reached c.args.plan.now.stop_at_faults (done_of c.count.new.self) (done_of c.go_on_after.new.tally) (c.in_ok-next.next, c.in_ok-next.pause) (is_open g at) c.in_ok-made.ensures.slice c.in_ok-next.ensures.turn)
@@ -280,16 +286,16 @@ loop-run-preserved g c =
     }
 
 pub returns-in-Err-clause-told : goal.returns-in-Err-clause-told
-returns-in-Err-clause-told g c = λ told. paused_before c.in-Err.pause (c.loop-run.invariant.told told) (search rules) (c.in-Err.ensures told)
+returns-in-Err-clause-told g c = λ told. paused_before c.in-Err.pause (c.loop-run.invariant.told (c.in-Err.ensures.told told)) (search rules) (c.in-Err.ensures.allowed told)
 
 pub returns-clause-told : goal.returns-clause-told
 returns-clause-told g c = λ told. and_then [] (c.loop-run.invariant.told told) (sym (append-nil _)) (inr (refl, refl))
 
 pub returns-in_err-made-clause-told : goal.returns-in_err-made-clause-told
 returns-in_err-made-clause-told g c = λ told.
-    let is = c.in-Ok.ensures told in
+    let is = c.in-Ok.ensures.allowed told in
     let p = err_from_is_err_and c.from_residual.result c.from_residual.ensures.1 in
-    and_then (Asked false ∷ Read c.in-Ok.allowed.1 ∷ []) (c.loop-run.invariant.told told) is.0
+    and_then (Asked false ∷ Read c.in-Ok.allowed.1 ∷ []) (c.loop-run.invariant.told (c.in-Ok.ensures.told told)) is.0
     (failed_so c.args.plan.now (done_of c.loop-run.tally) (done_of c.begin.new.self) c.loop-run.checkpoint _ p.1 (inl (in_it c.in-Ok.allowed.1 (record { goes_on = search rules; in_time = is.1; files = is.2 }) refl c.begin.ensures.done)))
 
 pub returns-in_err-next-clause-told : goal.returns-in_err-next-clause-told
@@ -298,14 +304,14 @@ returns-in_err-next-clause-told g c = λ told.
     let p = err_from_is_err_and c.from_residual-in_err-next.result c.from_residual-in_err-next.ensures.1 in
     let runs = c.go_on_after.ensures.runs ∙ ap (λ (d : Done). d.runs) c.count.ensures.done ∙ ap (λ (d : Done). d.runs) c.begin.ensures.done in
     let left = subst (λ (d : Done). MayHaveLeft c.args.plan.now.stop_at_faults d c.in_ok-made.made (done_of c.go_on_after.new.tally)) (c.count.ensures.done ∙ ap (with_made c.in_ok-made.made) c.begin.ensures.done) c.in_err-next.ensures.broken in
-    and_then (events_of (run g at told)) (c.loop-run.invariant.told told) (heard g at told)
+    and_then (events_of (run g at told)) (c.loop-run.invariant.told (told_before g at told)) (heard g at told)
     (failed_so c.args.plan.now (done_of c.loop-run.tally) (done_of c.go_on_after.new.tally) c.loop-run.checkpoint _ p.1 (inl (after_it (run g at told) (is_run g at told) refl runs left)))
 
 pub returns-in-Some-clause-told : goal.returns-in-Some-clause-told
 returns-in-Some-clause-told g c = λ told.
     let at = (goal.at.returns-in-Some-clause-told g c).After-go_on_after in
     let halts = led_by c.args.plan.now (done_of c.loop-run.tally) c.in-Ok.allowed.1 (may g at told).goes_on c.in_ok-made.ensures.slice c.begin.ensures.done c.count.ensures.done c.in_ok-next.ensures.turn ∙ ap (λ (o : Option Pause). turn_of (done_of c.go_on_after.new.tally) (c.in_ok-next.next, o)) c.in-Some.is in
-    and_then (events_of (run g at told)) (c.loop-run.invariant.told told) (heard g at told) (paused c.in-Some.pause (is_run g at told) halts)
+    and_then (events_of (run g at told)) (c.loop-run.invariant.told (told_before g at told)) (heard g at told) (paused c.in-Some.pause (is_run g at told) halts)
 
 pub returns-in-Some-clause-leads : goal.returns-in-Some-clause-leads
 returns-in-Some-clause-leads g c =
@@ -405,7 +411,7 @@ pub returns-then-ne-clause-read : goal.returns-then-ne-clause-read
 returns-then-ne-clause-read g c = λ declares tells root over short. read_all _ (c.loop-run.invariant.read tells root over short declares)
 
 pub returns-in-Err-clause-failed : goal.returns-in-Err-clause-failed
-returns-in-Err-clause-failed g c = λ told tells root over short. paused_failed_so c.args.plan.now (done_of c.loop-run.tally) c.in-Err.pause (c.loop-run.invariant.failed told tells root over short) (c.in-Err.ensures told)
+returns-in-Err-clause-failed g c = λ told tells root over short. paused_failed_so c.args.plan.now (done_of c.loop-run.tally) c.in-Err.pause (c.loop-run.invariant.failed (c.in-Err.ensures.told told) tells root over short) (c.in-Err.ensures.allowed told)
 
 pub returns-clause-failed : goal.returns-clause-failed
 returns-clause-failed g c = λ told tells root over short. c.loop-run.invariant.failed told tells root over short
@@ -413,7 +419,7 @@ returns-clause-failed g c = λ told tells root over short. c.loop-run.invariant.
 pub returns-in_err-made-clause-failed : goal.returns-in_err-made-clause-failed
 returns-in_err-made-clause-failed g c = λ told tells root over short.
     let inv = c.loop-run.invariant in
-    begun_failed_so c.in-Ok.allowed.1 (inv.failed told tells root over short) (c.in-Ok.ensures told).0 (c.slice.ensures.counts tells root (inv.root tells root over short) short (inv.walk tells root over short))
+    begun_failed_so c.in-Ok.allowed.1 (inv.failed (c.in-Ok.ensures.told told) tells root over short) (c.in-Ok.ensures.allowed told).0 (c.slice.ensures.counts tells root (inv.root tells root over short) short (inv.walk tells root over short))
 
 pub returns-in_err-next-clause-failed : goal.returns-in_err-next-clause-failed
 returns-in_err-next-clause-failed g c = λ told tells root over short. failed_then g (goal.at.returns-in_err-next-clause-failed g c).After-go_on_after told tells root over short
@@ -429,8 +435,8 @@ returns-then-ne-clause-again g c = λ told folder_told declares tells root over 
 pub returns-in-Err-clause-again : goal.returns-in-Err-clause-again
 returns-in-Err-clause-again g c = λ told folder_told declares tells root over short named t r.
     let inv = c.loop-run.invariant in
-    little_now (inv.again told folder_told declares tells root over short named t r) inv.cycle (g.met.S.StateFolder.only_now folder_told) (inv.ready folder_told tells root over short None tt t r)
-    (unheard_paused c.args.plan.now (done_of c.loop-run.tally) c.in-Err.pause (c.in-Err.ensures told))
+    little_now (inv.again (c.in-Err.ensures.told told) folder_told declares tells root over short named t r) inv.cycle (g.met.S.StateFolder.only_now folder_told) (inv.ready folder_told tells root over short None tt t r)
+    (unheard_paused c.args.plan.now (done_of c.loop-run.tally) c.in-Err.pause (c.in-Err.ensures.allowed told))
 
 pub returns-clause-again : goal.returns-clause-again
 returns-clause-again g c = λ told folder_told declares tells root over short named t r.
@@ -442,17 +448,17 @@ returns-in_err-made-clause-again g c = λ told folder_told declares tells root o
     let inv = c.loop-run.invariant in
     let there = inv.root tells root over short in
     let walk = inv.walk tells root over short in
-    little_begun (inv.again told folder_told declares tells root over short named t r) inv.cycle (g.T.Tree.state c.slice.new.tree) c.slice.new.folder
+    little_begun (inv.again (c.in-Ok.ensures.told told) folder_told declares tells root over short named t r) inv.cycle (g.T.Tree.state c.slice.new.tree) c.slice.new.folder
     (c.slice.ensures.beyond declares tells root there short walk) (c.slice.ensures.once declares tells root there short walk)
     (c.slice.ensures.crash folder_told declares tells root there short walk (of_any c.args.start.cursor.further (part_of c.args.part.now)) t (inv.ready folder_told tells root over short None tt t r)) (inv.at folder_told r.at)
-    (unheard_begun c.in-Ok.allowed.1 (c.in-Ok.ensures told).0)
+    (unheard_begun c.in-Ok.allowed.1 (c.in-Ok.ensures.allowed told).0)
     (may_named root (part_of c.args.part.now) (met_at c.loop-run.kept) c.loop-run.checkpoint named (err_holds c.slice.result _ c.in_err-made.was (c.slice.ensures.asks_no_more tells root there short walk)))
 
 pub returns-in_err-next-clause-again : goal.returns-in_err-next-clause-again
 returns-in_err-next-clause-again g c = λ told folder_told declares tells root over short named t r.
     let at = (goal.at.returns-in_err-next-clause-again g c).After-go_on_after in
     let inv = c.loop-run.invariant in
-    little_last (inv.again told folder_told declares tells root over short named t r) inv.cycle (g.T.Tree.state c.slice.new.tree) c.go_on_after.new.folder
+    little_last (inv.again (told_before g at told) folder_told declares tells root over short named t r) inv.cycle (g.T.Tree.state c.slice.new.tree) c.go_on_after.new.folder
     (slice_beyond g at tells root over short declares) (slice_once g at tells root over short declares) (slice_crash g at tells root over short declares folder_told t r) (inv.at folder_told r.at) (run g at told) (heard g at told)
     (slice_asked g at tells root over short named)
 
@@ -460,6 +466,6 @@ pub returns-in-Some-clause-again : goal.returns-in-Some-clause-again
 returns-in-Some-clause-again g c = λ told folder_told declares tells root over short named t r.
     let at = (goal.at.returns-in-Some-clause-again g c).After-go_on_after in
     let inv = c.loop-run.invariant in
-    little_last (inv.again told folder_told declares tells root over short named t r) inv.cycle (g.T.Tree.state c.slice.new.tree) c.go_on_after.new.folder
+    little_last (inv.again (told_before g at told) folder_told declares tells root over short named t r) inv.cycle (g.T.Tree.state c.slice.new.tree) c.go_on_after.new.folder
     (slice_beyond g at tells root over short declares) (slice_once g at tells root over short declares) (slice_crash g at tells root over short declares folder_told t r) (inv.at folder_told r.at) (run g at told) (heard g at told)
     (slice_asked g at tells root over short named)

@@ -25,9 +25,9 @@ invariant-loop-run g l =
       read : IfTold g.T.Tree.told before (λ root. HasShortFiles root → AreDeclarations l.fn.identity → SoRead before now (reached l.fn.start) (reached l.checkpoint) (content_since l.fn.start.cursor.further root before now));
       closed : IsTrue g.S.StateFolder.told → (seen l.folder).closed ≡ (seen l.fn.folder).closed;
       cycle : cycle_of l.checkpoint ≡ cycle_of l.fn.start;
-      told : IsTrue g.C.Clock.told → SoFar l.fn.plan (g.C.Clock.events l.fn.clock) (g.C.Clock.events l.clock) (done_of l.fn.tally) l.fn.start (done_of l.tally) l.checkpoint;
-      failed : IsTrue g.C.Clock.told → IfTold g.T.Tree.told before (λ root. HasShortFiles root → AreFailed (g.C.Clock.events l.fn.clock) (g.C.Clock.events l.clock) before now);
-      again : IsTrue g.C.Clock.told → IsTrue g.S.StateFolder.told → AreDeclarations l.fn.identity → IfTold g.T.Tree.told before (λ root. HasShortFiles root → IsDeclaredBy root l.fn.identity → (t : Text) → IsReady g.S.StateFolder (of_any l.fn.start.cursor.further part) t l.fn.start l.fn.folder → SoLittle root part g.S.StateFolder (cycle_of l.fn.start) (g.C.Clock.events l.fn.clock) (g.C.Clock.events l.clock) before now l.folder l.checkpoint (met_at l.kept));
+      told : IsTrue (g.C.Clock.told l.clock) → SoFar l.fn.plan (g.C.Clock.events l.fn.clock) (g.C.Clock.events l.clock) (done_of l.fn.tally) l.fn.start (done_of l.tally) l.checkpoint;
+      failed : IsTrue (g.C.Clock.told l.clock) → IfTold g.T.Tree.told before (λ root. HasShortFiles root → AreFailed (g.C.Clock.events l.fn.clock) (g.C.Clock.events l.clock) before now);
+      again : IsTrue (g.C.Clock.told l.clock) → IsTrue g.S.StateFolder.told → AreDeclarations l.fn.identity → IfTold g.T.Tree.told before (λ root. HasShortFiles root → IsDeclaredBy root l.fn.identity → (t : Text) → IsReady g.S.StateFolder (of_any l.fn.start.cursor.further part) t l.fn.start l.fn.folder → SoLittle root part g.S.StateFolder (cycle_of l.fn.start) (g.C.Clock.events l.fn.clock) (g.C.Clock.events l.clock) before now l.folder l.checkpoint (met_at l.kept));
       faults : IsTrue g.S.StateFolder.told → g.S.StateFolder.faults l.fn.folder ≤ g.S.StateFolder.faults l.folder;
       at : IsTrue g.S.StateFolder.told → IsAt l.fn.start (seen l.fn.folder) → IsAt l.checkpoint (seen l.folder);
       counted : IsCounted l.fn.start l.checkpoint l.tally.runs;

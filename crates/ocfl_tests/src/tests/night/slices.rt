@@ -70,7 +70,7 @@ struct Later {
 }
 
 impl Clock for Later {
-    ghost told = { false };
+    ghost told = { λ _. false };
 
     ghost events = { λ _. [] };
 

@@ -1,18 +1,19 @@
 //! From what is asked of a night to what it does, over clocks and outputs in memory. The ends, and
 //! what a run may spend, are those of the manual page.
-ghost use Rattle.std.specs.Prelude.{[], false, None, ⊤};
+ghost use Rattle.std.specs.Prelude.{None, ⊤};
 
 use crate::tests::common::digests::lines_of;
 use crate::tests::common::output::Narrow;
 use crate::tests::common::roots::three_files;
 use crate::tests::common::store::place_of;
 use ocfl_arguments::{Chosen, NightAsked, NightBounds, Until};
-use ocfl_cursor::Budget;
+use ocfl_cursor::{Budget, State};
 use ocfl_digest::Block;
+use ocfl_mem_clock::{Answered, Course, MemStopCalls};
 use ocfl_night::{Site, night};
 use ocfl_plan::{
-    Budgeted, Hearing, Listener, Message, StopCalls, StopFile, Telling, closed_by, is_kept,
-    is_logged, night_status, plan_of, run_status,
+    Budgeted, Hearing, Listener, Message, StopFile, Telling, closed_by, is_kept, is_logged,
+    night_status, plan_of, run_status,
 };
 use ocfl_report::Further;
 use ocfl_state::MemState;
@@ -127,33 +128,16 @@ fn each_option_reaches_the_plan(rt: HostRuntime) -> Result<(), Fail> {
     Ok(())
 }
 
-/// A clock that goes on by a second each time it is read, and by a minute with each run that it
-/// hears of. It stops the night after so many questions.
-#[derive(Drop)]
-struct Ticking {
-    time: u64,
-    questions: u64,
-    stops_after: u64,
-}
-
-impl Clock for Ticking {
-    ghost told = { false };
-
-    ghost events = { λ _. [] };
-
-    fn now(&mut self) -> u64 {
-        self.time = self.time.saturating_add(1);
-        self.time
-    }
-
-    fn is_stopped(&mut self) -> bool {
-        self.questions = self.questions.saturating_add(1);
-        self.questions > self.stops_after
-    }
-
-    fn hears(&mut self, _made: &Made) {
-        self.time = self.time.saturating_add(60);
-    }
+/// The clock of a night that begins at second 11. It goes on by a second each time it is read, and
+/// by a minute with each run. It stops the night after so many questions.
+fn ticking(alloc: Global, stops_after: u64) -> StopFile<MemStopCalls> {
+    let course = Course {
+        time: Some(11),
+        per_reading: 1,
+        per_run: 60,
+        asked_after: stops_after,
+    };
+    StopFile::over(MemStopCalls::new(alloc, course))
 }
 
 /// The times that a clock showed last before each run, and what the runs were.
@@ -179,17 +163,12 @@ impl Listener for Heard {
     }
 }
 
-type Watch = Hearing<Budgeted<Ticking>, Heard>;
+type Watch = Hearing<Budgeted<StopFile<MemStopCalls>>, Heard>;
 
 /// The clock of a night that is asked for, which stops it after so many questions.
 fn watch(alloc: Global, asked: &NightAsked, stops_after: u64) -> Watch {
-    let clock = Ticking {
-        time: 10,
-        questions: 0,
-        stops_after,
-    };
     Hearing {
-        clock: Budgeted::of(asked, clock),
+        clock: Budgeted::of(asked, ticking(alloc, stops_after)),
         listener: Heard {
             time: 0,
             times: Vec::new(alloc),
@@ -201,10 +180,10 @@ fn watch(alloc: Global, asked: &NightAsked, stops_after: u64) -> Watch {
 }
 
 /// Makes a night over the root of three files, which cost 4, 1 and 4, one a run.
-fn night_by<O: Output>(
+fn night_by<C: Clock, O: Output>(
     alloc: Global,
     asked: &NightAsked,
-    clock: &mut Watch,
+    clock: &mut C,
     out: &mut O,
 ) -> Result<NightEnd, Fail> {
     let mut folder = MemState::new(alloc);
@@ -454,44 +433,64 @@ fn a_refused_night_leaves_anothers_log(rt: HostRuntime) -> Result<(), Fail> {
     Ok(())
 }
 
-/// Calls of a system whose clock shows this, or cannot be read, and what was heard of the night.
-#[derive(Drop)]
-struct Answering {
-    seconds: Option<u64>,
-    is_there: bool,
-    heard: u64,
-}
-
-impl StopCalls for Answering {
-    fn seconds(&mut self) -> Option<u64> {
-        self.seconds
-    }
-
-    fn has_stop(&mut self) -> bool {
-        self.is_there
-    }
-
-    fn hears(&mut self, _made: &Made) {
-        self.heard = self.heard.saturating_add(1);
-    }
-}
-
 // Fails if a file that is there stops no night, or a clock that cannot be read shows an early time.
 #[test]
 fn a_file_stops_a_night(rt: HostRuntime) -> Result<(), Fail> {
-    for (row, seconds, is_there, now) in [
-        ("a clock", Some(7), false, 7),
-        ("a clock that cannot be read", None, false, u64::MAX),
-        ("a file that is there", Some(9), true, 9),
+    for (row, time, asked_after, now) in [
+        ("a clock", Some(7), 1, 7),
+        ("a clock that cannot be read", None, 1, u64::MAX),
+        ("a file that is there", Some(9), 0, 9),
     ] {
-        let heard = 0;
-        let mut clock = StopFile::over(Answering {
-            seconds,
-            is_there,
-            heard,
-        });
+        let course = Course {
+            time,
+            per_reading: 0,
+            per_run: 0,
+            asked_after,
+        };
+        let mut clock = StopFile::over(MemStopCalls::new(rt.alloc(), course));
         assert_eq!(rt; clock.now(), now, "{row}");
-        assert_eq!(rt; clock.is_stopped(), is_there, "{row}");
+        assert_eq!(rt; clock.is_stopped(), asked_after == 0, "{row}");
     }
+    Ok(())
+}
+
+/// A line for each answer of calls in memory; of a run its cost, and the place that it ended after.
+fn answers_of(alloc: Global, calls: &MemStopCalls) -> Result<String, Fail> {
+    let mut text = String::new(alloc);
+    for answer in calls.answers() {
+        let line = match answer {
+            Answered::Seconds(Some(time)) => format!(in alloc; "shows {time}\n")?,
+            Answered::Seconds(None) => format!(in alloc; "shows nothing\n")?,
+            Answered::HasStop(is_there) => format!(in alloc; "stops {is_there}\n")?,
+            Answered::Ran(made) => {
+                let state = made.checkpoint.cursor.state();
+                let path = match state {
+                    State::After(place) => place.path(),
+                    State::Start => "the start",
+                    State::Ended => "the end",
+                };
+                format!(in alloc; "ran {} {path}\n", made.spent)?
+            }
+        };
+        text.push_str(line.as_str())?;
+    }
+    Ok(text)
+}
+
+// Fails if an answer or a run is not kept, or is kept as another one.
+#[test]
+fn calls_in_memory_tell_what_they_answered(rt: HostRuntime) -> Result<(), Fail> {
+    let alloc = rt.alloc();
+    let mut asked = asked(alloc)?;
+    asked.create = true;
+    let mut clock = ticking(alloc, 2);
+    let mut said = Vec::new(alloc);
+    let end = night_by(alloc, &asked, &mut clock, &mut Flushing::over(&mut said))?;
+    assert!(rt; matches!(end.end, Halt::Asked));
+    let calls = clock.into_calls();
+    assert!(rt; calls.is_told());
+    let wanted = "stops false\nshows 11\nran 4 o/v1/content/a\nstops false\nshows 72\n\
+                  ran 1 o/v1/content/b\nstops true\n";
+    assert_eq!(rt; answers_of(alloc, &calls)?.as_str(), wanted);
     Ok(())
 }

@@ -28,6 +28,9 @@ Tried, and what comes of it:
 - A part that is killed at each renaming of its night: it is given out again until its cycle is
   closed, and the cycle is joined; before, a part killed while it closed its cycle was never given
   out again.
+- A part that is killed in one night after another, also between what it says and the checkpoint
+  that counts it as said: each finding is told. Before, the trial took what the second one left for
+  what the first one had left, said once more, and missed a finding that was told.
 - `end` while a part makes the file of its note: the next message has what the part says, and what a
   part left that was killed there is removed. Before, what it said was in no message.
 - SIGTERM, SIGINT, SIGHUP: the part under way ends and is named; the next night goes on.
@@ -315,11 +318,12 @@ def untold_closing(folder):
     check("a part was killed there", False, True)
 
 
-def traced_part(nights, call, what):
-    """The words of part 2, of which strace does this at its first call of these names."""
+def traced_part(nights, call, what, when=1):
+    """The words of part 2, of which strace does this at its first call of these names, or a later
+    one. Each of its runs reads a file."""
     return ["strace", "--quiet=all", "-o", nights.state + ".calls", "-e", "trace=" + call, "-e",
-            "inject=%s:%s:when=1" % (call, what), NIGHTS + "/parallel/part", "--state",
-            nights.state, "--part", "2", nights.root]
+            "inject=%s:%s:when=%d" % (call, what, when), NIGHTS + "/parallel/part", "--state",
+            nights.state, "--part", "2", "--slice", "1", nights.root]
 
 
 def end_before(folder, call):
@@ -536,6 +540,29 @@ def cut_closing(folder):
             break
 
 
+def killed_again(folder):
+    """A part that is killed in one night after another says each finding. What it left unsaid, and
+    what it said that did not come to count as said, the next night says as of all runs until then:
+    that is no repetition of what was said of these runs before."""
+    nights = Together(folder + "/state", small_root(folder, ["o%02d" % it for it in range(12)], 12))
+    nights.make([number for number in nights.given("--slice", "1") if number != "2"])
+    said = others = nights.end()[1]
+    # A night renames its note, the checkpoint that it takes up, that which counts as said what was
+    # left, if something was, that of each run, and that which counts as said what these found. So
+    # they are killed in run 2, before run 1 counts as said, in run 4, and before runs 4 to 6 do.
+    for when in (4, 3, 6, 7):
+        nights.given("--slice", "1")
+        words = traced_part(nights, "rename,renameat,renameat2", "signal=KILL", when)
+        check("killed", ran(words)[0], -9)
+        said += nights.end()[1]
+    nights.make(nights.given("--slice", "1"), "--slice", "1")
+    said += nights.end()[1]
+    check("of which runs", re.findall("tonight in .*, (runs? .*):", said[len(others):]),
+          ["run 1", "run 1", "runs 1 to 3", "runs 4 to 6", "runs 1 to 6"])
+    check("each finding was told", miscounted(nights_in(said), findings(audit(nights.root))), [])
+    nights.is_audit("the cycle")
+
+
 def two_at_once(folder):
     """A second night in the folder does nothing."""
     nights = Together(folder + "/state", small_root(folder))
@@ -618,8 +645,9 @@ def dashes(folder):
 
 
 PARTS = [cycles, one_message, words_at_ends, expected, by_schedulers, unread, unjoined, missed_end,
-         untold_closing, end_of_beginning, held_join, other_roots, no_beginning, other_parts, closed_output, ends,
-         signals, cut_closing, two_at_once, room, seals, by_a_service, usage, dashes]
+         untold_closing, end_of_beginning, held_join, other_roots, no_beginning, other_parts,
+         closed_output, ends, signals, cut_closing, killed_again, two_at_once, room, seals,
+         by_a_service, usage, dashes]
 
 
 def check_all(folder):

@@ -104,10 +104,13 @@ class Said(NamedTuple):
     groups: Counter[Group]
     left: list[int]
 
-    def holds(self, other: "Said") -> bool:
-        """The same part said so of all runs of the other and no fewer."""
-        return (self.parts, self.cycle) == (other.parts, other.cycle) and (
-            self.first <= other.first and other.last <= self.last)
+    def repeats(self, other: "Said") -> bool:
+        """The same part said the same once more. Where a night was killed before its words counted
+        as said, the next one says them before its first run, so the last run is the same. That one
+        names all runs up to it, since no checkpoint says of which runs something was not said: so
+        runs of which all was said may be among those that it names."""
+        return (self.parts, self.cycle, self.last) == (other.parts, other.cycle, other.last) and (
+            self.first in (1, other.first))
 
 
 def nights_in(text: str) -> list[Said]:
@@ -134,7 +137,8 @@ def nights_in(text: str) -> list[Said]:
             of_object = escaped(head[1]) if head else ""
         elif night:
             night.groups.update(group_in(of_object, line))
-    return [it for at, it in enumerate(made) if not any(later.holds(it) for later in made[at + 1:])]
+    return [it for at, it in enumerate(made)
+            if not any(later.repeats(it) for later in made[at + 1:])]
 
 
 def group_in_brief(brief: "re.Match[str]") -> Counter[Group]:

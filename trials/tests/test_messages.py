@@ -77,13 +77,28 @@ class Counted(unittest.TestCase):
         self.assertNotEqual(self.told(text, 2), [])
 
     def test_what_was_said_once_more_counts_once(self):
+        """A night says what a killed one did not count as said, and it names all runs up to the
+        same one. What `end` says of a note twice names the same runs."""
+        later = SECOND.replace("runs 1 to 2", "runs 2 to 3")
         again = SECOND.replace("runs 1 to 2", "runs 1 to 3")
-        self.assertEqual(self.told(FIRST + SECOND + again), [])
-        cut = SECOND[:SECOND.index("\tv1/content/c")]
+        self.assertEqual(self.told(FIRST + later + again), [])
+        self.assertEqual(self.told(FIRST + later + FIRST + later), [])
+        cut = later[:later.index("\tv1/content/c")]
         self.assertEqual(self.told(FIRST + cut + again), [])
         # (other runs, and another part, have findings of their own)
-        for other in (again.replace("runs 1 to 3", "run 3"), again.replace("part 2", "part 3")):
-            self.assertNotEqual(self.told(FIRST + SECOND + other), [])
+        for other in (again.replace("1 to 3", "2 to 4"), again.replace("1 to 3", "1 to 4"),
+                      again.replace("part 2", "part 3")):
+            self.assertNotEqual(self.told(FIRST + later + other), [])
+
+    def test_what_two_killed_nights_left_counts_twice(self):
+        """The night after each of them names all runs up to the last one, also those of which all
+        was said before."""
+        lines = SECOND.splitlines(True)
+        first = "".join(lines[:8])
+        second = "".join([lines[0], lines[1].replace("runs 1 to 2", "runs 1 to 4"), *lines[8:]])
+        self.assertEqual(self.told(FIRST + first + second), [])
+        self.assertEqual(self.told(FIRST + first + first + second + second), [])
+        self.assertEqual(self.told(FIRST + second), ["E092 of q: 5 more"])
 
     def test_groups_in_one_line(self):
         """Of an object they count findings of any code, and else those of one."""

@@ -71,22 +71,29 @@ def processes(session):
     return found
 
 
-KINDS = {"part": lambda words: b"night" in words[:3] and b"--part" in words,
+# The night of a part has the folder of the part among its words. That which `begin` tries has not.
+FOLDER = re.compile(rb"/part-[0-9]+$")
+KINDS = {"part": lambda words: any(map(FOLDER.search, words)),
          "night": lambda words: any(b"parallel/nightly" in word for word in words)}
 
 
+def of_kind(night, kind):
+    """The numbers of the processes of a night that are of this kind."""
+    return [pid for pid, words in processes(night.pid).items() if KINDS[kind](words)]
+
+
 def strike(night, kind, number, chance):
-    """Sends a signal to a process of a night that is of this kind, once there is one."""
+    """Sends a signal to a process of a night that is of this kind, a moment after there is one."""
     until = time.monotonic() + 20
     while night.poll() is None and time.monotonic() < until:
-        found = [pid for pid, words in processes(night.pid).items() if KINDS[kind](words)]
+        time.sleep(chance.uniform(0, 0.1) if of_kind(night, kind) else 0.005)
+        found = of_kind(night, kind)
         if found:
             try:
                 os.kill(chance.choice(found), number)
                 return True
             except ProcessLookupError:
                 continue
-        time.sleep(0.005)
     return False
 
 
@@ -104,7 +111,8 @@ def cycles(folder):
             time.sleep(chance.uniform(0, 1))
             struck += strike(night, event[0], getattr(signal, "SIG" + event[1]), chance)
         said += night.communicate(timeout=240)[0].decode()
-        while any(KINDS["part"](words) for words in processes(night.pid).values()):
+        # (parts that had just been begun are no nights yet)
+        while any(b"--part" in words for words in processes(night.pid).values()):
             time.sleep(0.05)
     for _ in range(2):
         said += nights.night("--slice", "4K", jobs=4, parts=24)[1]

@@ -28,9 +28,10 @@ Tried, and what comes of it:
 - A part that is killed at each renaming of its night: it is given out again until its cycle is
   closed, and the cycle is joined; before, a part killed while it closed its cycle was never given
   out again.
-- A part that is killed in one night after another, also between what it says and the checkpoint
-  that counts it as said: each finding is told. Before, the trial took what the second one left for
-  what the first one had left, said once more, and missed a finding that was told.
+- Parts that are killed in one night after another, at a call of their own, also between what they
+  say and the checkpoint that counts it as said: each finding is told. Before, the trial took what
+  the second one left for what the first one had left, said once more, and missed a finding that was
+  told.
 - `end` while a part makes the file of its note: the next message has what the part says, and what a
   part left that was killed there is removed. Before, what it said was in no message.
 - SIGTERM, SIGINT, SIGHUP: the part under way ends and is named; the next night goes on.
@@ -98,11 +99,10 @@ def strike(night, kind, number, chance):
 
 
 def cycles(folder):
-    """Cycles under kills: each joined report is the audit, and each finding of it was told, or
-    counted with those of its object."""
+    """Cycles under signals to the processes of nights."""
     chance = random.Random(36)
     nights = Together(folder + "/state", make_root(folder))
-    whole, said, struck = audit(nights.root), "", 0
+    said, struck = "", 0
     events = [("part", "KILL"), ("night", "TERM"), ("night", "KILL"), ("part", "TERM"), None]
     for number in range(3 * len(events)):
         night = nights.start("--budget", "60K", "--slice", "4K")
@@ -114,9 +114,16 @@ def cycles(folder):
         # (parts that had just been begun are no nights yet)
         while any(b"--part" in words for words in processes(night.pid).values()):
             time.sleep(0.05)
+    check("signals came", struck > 5, True)
+    all_told(nights, said)
+
+
+def all_told(nights, said):
+    """Two nights later each joined report is the audit, and each finding of it was told, or counted
+    with those of its object."""
+    whole = audit(nights.root)
     for _ in range(2):
         said += nights.night("--slice", "4K", jobs=4, parts=24)[1]
-    check("signals came", struck > 5, True)
     joined = sorted(glob.glob(nights.path("reports/cycle-*")))
     check("cycles were joined", len(joined) > 1, True)
     check("each is the audit", [path for path in joined if read(path) != whole], [])
@@ -126,6 +133,32 @@ def cycles(folder):
               miscounted(of_cycle, findings(whole))[:3], [])
     check("and nothing else", sorted(lines_in_message(said) - findings(whole))[:3], [])
     check_statement("the first statement", nights, 1)
+
+
+# Kills the night of a part at the entry of a call, if the part's line of a file has its number.
+KILLED_AT = '''#!/bin/sh
+case $1:$6 in night:--part) when=$(sed -n "$7p" "$0.when") ;; *) when= ;; esac
+[ -n "$when" ] || exec "%s" "$@"
+calls=write,rename,renameat,renameat2
+exec strace --quiet=all -o /dev/null -e trace=$calls -e "inject=$calls:signal=KILL:when=$when" \\
+  "%s" "$@"
+'''
+
+
+def killed_at_calls(folder):
+    """Nights of which most parts are killed at some call that writes or renames a file, as often in
+    a cycle as it comes."""
+    chance = random.Random(36)
+    nights, said = Together(folder + "/state", make_root(folder)), ""
+    program = folder + "/program"
+    write(program, KILLED_AT % (PROGRAM, PROGRAM), 0o755)
+    for _ in range(10):
+        when = [chance.randrange(4, 40) if chance.random() < 0.75 else "" for _ in range(24)]
+        write(program + ".when", "".join("%s\n" % it for it in when))
+        night = nights.start("--slice", "2K", program=program)
+        said += night.communicate(timeout=240)[0].decode()
+    check("parts were killed", said.count("No night has ended since") > 4, True)
+    all_told(nights, said)
 
 
 def one_message(folder):
@@ -652,10 +685,10 @@ def dashes(folder):
     check("an end", ran([NIGHTS + "/parallel/end", "--state=-state"], cwd=folder)[0], 0)
 
 
-PARTS = [cycles, one_message, words_at_ends, expected, by_schedulers, unread, unjoined, missed_end,
-         untold_closing, end_of_beginning, held_join, other_roots, no_beginning, other_parts,
-         closed_output, ends, signals, cut_closing, killed_again, two_at_once, room, seals,
-         by_a_service, usage, dashes]
+PARTS = [cycles, killed_at_calls, one_message, words_at_ends, expected, by_schedulers, unread,
+         unjoined, missed_end, untold_closing, end_of_beginning, held_join, other_roots,
+         no_beginning, other_parts, closed_output, ends, signals, cut_closing, killed_again,
+         two_at_once, room, seals, by_a_service, usage, dashes]
 
 
 def check_all(folder):

@@ -48,19 +48,19 @@ module _ (k : Kept) (says : Says) where
       let y = r.0 in (y, (r.1.0, (grows_on s x.after y.before (grows_on s x.before x.after h.0.grew h.0.said.grew) r.1.1.0, (r.1.1.1.0, r.1.1.1.1))))
 
 module _ {F : Type 0} (seen : F → Kept) (may_leave : F → Outcomes) (moment : F → ℕ) (left_since : F → ℕ → Outcomes) (only_now : (f : F) (k : Kept) → left_since f (moment f) k → may_leave f k)
-    (says : Says) where
+    (says : F → Says) where
   -- an account that a crash of one call leaves was there before, or was said in it
-  one_call : (c : Call F) → Passes may_leave moment left_since (MayAccounts (seen c.began) says c.first c.end c.before c.after) c.began c.ended
+  one_call : (c : Call F) → Passes may_leave moment left_since (MayAccounts (seen c.began) (says c.began) c.first c.end c.before c.after) c.began c.ended
       → (k : Kept) → left_since c.ended (moment c.began) k → (a : Account) → HasAccount k a → WasKept (may_leave c.began) a ⊎ IsSaidIn seen says a c
   one_call c p k left a is = by (p.meanwhile (moment c.began) k (omega arith) left)
     where
-      from : (d : Kept) → may_leave c.began d → (closings : List SaidClosing) → AreClosingsSaid (seen c.began) says c.first c.end c.before c.after closings → HasAccount d a ⊎ IsAmong (map account_of_closing closings) a → WasKept (may_leave c.began) a ⊎ IsSaidIn seen says a c
+      from : (d : Kept) → may_leave c.began d → (closings : List SaidClosing) → AreClosingsSaid (seen c.began) (says c.began) c.first c.end c.before c.after closings → HasAccount d a ⊎ IsAmong (map account_of_closing closings) a → WasKept (may_leave c.began) a ⊎ IsSaidIn seen says a c
       from d m closings are (inl old) = inl (d, (m, old))
       from d m closings are (inr new) =
-          let r = closing_among (seen c.began) says c.first c.end c.before c.after closings a are new in
+          let r = closing_among (seen c.began) (says c.began) c.first c.end c.before c.after closings a are new in
           inr (record { closing = r.0; is = r.1.0; grew = r.1.1.0; said = r.1.1.1.0; then = r.1.1.1.1 })
 
-      by : left_since c.began (moment c.began) k ⊎ After (MayAccounts (seen c.began) says c.first c.end c.before c.after) (may_leave c.began) k → WasKept (may_leave c.began) a ⊎ IsSaidIn seen says a c
+      by : left_since c.began (moment c.began) k ⊎ After (MayAccounts (seen c.began) (says c.began) c.first c.end c.before c.after) (may_leave c.began) k → WasKept (may_leave c.began) a ⊎ IsSaidIn seen says a c
       by (inl old) = inl (k, (only_now c.began k old, is))
       by (inr h) = from h.0 h.1 h.2.0 h.2.1.0 (had_or_put (map account_of_closing h.2.0) h.0.lists a (subst (λ d. HasAccount d a) h.2.1.1 is))
 

@@ -19,11 +19,11 @@ pub record Call (F : Type 0) : Type 0 where
 
 -- The first begins on one of these outcomes, and each other one on what a crash of the one before it,
 -- at any moment, may have left, or on its end.
-abbrev pub AreCalls : {F : Type 0} → (F → Kept) → (F → Outcomes) → (F → ℕ) → (F → ℕ → Outcomes) → Says → Outcomes → List (Call F) → Type 0
+abbrev pub AreCalls : {F : Type 0} → (F → Kept) → (F → Outcomes) → (F → ℕ) → (F → ℕ → Outcomes) → (F → Says) → Outcomes → List (Call F) → Type 0
 AreCalls seen may_leave moment left_since says outcomes [] = ⊤
 AreCalls seen may_leave moment left_since says outcomes (c ∷ calls) =
     Follows Same outcomes (may_leave c.began)
-    × Passes may_leave moment left_since (MayAccounts (seen c.began) says c.first c.end c.before c.after) c.began c.ended
+    × Passes may_leave moment left_since (MayAccounts (seen c.began) (says c.began) c.first c.end c.before c.after) c.began c.ended
     × AreCalls seen may_leave moment left_since says (left_since c.ended (moment c.began)) calls
 
 -- what a crash at any moment of the last call may have left
@@ -33,14 +33,14 @@ left_by moment left_since outcomes (c ∷ calls) = left_by moment left_since (le
 
 -- in one of these calls a text was said, that of the comparison with the right reports, and then the
 -- account was put
-pub record IsSaidIn {F : Type 0} (seen : F → Kept) (says : Says) (a : Account) (c : Call F) : Type 0 where
+pub record IsSaidIn {F : Type 0} (seen : F → Kept) (says : F → Says) (a : Account) (c : Call F) : Type 0 where
   pub closing : SaidClosing
   pub is : a ≡ account_of_closing closing
   pub grew : Grows c.before closing.before
-  pub said : IsAccountSaid (seen c.began) closing.cycle says closing.before closing.after closing.pair closing.changes
+  pub said : IsAccountSaid (seen c.began) closing.cycle (says c.began) closing.before closing.after closing.pair closing.changes
   pub then : Grows closing.after c.after
 
-abbrev pub WasSaid : {F : Type 0} → (F → Kept) → Says → Account → List (Call F) → Type 0
+abbrev pub WasSaid : {F : Type 0} → (F → Kept) → (F → Says) → Account → List (Call F) → Type 0
 WasSaid seen says a [] = ⊥
 WasSaid seen says a (c ∷ calls) = IsSaidIn seen says a c ⊎ WasSaid seen says a calls
 

@@ -32,7 +32,7 @@ pub struct Found {
 /// A crash may come at any moment, in a call or between two. An account is put as a whole.
 pub trait Closings {
     /// Whether the folder is as the clauses say. Of one that is not told, they say nothing. One that
-    /// states none of these is not told.
+    /// does not state this is not told.
     ghost told: { Bool } = { false };
 
     /// What calls show.
@@ -53,13 +53,21 @@ pub trait Closings {
     /// How often a call has failed, for another reason than memory.
     ghost faults: { Self → ℕ } = { λ _. 0 };
 
-    /// What may be said of the changes of a cycle, and whether something is new or gone by that.
-    ghost says: { Says } = { λ _ _ _ _ _. ⊤ };
+    /// What texts are made with, beside what is kept.
+    ghost With: { Type 0 } = { ⊤ };
+
+    /// With what those of this folder are made. No call changes it.
+    ghost with: { Self → Self.With };
+
+    /// What may be said, made with that, of the changes of a cycle, and whether something is new or
+    /// gone by it.
+    ghost says: { Self.With → Says };
 
     /// Whether the account of a cycle is there.
     fn has_account(&mut self, cycle: u64) -> Result<bool, ClosingStop>
         ensures value { IsTrue told → IfOk result (λ is. is ≡ has_account (seen self.old) cycle) }
         ensures seen { IsTrue told → seen self.new ≡ seen self.old }
+        ensures with { IsTrue told → with self.new ≡ with self.old }
         ensures crash { IsTrue told → Passes may_leave moment left_since Same self.old self.new }
         ensures cause { IsTrue told → HasCause (faults self.old) (faults self.new) result };
 
@@ -68,15 +76,17 @@ pub trait Closings {
         ensures value { IsTrue told → IfOk result (λ look.
             IsSight cycle ((seen self.old).sights cycle) look) }
         ensures seen { IsTrue told → seen self.new ≡ seen self.old }
+        ensures with { IsTrue told → with self.new ≡ with self.old }
         ensures crash { IsTrue told → Passes may_leave moment left_since Same self.old self.new }
         ensures cause { IsTrue told → HasCause (faults self.old) (faults self.new) result };
 
     /// Finds the changes of a closed cycle. Their list is the account that the next `put` puts. Of a
     /// cycle whose report lost lines it finds none.
     fn find(&mut self, pair: &Pair) -> Result<Found, ClosingStop>
-        ensures finds { IsTrue told → IfOk result (λ it. Finds (seen self.old) pair.now says
-            it.text.items it.is_grave (found self.new)) }
+        ensures finds { IsTrue told → IfOk result (λ it. Finds (seen self.old) pair.now
+            (says (with self.old)) it.text.items it.is_grave (found self.new)) }
         ensures seen { IsTrue told → seen self.new ≡ seen self.old }
+        ensures with { IsTrue told → with self.new ≡ with self.old }
         ensures crash { IsTrue told → Passes may_leave moment left_since Same self.old self.new }
         ensures cause { IsTrue told → HasCause (faults self.old) (faults self.new) result };
 
@@ -87,6 +97,7 @@ pub trait Closings {
             ≡ with_account (account_with pair.now.closed.cycle (found self.old)) (seen self.old)) }
         ensures may { IsTrue told → MayPut
             (account_with pair.now.closed.cycle (found self.old)) (seen self.old) (seen self.new) }
+        ensures with { IsTrue told → with self.new ≡ with self.old }
         ensures crash { IsTrue told → Passes may_leave moment left_since
             (MayPut (account_with pair.now.closed.cycle (found self.old))) self.old self.new }
         ensures durable { IsTrue told → OnOk result (Follows
@@ -97,12 +108,14 @@ pub trait Closings {
     /// Ends what was found and is not put, since the cycle can be compared once a report is back.
     fn drop_found(&mut self, pair: &Pair) -> Result<(), ClosingStop>
         ensures seen { IsTrue told → seen self.new ≡ seen self.old }
+        ensures with { IsTrue told → with self.new ≡ with self.old }
         ensures crash { IsTrue told → Passes may_leave moment left_since Same self.old self.new }
         ensures cause { IsTrue told → HasCause (faults self.old) (faults self.new) result };
 
     /// Notes why a closing was not said.
     fn fail(&mut self, stop: ClosingStop)
         ensures seen { IsTrue told → seen self.new ≡ seen self.old }
+        ensures with { IsTrue told → with self.new ≡ with self.old }
         ensures crash { IsTrue told → Passes may_leave moment left_since Same self.old self.new }
         ensures faults { IsTrue told → faults self.new ≡ faults self.old };
 

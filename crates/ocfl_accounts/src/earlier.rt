@@ -29,6 +29,7 @@ pub fn find_earlier<C: Closings>(
     ensures value { IsTrue C.told → IfOk result (λ it.
         IsEarlier (C.seen closings.old).sights is_whole cycle it.found it.missing) }
     ensures seen { IsTrue C.told → C.seen closings.new ≡ C.seen closings.old }
+    ensures with { IsTrue C.told → C.with closings.new ≡ C.with closings.old }
     ensures crash { IsTrue C.told
         → Passes C.may_leave C.moment C.left_since Same closings.old closings.new }
     ensures cause { IsTrue C.told

@@ -13,6 +13,7 @@
 //!   of the comparison, is put only after its text was committed. A crash leaves the accounts as they
 //!   were, or with that one, once its text was said (`say_cycle`); over several cycles with those of
 //!   some of them, in order (`say_cycles`).
+//! - What texts are made with stays: each text of a call is made with what that began with.
 //! - Whatever calls there were, each ended or crashed at any moment: each account that is there was
 //!   there at first, or had its text said in one of them; a call whose status is not 3 has said each of
 //!   its cycles that has a report and had no account; and what it has not said the next search finds

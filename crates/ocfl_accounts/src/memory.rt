@@ -212,7 +212,9 @@ impl Closings for MemClosings {
 
     ghost faults = { λ folder. folder.faults };
 
-    ghost says = { says_of };
+    ghost with = { λ _. tt };
+
+    ghost says = { λ _. says_of };
 
     ghost stays = { λ told folder. refl };
 

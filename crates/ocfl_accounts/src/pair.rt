@@ -76,6 +76,7 @@ pub fn find_pair<C: Closings>(
     ensures value { IsTrue C.told → IfOk result (IsPair (C.seen closings.old).sights) }
     ensures closed { IfOk result (λ pair. pair.closed ≡ now) }
     ensures seen { IsTrue C.told → C.seen closings.new ≡ C.seen closings.old }
+    ensures with { IsTrue C.told → C.with closings.new ≡ C.with closings.old }
     ensures crash { IsTrue C.told
         → Passes C.may_leave C.moment C.left_since Same closings.old closings.new }
     ensures cause { IsTrue C.told
@@ -103,6 +104,7 @@ fn find_before<C: Closings>(closings: &mut C, now: &ClosedCycle) -> Result<Earli
     ensures value { IsTrue C.told → IfOk result (λ it.
         IsBefore (C.seen closings.old).sights now.now it.found it.missing) }
     ensures seen { IsTrue C.told → C.seen closings.new ≡ C.seen closings.old }
+    ensures with { IsTrue C.told → C.with closings.new ≡ C.with closings.old }
     ensures crash { IsTrue C.told
         → Passes C.may_leave C.moment C.left_since Same closings.old closings.new }
     ensures cause { IsTrue C.told
@@ -161,6 +163,7 @@ fn find_whole<C: Closings>(
     ensures value { IsTrue C.told → IfOk result (λ it.
         IsWholeBefore (C.seen closings.old).sights before.now again.now it.found it.missing) }
     ensures seen { IsTrue C.told → C.seen closings.new ≡ C.seen closings.old }
+    ensures with { IsTrue C.told → C.with closings.new ≡ C.with closings.old }
     ensures crash { IsTrue C.told
         → Passes C.may_leave C.moment C.left_since Same closings.old closings.new }
     ensures cause { IsTrue C.told

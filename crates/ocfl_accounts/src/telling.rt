@@ -28,13 +28,15 @@ pub fn say_cycle<C: Closings, S: Say>(
     ensures said { IsTrue C.told → IfOk result (λ status.
         IsLeftAlone (C.seen closings.old) cycle (C.seen closings.new)
         (S.said out.old) (S.said out.new) status
-        ⊎ IsSaidRightly (C.seen closings.old) cycle C.says (C.seen closings.new)
-        (S.said out.old) (S.said out.new) status) }
-    ensures may { IsTrue C.told → MayAccount (C.seen closings.old) cycle C.says
-        (S.said out.old) (S.said out.new) (C.seen closings.old) (C.seen closings.new) }
+        ⊎ IsSaidRightly (C.seen closings.old) cycle (C.says (C.with closings.old))
+        (C.seen closings.new) (S.said out.old) (S.said out.new) status) }
+    ensures may { IsTrue C.told → MayAccount (C.seen closings.old) cycle
+        (C.says (C.with closings.old)) (S.said out.old) (S.said out.new)
+        (C.seen closings.old) (C.seen closings.new) }
+    ensures with { IsTrue C.told → C.with closings.new ≡ C.with closings.old }
     ensures crash { IsTrue C.told → Passes C.may_leave C.moment C.left_since
-        (MayAccount (C.seen closings.old) cycle C.says (S.said out.old) (S.said out.new))
-        closings.old closings.new }
+        (MayAccount (C.seen closings.old) cycle (C.says (C.with closings.old))
+        (S.said out.old) (S.said out.new)) closings.old closings.new }
     ensures grew { Grows (S.said out.old) (S.said out.new) }
     ensures cause { IsTrue C.told → HasReason (C.faults closings.old) (C.faults closings.new)
         (S.said out.old) (S.said out.new) result }
@@ -57,17 +59,18 @@ fn say_closed<C: Closings, S: Say>(
 ) -> Result<u8, ClosingStop>
     ensures said { IsTrue C.told → (C.seen closings.old).sights now.cycle ≡ there now
         → has_account (C.seen closings.old) now.cycle ≡ false → IfOk result (λ status.
-        IsSaidRightly (C.seen closings.old) now.cycle C.says (C.seen closings.new)
-        (S.said out.old) (S.said out.new) status) }
+        IsSaidRightly (C.seen closings.old) now.cycle (C.says (C.with closings.old))
+        (C.seen closings.new) (S.said out.old) (S.said out.new) status) }
     ensures may { IsTrue C.told → (C.seen closings.old).sights now.cycle ≡ there now
         → has_account (C.seen closings.old) now.cycle ≡ false
-        → MayAccount (C.seen closings.old) now.cycle C.says (S.said out.old) (S.said out.new)
-        (C.seen closings.old) (C.seen closings.new) }
+        → MayAccount (C.seen closings.old) now.cycle (C.says (C.with closings.old))
+        (S.said out.old) (S.said out.new) (C.seen closings.old) (C.seen closings.new) }
+    ensures with { IsTrue C.told → C.with closings.new ≡ C.with closings.old }
     ensures crash { IsTrue C.told → (C.seen closings.old).sights now.cycle ≡ there now
         → has_account (C.seen closings.old) now.cycle ≡ false
         → Passes C.may_leave C.moment C.left_since
-        (MayAccount (C.seen closings.old) now.cycle C.says (S.said out.old) (S.said out.new))
-        closings.old closings.new }
+        (MayAccount (C.seen closings.old) now.cycle (C.says (C.with closings.old))
+        (S.said out.old) (S.said out.new)) closings.old closings.new }
     ensures grew { Grows (S.said out.old) (S.said out.new) }
     ensures cause { IsTrue C.told → HasReason (C.faults closings.old) (C.faults closings.new)
         (S.said out.old) (S.said out.new) result }
@@ -86,6 +89,7 @@ fn keep_found<C: Closings>(closings: &mut C, pair: &Pair) -> Result<(), ClosingS
         (C.seen closings.old)) }
     ensures may { IsTrue C.told → MayPut (account_with pair.now.closed.cycle (C.found closings.old))
         (C.seen closings.old) (C.seen closings.new) }
+    ensures with { IsTrue C.told → C.with closings.new ≡ C.with closings.old }
     ensures crash { IsTrue C.told → Passes C.may_leave C.moment C.left_since
         (MayPut (account_with pair.now.closed.cycle (C.found closings.old)))
         closings.old closings.new }
@@ -110,11 +114,12 @@ pub fn say_cycles<C: Closings, S: Say>(
 ) -> u8
     ensures said { IsTrue C.told → AreSaid
         (stand_of (C.seen closings.old) (C.faults closings.old) (S.said out.old))
-        first end C.says
+        first end (C.says (C.with closings.old))
         (stand_of (C.seen closings.new) (C.faults closings.new) (S.said out.new)) result }
+    ensures with { IsTrue C.told → C.with closings.new ≡ C.with closings.old }
     ensures crash { IsTrue C.told → Passes C.may_leave C.moment C.left_since
-        (MayAccounts (C.seen closings.old) C.says first end (S.said out.old) (S.said out.new))
-        closings.old closings.new }
+        (MayAccounts (C.seen closings.old) (C.says (C.with closings.old)) first end
+        (S.said out.old) (S.said out.new)) closings.old closings.new }
     ensures grew { Grows (S.said out.old) (S.said out.new) }
 {
     let mut status = 0;
@@ -128,13 +133,15 @@ pub fn say_cycles<C: Closings, S: Say>(
 fn say_or_fail<C: Closings, S: Say>(alloc: Global, closings: &mut C, cycle: u64, out: &mut S) -> u8
     ensures said { IsTrue C.told → (stop : Option ModelStop) × IsOutcome
         (stand_of (C.seen closings.old) (C.faults closings.old) (S.said out.old))
-        cycle C.says (outcome_of
+        cycle (C.says (C.with closings.old)) (outcome_of
         (stand_of (C.seen closings.new) (C.faults closings.new) (S.said out.new)) result stop) }
-    ensures may { IsTrue C.told → MayAccount (C.seen closings.old) cycle C.says
-        (S.said out.old) (S.said out.new) (C.seen closings.old) (C.seen closings.new) }
+    ensures may { IsTrue C.told → MayAccount (C.seen closings.old) cycle
+        (C.says (C.with closings.old)) (S.said out.old) (S.said out.new)
+        (C.seen closings.old) (C.seen closings.new) }
+    ensures with { IsTrue C.told → C.with closings.new ≡ C.with closings.old }
     ensures crash { IsTrue C.told → Passes C.may_leave C.moment C.left_since
-        (MayAccount (C.seen closings.old) cycle C.says (S.said out.old) (S.said out.new))
-        closings.old closings.new }
+        (MayAccount (C.seen closings.old) cycle (C.says (C.with closings.old))
+        (S.said out.old) (S.said out.new)) closings.old closings.new }
     ensures grew { Grows (S.said out.old) (S.said out.new) }
 {
     match say_cycle(alloc, closings, cycle, out) {

@@ -21,6 +21,7 @@ pub fn find_unsaid<C: Closings>(closings: &mut C, first: &mut u64) -> Result<(),
     ensures found { IsTrue C.told
         → OnOk result (IsFound (C.seen closings.old) first.new first.old) }
     ensures seen { IsTrue C.told → C.seen closings.new ≡ C.seen closings.old }
+    ensures with { IsTrue C.told → C.with closings.new ≡ C.with closings.old }
     ensures crash { IsTrue C.told
         → Passes C.may_leave C.moment C.left_since Same closings.old closings.new }
     ensures cause { IsTrue C.told
@@ -51,6 +52,7 @@ fn is_unsaid<C: Closings>(closings: &mut C, cycle: u64) -> Result<bool, ClosingS
     ensures value { IsTrue C.told
         → IfOk result (λ is. is ≡ is_unsaid_by (C.seen closings.old) cycle) }
     ensures seen { IsTrue C.told → C.seen closings.new ≡ C.seen closings.old }
+    ensures with { IsTrue C.told → C.with closings.new ≡ C.with closings.old }
     ensures crash { IsTrue C.told
         → Passes C.may_leave C.moment C.left_since Same closings.old closings.new }
     ensures cause { IsTrue C.told

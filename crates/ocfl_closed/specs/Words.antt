@@ -12,7 +12,7 @@ use Rattle.ocfl_messages.specs.declared.{closing.Closing.{Closing}, known.KnownE
 use Rattle.ocfl_words.specs.{Counted.{AreCounted, Counted, counted, gone_in, is_news, joined, shown_of}, Noted.{AreNoted, Noted, changes_of, noted}}
 use Rattle.ocfl_words.specs.{News.{AreNews, again_in, findings_in, new_lines, news}, declared.findings.Findings.{Findings}}
 use Rattle.ocfl_state.specs.Checkpoint.{Checkpoint}
-use Rattle.ocfl_closed.specs.Files.{Files, kept_of}
+use Rattle.ocfl_closed.specs.{Back.{AreBack}, Files.{Files, kept_of}}
 use Rattle.ocfl_closed.specs.declared.{account.{Account.{Account}, CycleMade.{CycleMade}}, words.SaidWith.{SaidWith}}
 
 -- ---- which changes
@@ -159,9 +159,26 @@ why_text state pair = if pair.closed.lost then codes "lines of this report were 
 
 -- ---- what is said
 
--- the storage root and the state folder, as they are called; whether only a part is read; which
--- findings are known, and which were said before; how many runs the cycle had; and which objects are
--- back in it, which accounts say
+-- what the words of all cycles are made with: the storage root and the state folder, as they are
+-- called; whether only a part is read; which findings are known, and which were said before
+pub record Means : Type 0 where
+  pub root : Text
+  pub state : Text
+  pub is_part : Bool
+  pub known : List KnownEntry
+  pub said : List Line
+
+abbrev pub means_of : SaidWith → Means
+means_of with = record {
+  root = with.root.now;
+  state = with.state.now;
+  is_part = with.is_part;
+  known = with.known.now;
+  said = map line_of with.said.now;
+}
+
+-- and those of one cycle: how many runs it had besides, and which objects are back in it, which
+-- accounts say
 pub record Beside : Type 0 where
   pub root : Text
   pub state : Text
@@ -171,17 +188,19 @@ pub record Beside : Type 0 where
   pub runs : ℕ
   pub back : List Place
 
--- by what the words are made with
-abbrev pub beside_of : SaidWith → ℕ → List Place → Beside
-beside_of with runs back = record {
-  root = with.root.now;
-  state = with.state.now;
-  is_part = with.is_part;
-  known = with.known.now;
-  said = map line_of with.said.now;
+abbrev pub beside_by : Means → ℕ → List Place → Beside
+beside_by m runs back = record {
+  root = m.root;
+  state = m.state;
+  is_part = m.is_part;
+  known = m.known;
+  said = m.said;
   runs = runs;
   back = back;
 }
+
+abbrev pub beside_of : SaidWith → ℕ → List Place → Beside
+beside_of with runs back = beside_by (means_of with) runs back
 
 -- how many runs a cycle had, by the checkpoint that closed it
 abbrev pub runs_by : Option Checkpoint → ℕ
@@ -272,6 +291,13 @@ pub record IsSaidOf (b : Beside) (k : Kept) (pair : Pair) (changes : List Change
 abbrev pub said_beside : Beside → Says
 said_beside b k pair changes text is_grave = IsSaidOf b k pair changes text is_grave
 
--- whatever is beside it
-abbrev pub said_of : Says
-said_of k pair changes text is_grave = (b : Beside) × IsSaidOf b k pair changes text is_grave
+-- It is made with these means, and has the runs of the cycle by the checkpoint that closed it. What is
+-- back is so by some lists of what is gone: which accounts were there then is not part of what is kept.
+pub record IsSaidBy (m : Means) (checkpoint : ℕ → Option Checkpoint) (k : Kept) (pair : Pair) (changes : List ChangeAt) (text : Text) (is_grave : Bool) : Type 0 where
+  pub lists : ℕ → Option Text
+  pub back : List Place
+  pub are_back : AreBack (record k { lists = lists }) pair back
+  pub said : IsSaidOf (beside_by m (runs_by (checkpoint pair.closed.cycle)) back) k pair changes text is_grave
+
+abbrev pub said_by : Means → (ℕ → Option Checkpoint) → Says
+said_by m checkpoint k pair changes text is_grave = IsSaidBy m checkpoint k pair changes text is_grave

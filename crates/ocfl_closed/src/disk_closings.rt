@@ -1,7 +1,8 @@
 //! Closed reports on a disk, and their accounts.
-ghost use Rattle.std.specs.Prelude.{◌≡◌, ◌⊎◌, IsTrue, OnOk};
+ghost use Rattle.std.specs.Prelude.{◌≡◌, ◌⊎◌, ℕ, IsTrue, OnOk, Option};
 ghost use Rattle.ocfl_accounts.specs.{Causes.{HasCause}, Kept.{account_with}, Crash.{Follows, IsPut, MayPut}};
-ghost use Rattle.ocfl_closed.specs.{Cut.{Calm, Passes, with_listed}, Files.{kept_of}, Words.{said_of}};
+ghost use Rattle.ocfl_closed.specs.{Cut.{Calm, Passes, with_listed}, Files.{kept_of}, Words.{Means, means_of, said_by}};
+ghost use Rattle.ocfl_state.specs.Checkpoint.{Checkpoint};
 
 use crate::account::Account;
 use crate::disk::ClosedDisk;
@@ -17,7 +18,7 @@ pub struct DiskClosings<'n, D> {
     alloc: Global,
     pub disk: D,
     /// What is said of them is made with this.
-    with: SaidWith<'n>,
+    pub with: SaidWith<'n>,
     /// The cycle that the night closed; 0 if it closed none.
     closed: u64,
     /// What was found last, and is not logged yet.
@@ -39,7 +40,8 @@ impl<D: Drop> Drop for DiskClosings<'_, D> {
 impl<'n, D: ClosedDisk> DiskClosings<'n, D> {
     /// Those that a disk shows, of which the night closed this cycle; 0 if it closed none.
     pub fn over(alloc: Global, disk: D, with: SaidWith<'n>, closed: u64) -> DiskClosings<'n, D>
-        ensures { result.disk ≡ disk }
+        ensures disk { result.disk ≡ disk }
+        ensures with { result.with ≡ with }
     {
         DiskClosings {
             alloc,
@@ -67,6 +69,7 @@ impl<'n, D: ClosedDisk> DiskClosings<'n, D> {
     /// Logs what was found last.
     fn log(&mut self, pair: &Pair) -> Result<(), ClosingStop>
         ensures calm { IsTrue D.told → Calm (D.state self.old.disk) (D.state self.new.disk) }
+        ensures with { self.new.with ≡ self.old.with }
         ensures cause { IsTrue D.told
             → HasCause (D.faults self.old.disk) (D.faults self.new.disk) result }
     {
@@ -112,7 +115,12 @@ impl<D: ClosedDisk> Closings for DiskClosings<'_, D> {
 
     ghost faults = { λ closings. D.faults closings.disk };
 
-    ghost says = { said_of };
+    ghost With = { Means × (ℕ → Option Checkpoint) };
+
+    ghost with = { λ closings.
+        (means_of closings.with, (D.state closings.disk).files.checkpoint) };
+
+    ghost says = { λ it. said_by it.0 it.1 };
 
     ghost stays = { λ told closings. (D.is_disk told closings.disk).stays };
 

@@ -3,8 +3,9 @@
 //! The list of what is gone is put in its place once all was said. While it is not there, the next
 //! night compares again.
 
-ghost use Rattle.std.specs.Prelude.{◌≡◌, IsTrue, is_some};
+ghost use Rattle.std.specs.Prelude.{◌≡◌, IsTrue, is_some, map};
 ghost use Rattle.ocfl_closing.specs.Closing.{HasSaid};
+ghost use Rattle.ocfl_report.specs.Line.{line_of};
 
 use crate::calls::ClosingCalls;
 use crate::folder_calls::FolderCalls;
@@ -35,25 +36,6 @@ pub struct SaidBy<'n> {
     pub closed: u64,
 }
 
-impl<'n> SaidBy<'n> {
-    /// What is said is made with this.
-    fn with(&self) -> SaidWith<'n>
-        ensures root { result.root.now ≡ self.now.about.names.root.now }
-        ensures state { result.state.now ≡ self.now.about.names.state.now }
-        ensures part { result.is_part ≡ is_some self.now.about.names.part }
-        ensures known { result.known.now ≡ self.now.about.known.now }
-        ensures said { result.said.now ≡ self.now.said.now }
-    {
-        SaidWith {
-            root: self.about.names.root,
-            state: self.about.names.state,
-            is_part: self.about.names.part.is_some(),
-            known: self.about.known,
-            said: self.said,
-        }
-    }
-}
-
 /// What came of saying closings. The calls are given back.
 #[derive(Drop)]
 pub struct ClosingsEnd<C: Drop> {
@@ -63,18 +45,32 @@ pub struct ClosingsEnd<C: Drop> {
 }
 
 /// Says what the cycles found whose closings were not said, from the first on of the 1,000 before
-/// the last one before the night, to the one that the night closed. Says why a closing was not said.
+/// the last one before the night, to the one that the night closed. Each text is made with the names,
+/// the known findings and the lines of the night. Says why a closing was not said.
 pub fn say_closings<C: ClosingCalls + Drop, S: Say>(
     calls: C,
     said_by: &SaidBy<'_>,
     out: &mut S,
 ) -> ClosingsEnd<C>
-    ensures { IsTrue C.told → HasSaid said_by.now.before said_by.now.closed
-        (C.state calls) (C.state result.calls) (S.said out.old) (S.said out.new) result.status }
+    ensures { IsTrue C.told → HasSaid (record {
+      root = said_by.now.about.names.root.now;
+      state = said_by.now.about.names.state.now;
+      is_part = is_some said_by.now.about.names.part;
+      known = said_by.now.about.known.now;
+      said = map line_of said_by.now.said.now;
+    }) said_by.now.before said_by.now.closed (C.state calls) (C.state result.calls)
+        (S.said out.old) (S.said out.new) result.status }
 {
     let alloc = calls.global();
     let disk = FolderClosings::over(calls, said_by.about.began);
-    let mut closings = DiskClosings::over(alloc, disk, said_by.with(), said_by.closed);
+    let with = SaidWith {
+        root: said_by.about.names.root,
+        state: said_by.about.names.state,
+        is_part: said_by.about.names.part.is_some(),
+        known: said_by.about.known,
+        said: said_by.said,
+    };
+    let mut closings = DiskClosings::over(alloc, disk, with, said_by.closed);
     let mut first = said_by.before;
     // A cycle that could not be looked at is the first: then it is said, or why it is not.
     let _ = find_unsaid(&mut closings, &mut first);

@@ -13,7 +13,7 @@ returns-clause-said g c = λ t h u.
     let old = g.S.Say.said c.args.out.now in
     let new = g.S.Say.said c.speak.new.out in
     let closed = c.in_ok-pair.ensures.closed in
-    let said = account_said k (F.seen c.find_pair.new.closings) c.args.now F.says old new pair changes c.as_slice.result.now _ _ h u (c.find_pair.ensures.seen t) closed (c.in_ok-pair.ensures.value t)
+    let said = account_said k (F.seen c.find_pair.new.closings) c.args.now F.says (F.with c.args.closings.now) (F.with c.find_pair.new.closings) old new pair changes c.as_slice.result.now _ _ h u (c.find_pair.ensures.seen t) (c.find_pair.ensures.with t) closed (c.in_ok-pair.ensures.value t)
     found.are found.said c.as_slice.ensures.value c.in_ok-speak.ensures.said c.speak.ensures.grew in
     record {
       pair = pair;
@@ -33,9 +33,9 @@ returns-clause-crash g c = λ t h u.
     let old = g.S.Say.said c.args.out.now in
     let new = g.S.Say.said c.speak.new.out in
     let closed = c.in_ok-pair.ensures.closed in
-    let said = account_said k (F.seen c.find_pair.new.closings) c.args.now F.says old new pair changes c.as_slice.result.now _ _ h u (c.find_pair.ensures.seen t) closed (c.in_ok-pair.ensures.value t)
+    let said = account_said k (F.seen c.find_pair.new.closings) c.args.now F.says (F.with c.args.closings.now) (F.with c.find_pair.new.closings) old new pair changes c.as_slice.result.now _ _ h u (c.find_pair.ensures.seen t) (c.find_pair.ensures.with t) closed (c.in_ok-pair.ensures.value t)
     found.are found.said c.as_slice.ensures.value c.in_ok-speak.ensures.said c.speak.ensures.grew in
-    account_passes F.may_leave F.moment F.left_since k c.args.now.cycle F.says old new pair changes said.0 (ap (λ x. x.cycle) closed)
+    account_passes F.may_leave F.moment F.left_since k c.args.now.cycle (F.says (F.with c.args.closings.now)) old new pair changes said.0 (ap (λ x. x.cycle) closed)
     c.args.closings.now c.find_pair.new.closings c.find.new.self c.keep_found.new.closings (c.find_pair.ensures.crash t) (c.find.ensures.crash t)
     (subst (λ l. Passes F.may_leave F.moment F.left_since (MayPut (account_with pair.closed.cycle l)) c.find.new.self c.keep_found.new.closings) found.listed (c.keep_found.ensures.crash t))
 
@@ -49,9 +49,9 @@ returns-in_err-keep_found-clause-crash g c = λ t h u.
     let old = g.S.Say.said c.args.out.now in
     let new = g.S.Say.said c.speak.new.out in
     let closed = c.in_ok-pair.ensures.closed in
-    let said = account_said k (F.seen c.find_pair.new.closings) c.args.now F.says old new pair changes c.as_slice.result.now _ _ h u (c.find_pair.ensures.seen t) closed (c.in_ok-pair.ensures.value t)
+    let said = account_said k (F.seen c.find_pair.new.closings) c.args.now F.says (F.with c.args.closings.now) (F.with c.find_pair.new.closings) old new pair changes c.as_slice.result.now _ _ h u (c.find_pair.ensures.seen t) (c.find_pair.ensures.with t) closed (c.in_ok-pair.ensures.value t)
     found.are found.said c.as_slice.ensures.value c.in_ok-speak.ensures.said c.speak.ensures.grew in
-    account_passes F.may_leave F.moment F.left_since k c.args.now.cycle F.says old new pair changes said.0 (ap (λ x. x.cycle) closed)
+    account_passes F.may_leave F.moment F.left_since k c.args.now.cycle (F.says (F.with c.args.closings.now)) old new pair changes said.0 (ap (λ x. x.cycle) closed)
     c.args.closings.now c.find_pair.new.closings c.find.new.self c.keep_found.new.closings (c.find_pair.ensures.crash t) (c.find.ensures.crash t)
     (subst (λ l. Passes F.may_leave F.moment F.left_since (MayPut (account_with pair.closed.cycle l)) c.find.new.self c.keep_found.new.closings) found.listed (c.keep_found.ensures.crash t))
 
@@ -65,9 +65,9 @@ returns-clause-may g c = λ t h u.
     let old = g.S.Say.said c.args.out.now in
     let new = g.S.Say.said c.speak.new.out in
     let closed = c.in_ok-pair.ensures.closed in
-    let said = account_said k (F.seen c.find_pair.new.closings) c.args.now F.says old new pair changes c.as_slice.result.now _ _ h u (c.find_pair.ensures.seen t) closed (c.in_ok-pair.ensures.value t)
+    let said = account_said k (F.seen c.find_pair.new.closings) c.args.now F.says (F.with c.args.closings.now) (F.with c.find_pair.new.closings) old new pair changes c.as_slice.result.now _ _ h u (c.find_pair.ensures.seen t) (c.find_pair.ensures.with t) closed (c.in_ok-pair.ensures.value t)
     found.are found.said c.as_slice.ensures.value c.in_ok-speak.ensures.said c.speak.ensures.grew in
-    may_account k c.args.now.cycle F.says old new pair changes said.0 (ap (λ x. x.cycle) closed) k (F.seen c.keep_found.new.closings)
+    may_account k c.args.now.cycle (F.says (F.with c.args.closings.now)) old new pair changes said.0 (ap (λ x. x.cycle) closed) k (F.seen c.keep_found.new.closings)
     (subst (λ x. MayPut (account_of pair.closed.cycle changes) x (F.seen c.keep_found.new.closings)) (c.find.ensures.seen t ∙ c.find_pair.ensures.seen t)
     (subst (λ l. MayPut (account_with pair.closed.cycle l) (F.seen c.find.new.self) (F.seen c.keep_found.new.closings)) found.listed (c.keep_found.ensures.may t)))
 
@@ -81,8 +81,8 @@ returns-in_err-keep_found-clause-may g c = λ t h u.
     let old = g.S.Say.said c.args.out.now in
     let new = g.S.Say.said c.speak.new.out in
     let closed = c.in_ok-pair.ensures.closed in
-    let said = account_said k (F.seen c.find_pair.new.closings) c.args.now F.says old new pair changes c.as_slice.result.now _ _ h u (c.find_pair.ensures.seen t) closed (c.in_ok-pair.ensures.value t)
+    let said = account_said k (F.seen c.find_pair.new.closings) c.args.now F.says (F.with c.args.closings.now) (F.with c.find_pair.new.closings) old new pair changes c.as_slice.result.now _ _ h u (c.find_pair.ensures.seen t) (c.find_pair.ensures.with t) closed (c.in_ok-pair.ensures.value t)
     found.are found.said c.as_slice.ensures.value c.in_ok-speak.ensures.said c.speak.ensures.grew in
-    may_account k c.args.now.cycle F.says old new pair changes said.0 (ap (λ x. x.cycle) closed) k (F.seen c.keep_found.new.closings)
+    may_account k c.args.now.cycle (F.says (F.with c.args.closings.now)) old new pair changes said.0 (ap (λ x. x.cycle) closed) k (F.seen c.keep_found.new.closings)
     (subst (λ x. MayPut (account_of pair.closed.cycle changes) x (F.seen c.keep_found.new.closings)) (c.find.ensures.seen t ∙ c.find_pair.ensures.seen t)
     (subst (λ l. MayPut (account_with pair.closed.cycle l) (F.seen c.find.new.self) (F.seen c.keep_found.new.closings)) found.listed (c.keep_found.ensures.may t)))

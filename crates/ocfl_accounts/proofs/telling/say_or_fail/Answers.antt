@@ -13,7 +13,7 @@ returns-in-Err-clause-said g c = λ t.
     let new = g.S.Say.said c.say_cycle.new.out in (
       Some c.in-Err.stop,
       (
-        subst (MayAccount (F.seen c.args.closings.now) c.args.cycle F.says old new (F.seen c.args.closings.now)) (sym (c.fail.ensures.seen t)) (c.say_cycle.ensures.may t),
+        subst (MayAccount (F.seen c.args.closings.now) c.args.cycle (F.says (F.with c.args.closings.now)) old new (F.seen c.args.closings.now)) (sym (c.fail.ensures.seen t)) (c.say_cycle.ensures.may t),
         (c.say_cycle.ensures.grew, (refl, subst (λ n. IsReason (F.faults c.args.closings.now) n old new c.in-Err.stop) (sym (c.fail.ensures.faults t)) (c.in-Err.ensures.cause t))),
       ),
     )
@@ -21,10 +21,10 @@ returns-in-Err-clause-said g c = λ t.
 pub returns-in-Err-clause-crash : goal.returns-in-Err-clause-crash
 returns-in-Err-clause-crash g c = λ t.
     let F = g.C.Closings in
-    then_same F.may_leave F.moment F.left_since (MayAccount (F.seen c.args.closings.now) c.args.cycle F.says (g.S.Say.said c.args.out.now) (g.S.Say.said c.say_cycle.new.out))
+    then_same F.may_leave F.moment F.left_since (MayAccount (F.seen c.args.closings.now) c.args.cycle (F.says (F.with c.args.closings.now)) (g.S.Say.said c.args.out.now) (g.S.Say.said c.say_cycle.new.out))
     c.args.closings.now c.say_cycle.new.closings c.fail.new.self (c.say_cycle.ensures.crash t) (c.fail.ensures.crash t)
 
 pub returns-in-Err-clause-may : goal.returns-in-Err-clause-may
 returns-in-Err-clause-may g c = λ t.
     let F = g.C.Closings in
-    subst (MayAccount (F.seen c.args.closings.now) c.args.cycle F.says (g.S.Say.said c.args.out.now) (g.S.Say.said c.say_cycle.new.out) (F.seen c.args.closings.now)) (sym (c.fail.ensures.seen t)) (c.say_cycle.ensures.may t)
+    subst (MayAccount (F.seen c.args.closings.now) c.args.cycle (F.says (F.with c.args.closings.now)) (g.S.Say.said c.args.out.now) (g.S.Say.said c.say_cycle.new.out) (F.seen c.args.closings.now)) (sym (c.fail.ensures.seen t)) (c.say_cycle.ensures.may t)

@@ -41,7 +41,7 @@ impl<'n, D: ClosedDisk> DiskClosings<'n, D> {
     /// Those that a disk shows, of which the night closed this cycle; 0 if it closed none.
     pub fn over(alloc: Global, disk: D, with: SaidWith<'n>, closed: u64) -> DiskClosings<'n, D>
         ensures disk { result.disk ≡ disk }
-        ensures with { result.with ≡ with }
+        ensures with { result.with ≡ with.entry }
     {
         DiskClosings {
             alloc,

@@ -8,7 +8,7 @@ use Rattle.ocfl_say.specs.Said.{Said, Grows}
 use Rattle.ocfl_accounts.specs.{Changes.{Says}, Kept.{Kept, Account, HasAccount, account_of, is_some, with_account, with_list, with_lists}, Crash.{Outcomes, Passes, After}}
 use Rattle.ocfl_accounts.specs.Telling.{Stand, Outcome, IsAccountSaid, IsSettled, MayAccount, IsOutcomeFor, AreOutcomes, AreSaid, greatest_from}
 use Rattle.ocfl_accounts.specs.{Rounds.{SaidClosing, AreClosingsSaid, MayAccounts, account_of_closing}, Calls.{Call, AreCalls, left_by, IsSaidIn, WasSaid, IsDoneIn}}
-use Rattle.ocfl_accounts.specs.{declared.{closings.ClosingStop.{ClosingStop}, pair.Pair.{Pair}}}
+use Rattle.ocfl_accounts.specs.{declared.{closings.ClosingStop.{ClosingStop}}}
 use Rattle.ocfl_accounts.specs.{Cycle.{is_there}, Pairs.{waits}, Unsaid.{NoneUnsaid, is_unsaid, oldest}}
 use Rattle.ocfl_say.proofs.Outputs.{grows_none, grows_on}
 use Rattle.ocfl_accounts.proofs.Rounds.{said_before}

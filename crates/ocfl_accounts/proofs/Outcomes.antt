@@ -1,5 +1,5 @@
 -- One more cycle that was said.
-use Rattle.std.proofs.Common.{◌≡◌, ℕ, ◌+◌, List, [], ◌∷◌, ◌++◌, length, Bool, refl, subst, arith}
+use Rattle.std.proofs.Common.{◌≡◌, ℕ, ◌+◌, List, [], ◌∷◌, ◌++◌, length, refl, subst, arith}
 use Rattle.std.specs.Prelude.{max}
 use Rattle.ocfl_accounts.specs.Telling.{Stand, Outcome, IsOutcome, AreOutcomes, greatest_from}
 use Rattle.ocfl_accounts.specs.Changes.{Says}

@@ -1,6 +1,5 @@
 -- What a crash may leave over several calls.
 use Rattle.std.proofs.Common.{◌≡◌, ◌⊎◌, inl, inr, ℕ, ◌≤◌, List, refl, sym, ap, subst, ◌∙◌, arith}
-use Rattle.ocfl_tree.specs.Place.{Text}
 use Rattle.ocfl_compare.specs.declared.change.ChangeAt.{ChangeAt}
 use Rattle.ocfl_say.specs.Said.{Said}
 use Rattle.ocfl_accounts.specs.{Changes.{Says}, Kept.{Kept, account_of, with_account}, Crash.{Step, Same, MayPut, Outcomes, After, Passes}}

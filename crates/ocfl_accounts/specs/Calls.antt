@@ -1,6 +1,5 @@
 -- Calls that say closings, one after the other, each ended or crashed.
 use Rattle.std.specs.Prelude.{◌≡◌, ◌⊎◌, ℕ, List, [], ◌∷◌, ⊤}
-use Rattle.ocfl_tree.specs.{Place.{Text}}
 use Rattle.ocfl_compare.specs.declared.change.ChangeAt.{ChangeAt}
 use Rattle.ocfl_say.specs.Said.{Said, Grows}
 use Rattle.ocfl_accounts.specs.{Changes.{Says}, Kept.{Kept, Account}, Crash.{Outcomes, Same, Follows, Passes}}

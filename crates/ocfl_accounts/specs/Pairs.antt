@@ -1,5 +1,5 @@
 -- What a closed cycle is compared with.
-use Rattle.std.specs.Prelude.{◌≡◌, ℕ, ◌&&◌, ◌||◌, List, [], ◌∷◌, Bool, true, false, not, filter, if◌then◌else◌, Option, Some, None}
+use Rattle.std.specs.Prelude.{◌≡◌, ℕ, ◌&&◌, ◌||◌, List, [], ◌∷◌, Bool, true, false, not, filter, Option, Some, None}
 use Rattle.ocfl_tree.specs.Place.{Place}
 use Rattle.ocfl_compare.specs.Changes.{is_left}
 use Rattle.ocfl_status.specs.Status.{status_of as exit_status}

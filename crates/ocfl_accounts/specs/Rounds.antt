@@ -1,6 +1,5 @@
 -- What a crash leaves of closings that are said one after the other.
 use Rattle.std.specs.Prelude.{◌≡◌, ℕ, ◌+◌, ◌<◌, ◌≤◌, List, [], ◌∷◌, map}
-use Rattle.ocfl_tree.specs.Place.{Text}
 use Rattle.ocfl_compare.specs.declared.change.ChangeAt.{ChangeAt}
 use Rattle.ocfl_say.specs.Said.{Said, Grows}
 use Rattle.ocfl_accounts.specs.{Changes.{Says}, Kept.{Kept, Account, account_of, with_accounts}, Crash.{Step}}

@@ -1,7 +1,7 @@
 -- Which texts are rows of lists of what is gone, and which are lists.
 use Rattle.std.proofs.Common.{◌≡◌, ◌≢◌, ◌⊎◌, inl, inr, ℕ, List, [], ◌∷◌, ◌++◌, Option, Some, None, All, IfSome, flat_map, option_map, true, cond, refl, sym, ap, subst, ◌∙◌, append_assoc, append-nil, arith}
 use Rattle.std.proofs.lemmas.{Bool.{ne_eqb}, List.{append_cancel_right}}
-use Rattle.std.proofs.lemmas.List.Elements.{All-append, All-cons, All-head, All-nil, All-tail}
+use Rattle.std.proofs.lemmas.List.Elements.{All-append, All-cons, All-head, All-tail}
 use Rattle.std.specs.{List.{list_all}, Io.{BufRead.{take_through}, KnownBytes.{Consumes}}}
 use Rattle.ocfl_tree.specs.{Place.{Text, Place}, Name.{IsPlace}}
 use Rattle.ocfl_report.specs.Text.{place_text}
@@ -10,7 +10,7 @@ use Rattle.ocfl_report.proofs.{LineTexts.{no_line_feed, no_tab}, PlaceTexts.{pla
 use Rattle.ocfl_compare.specs.Gone.{gone_row, gone_text, gone_word, row_text}
 use Rattle.ocfl_compare.specs.declared.change.{Change.{Change}, ChangeAt.{ChangeAt}}
 use Rattle.ocfl_compare.specs.declared.change.Change.TheVariants.{Gone, Undeclared, FileGone, Unlooked, Found, Repaired, Missing, Rewritten, WentBack, NewVersion}
-use Rattle.ocfl_closed.specs.Back.{IsBadList, IsListOf, IsNoList, IsRowOf}
+use Rattle.ocfl_closed.specs.Back.{IsBadList, IsNoList, IsRowOf}
 
 -- ---- one row
 

@@ -1,6 +1,7 @@
 -- What is said of a cycle, by what it is made with.
-use Rattle.std.proofs.Common.{◌≡◌, ◌⊎◌, inl, inr, Bool, List}
+use Rattle.std.proofs.Common.{◌≡◌, ◌⊎◌, ℕ, inl, inr, Bool, List, Option}
 use Rattle.ocfl_tree.specs.Place.{Text, Place}
+use Rattle.ocfl_state.specs.Checkpoint.{Checkpoint}
 use Rattle.ocfl_accounts.specs.{Changes.{Finds}, Kept.{Account}, declared.pair.Pair.{Pair}}
 use Rattle.ocfl_closed.specs.{Back.{AreBack}, Cut.{with_listed}, Files.{Files, kept_of}}
 use Rattle.ocfl_closed.specs.Words.{Means, beside_by, runs_in, said_beside, said_by}
@@ -15,9 +16,9 @@ found_by m f pair back text is_grave list are_back h = record {
 }
 
 -- no call changes a checkpoint, nor what texts are made with
-pub with_same : (m n : Means) (f g : Files) → n ≡ m → g ≡ f → (n, g.checkpoint) ≡ (m, f.checkpoint)
+pub with_same : (m n : Means) (f g : Files) → n ≡ m → g ≡ f → ◌≡◌ {A = Means × (ℕ → Option Checkpoint)} (n, g.checkpoint) (m, f.checkpoint)
 with_same m n f g same files = λ i. (same i, (files i).checkpoint)
 
-pub with_put : (a : Account) (m n : Means) (f g : Files) → n ≡ m → (g ≡ f) ⊎ (g ≡ with_listed a f) → (n, g.checkpoint) ≡ (m, f.checkpoint)
+pub with_put : (a : Account) (m n : Means) (f g : Files) → n ≡ m → (g ≡ f) ⊎ (g ≡ with_listed a f) → ◌≡◌ {A = Means × (ℕ → Option Checkpoint)} (n, g.checkpoint) (m, f.checkpoint)
 with_put a m n f g same (inl files) = λ i. (same i, (files i).checkpoint)
 with_put a m n f g same (inr files) = λ i. (same i, (files i).checkpoint)

@@ -1,5 +1,5 @@
 use Rattle.std.proofs.Common.{refl}
-use Rattle.ocfl_closed.proofs.RowTexts.{no_end_of_row, no_such_place, no_such_word, no_tab_in_row}
+use Rattle.ocfl_closed.proofs.RowTexts.{no_such_word, no_tab_in_row}
 use Rattle.ocfl_closed.proofs.rows.read_row.Goals as goal
 
 pub returns-in_default-clause-bad : goal.returns-in_default-clause-bad

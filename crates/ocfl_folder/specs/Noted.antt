@@ -1,7 +1,8 @@
 -- The calls of a folder, as a system that tells its tree keeps them.
-use Rattle.std.specs.Prelude.{ℕ, ◌+◌, true, false, [], ◌∷◌, ◌++◌, Option, max}
+use Rattle.std.specs.Prelude.{◌≡◌, ⊤, ℕ, ◌+◌, Bool, true, false, List, [], ◌∷◌, ◌++◌, Option, Some, None, max}
 use Rattle.ocfl_tree.specs.{Place.{Text, Place}, Store.{Store}}
 use Rattle.ocfl_tree.specs.Calls.{opening, change_last, with_given, with_failure}
+use Rattle.ocfl_tree.specs.declared.store.Opening.{Opening}
 use Rattle.ocfl_folder.specs.declared.answer.Answer.{Answer}
 use Rattle.ocfl_folder.specs.declared.answer.Answer.TheVariants.{Listed, NotListed, Opened, NotOpened}
 use Rattle.ocfl_folder.specs.declared.answer.ReadAnswer.{ReadAnswer}
@@ -19,6 +20,22 @@ abbrev pub with_read : ReadAnswer → Store → Store
 with_read (Gave n) s = record s { openings = change_last (with_given n) s.openings }
 with_read Failed s = record s { openings = change_last with_failure s.openings; failures = s.failures + 1 }
 with_read NoFile s = s
+
+-- whether the device failed in the last of these openings, if there is one
+abbrev pub last_failed : List Opening → Option Bool
+last_failed [] = None
+last_failed (o ∷ []) = Some o.failed
+last_failed (o ∷ p ∷ os) = last_failed (p ∷ os)
+
+-- a file was opened, and the device did not fail in the last opening
+abbrev pub IsReading : List Opening → Type 0
+IsReading os = last_failed os ≡ Some false
+
+-- after these openings a note of such a read is never refused
+abbrev pub IsKeepable : ReadAnswer → List Opening → Type 0
+IsKeepable (Gave n) os = ⊥
+IsKeepable Failed os = IsReading os
+IsKeepable NoFile os = ⊤
 
 -- a read into a buffer with this room
 abbrev pub with_room : ℕ → Store → Store

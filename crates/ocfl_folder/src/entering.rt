@@ -96,7 +96,11 @@ impl<R: Files + Env + AllocGlobal> System for Entering<'_, R> {
         file.read(buffer)
     }
 
-    fn note(&mut self, _place: &Place, _answer: Answer) {}
+    fn note(&mut self, _place: &Place, _answer: Answer) -> Result<(), AllocError> {
+        Ok(())
+    }
 
-    fn note_read(&mut self, _room: usize, _answer: ReadAnswer) {}
+    fn note_read(&mut self, _room: usize, _answer: ReadAnswer) -> Result<(), AllocError> {
+        Ok(())
+    }
 }

@@ -1,6 +1,7 @@
 //! Why one try of a call gave nothing.
 ghost use Rattle.std.specs.Prelude.{◌≡◌, ◌≢◌, ◌↔◌, ◌∷◌, [], Ok, Err, MatchOption, MatchResult};
 ghost use Rattle.std.specs.IoError.{error_kind};
+ghost use Rattle.ocfl_tree.specs.declared.store.Trouble.TheVariants.{Memory};
 ghost use Rattle.ocfl_folder.specs.Internal.Absence.{IsAbsent};
 
 use crate::failure::Failure;
@@ -28,6 +29,14 @@ impl<T: Drop> From<AllocFailed<T>> for TryFault {
 
     fn from(_error: AllocFailed<T>) -> TryFault {
         TryFault::Failed(out_of_memory())
+    }
+}
+
+impl From<AllocError> for Failure {
+    ghost from_gives = { λ _ failure. failure.trouble ≡ Memory };
+
+    fn from(_error: AllocError) -> Failure {
+        out_of_memory()
     }
 }
 

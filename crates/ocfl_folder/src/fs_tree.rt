@@ -5,12 +5,11 @@ ghost use Rattle.std.specs.Option.{option_map};
 ghost use Rattle.ocfl_tree.specs.Listing.{IsOrdinary};
 ghost use Rattle.ocfl_tree.specs.Calls.{Lists, ListFails, Opens, OpenFails, Reads, ReadFails};
 ghost use Rattle.ocfl_tree.specs.Calls.{Closes};
-ghost use Rattle.ocfl_folder.specs.{Faults.{IsKept}, Noted.{with_rest, with_answer}};
+ghost use Rattle.ocfl_folder.specs.{Faults.{IsKept}, Noted.{with_rest, with_answer, IsReading}};
 
 use crate::answer::{Answer, ReadAnswer};
 use crate::entering::Entering;
 use crate::failure::Failure;
-use crate::reading::read_on;
 use crate::stand::Stand;
 use crate::system::System;
 use crate::whole_paths::WholePaths;
@@ -31,6 +30,7 @@ use std::rt::{Env, Files};
 /// What is not found is `Absent`. Running out of memory is `Memory`, but never in a read. Every
 /// other fault is `Device`:
 ///
+/// - a read for which memory was refused, or which the system cannot note;
 /// - a file where a directory is asked for, or the other way round;
 /// - a directory that another one takes the place of, or one that is moved elsewhere while the
 ///   folder is in it or below;
@@ -41,6 +41,8 @@ pub struct FsTree<S: System + Drop> {
     stand: Stand<S>,
     opened: Option<S::File>,
     reason: Option<io::Error>,
+    ghost noted: { IsTrue S.told → IsSome opened
+        → IsReading (S.state stand.system).store.openings },
 }
 
 /// Written by hand, so that letting it go is one call where it is let go.
@@ -97,23 +99,28 @@ impl<S: System + Drop> FsTree<S> {
         self.reason
     }
 
-    /// Keeps why a listing or an opening failed, and notes it.
+    /// The system whose calls these are.
+    pub fn system(&self) -> &S
+        ensures { result.now ≡ self.now.stand.system }
+    {
+        &self.stand.system
+    }
+
+    /// Keeps why a listing or an opening failed, and notes it if the device did.
     fn fail(&mut self, place: &Place, failure: Failure, answer: Answer) -> Trouble
         ensures closed { self.new.opened ≡ None }
         ensures kept { IsKept self.new.reason result }
-        ensures trouble { result ≡ failure.trouble }
-        ensures device { IsTrue S.told → failure.trouble ≡ Trouble.Device
+        ensures trouble { result ≢ Trouble.Memory → result ≡ failure.trouble }
+        ensures device { IsTrue S.told → result ≡ Trouble.Device
             → (S.state self.new.stand.system).store
             ≡ with_answer answer place.now (S.state self.old.stand.system).store }
-        ensures others { IsTrue S.told → failure.trouble ≢ Trouble.Device
+        ensures others { IsTrue S.told → result ≢ Trouble.Device
             → (S.state self.new.stand.system).store ≡ (S.state self.old.stand.system).store }
     {
         self.opened = None;
-        self.reason = Some(failure.error);
         self.stand.forget();
-        if failure.trouble == Trouble::Device {
-            self.stand.note(place, answer);
-        }
+        let failure = self.stand.note_failure(place, failure, answer);
+        self.reason = Some(failure.error);
         failure.trouble
     }
 }
@@ -140,15 +147,13 @@ impl<S: System + Drop> Tree for FsTree<S> {
         ensures err { OnErr result (self.new.opened ≡ None) }
         ensures kept { IfErr result (λ trouble. IsKept self.new.reason trouble) }
     {
-        match self.stand.list(place) {
-            Ok(entries) => {
-                self.stand.note(place, Answer::Listed);
-                Ok(entries)
-            }
+        match self.stand.list_and_note(place) {
+            Ok(entries) => Ok(entries),
             Err(failure) => Err(self.fail(place, failure, Answer::NotListed)),
         }
     }
 
+    #[tactic(auto, using(crate::proofs::Notes::reading_opened))]
     fn open(&mut self, place: &Place) -> Result<(), Trouble>
         ensures opens { IsTrue S.told → MatchResult result
             (λ _. Opens
@@ -165,9 +170,8 @@ impl<S: System + Drop> Tree for FsTree<S> {
         ensures kept { IfErr result (λ trouble. IsKept self.new.reason trouble) }
     {
         self.opened = None;
-        match self.stand.open(place) {
+        match self.stand.open_and_note(place) {
             Ok(file) => {
-                self.stand.note(place, Answer::Opened);
                 self.opened = Some(file);
                 Ok(())
             }
@@ -175,6 +179,7 @@ impl<S: System + Drop> Tree for FsTree<S> {
         }
     }
 
+    #[tactic(auto, using(crate::proofs::Notes::reads_on))]
     fn read(&mut self, buffer: &mut [u8]) -> Result<usize, Trouble>
         ensures bound { IfOk result (λ count. count ≤ length buffer.new) }
         ensures no_memory { result ≢ Err Trouble.Memory }
@@ -194,18 +199,13 @@ impl<S: System + Drop> Tree for FsTree<S> {
         ensures err { OnErr result (self.new.opened ≡ None) }
         ensures kept { result ≡ Err Trouble.Device → IsSome self.new.reason }
     {
-        let room = buffer.len();
         let Some(file) = &mut self.opened else {
-            self.stand.note_read(room, ReadAnswer::NoFile);
+            let _ = self.stand.note_read(buffer.len(), ReadAnswer::NoFile);
             return Err(Trouble::Absent);
         };
-        match read_on(&self.stand.system, file, buffer) {
-            Ok(count) => {
-                self.stand.note_read(room, ReadAnswer::Gave(count));
-                Ok(count)
-            }
+        match self.stand.read_and_note(file, buffer) {
+            Ok(count) => Ok(count),
             Err(error) => {
-                self.stand.note_read(room, ReadAnswer::Failed);
                 self.reason = Some(error);
                 self.opened = None;
                 Err(Trouble::Device)

@@ -1,21 +1,22 @@
 //! Which directory a folder is in.
-ghost use Rattle.std.specs.Prelude.{◌≡◌, ◌≢◌, IsTrue, IfOk, IfErr, OnOk, [], MatchResult, Some};
-ghost use Rattle.std.specs.Prelude.{None, List, ℕ};
+ghost use Rattle.std.specs.Prelude.{◌≡◌, ◌≢◌, ◌≤◌, ◌<◌, ◌++◌, IsTrue, IfOk, IfErr, IsOk, OnOk, OnErr, []};
+ghost use Rattle.std.specs.Prelude.{MatchResult, Some, None, List, ℕ, length, take};
 ghost use Rattle.ocfl_tree.specs.{StorageRoot.{file, dir, at}, Listing.{IsListing, IsOrdinary}};
 ghost use Rattle.ocfl_tree.specs.declared.store.Trouble.TheVariants.{Absent};
 ghost use Rattle.ocfl_tree.specs.{Place.{Place as Spot}, Path.{names_of}};
 ghost use Rattle.ocfl_folder.specs.Internal.Absence.{IsAbsent};
-ghost use Rattle.ocfl_folder.specs.Noted.{with_answer, with_read, with_room};
+ghost use Rattle.ocfl_folder.specs.Noted.{with_answer, with_read, with_room, IsReading, IsKeepable};
 
 use crate::answer::{Answer, ReadAnswer};
 use crate::failure::Failure;
-use crate::fault::{TryFault, too_often, unless_interrupted, wrong};
+use crate::fault::{TryFault, out_of_memory, too_often, unless_interrupted, wrong};
 use crate::going::{descend, start, turn};
 use crate::node::Node;
-use crate::reading::{TRIES, list_here, open_here};
+use crate::reading::{TRIES, list_here, open_here, read_on};
 use crate::system::System;
-use ocfl_tree::{Entry, Place};
-use std::alloc::Global;
+use ocfl_tree::{Entry, Place, Trouble};
+use std::alloc::{AllocError, Global};
+use std::io;
 
 /// A system, and in which directory of the folder it is, if that is known.
 #[derive(Drop)]
@@ -130,7 +131,7 @@ impl<S: System + Drop> Stand<S> {
     }
 
     /// The entries of a directory, if the calls are not interrupted too often.
-    pub(crate) fn list(&mut self, place: &Place) -> Result<Vec<Entry>, Failure>
+    fn list(&mut self, place: &Place) -> Result<Vec<Entry>, Failure>
         ensures ordinary { IfOk result (λ entries. IsOrdinary entries.items) }
         ensures store { IsTrue S.told
             → (S.state self.new.system).store ≡ (S.state self.old.system).store }
@@ -166,7 +167,7 @@ impl<S: System + Drop> Stand<S> {
     }
 
     /// The file at a place, if the calls are not interrupted too often.
-    pub(crate) fn open(&mut self, place: &Place) -> Result<S::File, Failure>
+    fn open(&mut self, place: &Place) -> Result<S::File, Failure>
         ensures store { IsTrue S.told
             → (S.state self.new.system).store ≡ (S.state self.old.system).store }
         ensures opened { IsTrue S.told → MatchResult result
@@ -184,18 +185,109 @@ impl<S: System + Drop> Stand<S> {
     }
 
     /// Notes what became of a listing or an opening.
-    pub(crate) fn note(&mut self, place: &Place, answer: Answer)
-        ensures { IsTrue S.told → (S.state self.new.system).store
-            ≡ with_answer answer place.now (S.state self.old.system).store }
+    fn note(&mut self, place: &Place, answer: Answer) -> Result<(), AllocError>
+        ensures ok { IsTrue S.told → OnOk result ((S.state self.new.system).store
+            ≡ with_answer answer place.now (S.state self.old.system).store) }
+        ensures err { IsTrue S.told → OnErr result ((S.state self.new.system).store
+            ≡ (S.state self.old.system).store) }
     {
-        self.system.note(place, answer);
+        self.system.note(place, answer)
     }
 
     /// Notes what became of a read into a buffer with this room.
-    pub(crate) fn note_read(&mut self, room: usize, answer: ReadAnswer)
-        ensures { IsTrue S.told → (S.state self.new.system).store
-            ≡ with_read answer (with_room room (S.state self.old.system).store) }
+    pub(crate) fn note_read(&mut self, room: usize, answer: ReadAnswer) -> Result<(), AllocError>
+        ensures ok { IsTrue S.told → OnOk result ((S.state self.new.system).store
+            ≡ with_read answer (with_room room (S.state self.old.system).store)) }
+        ensures err { IsTrue S.told → OnErr result ((S.state self.new.system).store
+            ≡ (S.state self.old.system).store) }
+        ensures kept { IsTrue S.told
+            → IsKeepable answer (S.state self.old.system).store.openings → IsOk result }
     {
-        self.system.note_read(room, answer);
+        self.system.note_read(room, answer)
+    }
+
+    /// The entries of a directory, once it is noted that they were listed.
+    pub(crate) fn list_and_note(&mut self, place: &Place) -> Result<Vec<Entry>, Failure>
+        ensures ordinary { IfOk result (λ entries. IsOrdinary entries.items) }
+        ensures listed { IsTrue S.told → MatchResult result
+            (λ entries. IsListing (S.state self.old.system).store.tree place.now entries.items)
+            (λ failure. failure.trouble ≡ Absent
+            → at (S.state self.old.system).store.tree place.now ≢ Some dir) }
+        ensures ok { IsTrue S.told → OnOk result ((S.state self.new.system).store
+            ≡ with_answer Answer.Listed place.now (S.state self.old.system).store) }
+        ensures err { IsTrue S.told → OnErr result ((S.state self.new.system).store
+            ≡ (S.state self.old.system).store) }
+    {
+        let entries = self.list(place)?;
+        self.note(place, Answer::Listed)?;
+        Ok(entries)
+    }
+
+    /// The file at a place, once it is noted that it was opened.
+    pub(crate) fn open_and_note(&mut self, place: &Place) -> Result<S::File, Failure>
+        ensures opened { IsTrue S.told → MatchResult result
+            (λ opened. at (S.state self.old.system).store.tree place.now
+            ≡ Some (file (S.rest opened)))
+            (λ failure. failure.trouble ≡ Absent → (bytes : List ℕ)
+            → at (S.state self.old.system).store.tree place.now ≢ Some (file bytes)) }
+        ensures ok { IsTrue S.told → OnOk result ((S.state self.new.system).store
+            ≡ with_answer Answer.Opened place.now (S.state self.old.system).store) }
+        ensures err { IsTrue S.told → OnErr result ((S.state self.new.system).store
+            ≡ (S.state self.old.system).store) }
+    {
+        let file = self.open(place)?;
+        self.note(place, Answer::Opened)?;
+        Ok(file)
+    }
+
+    /// Reads on in an open file, and notes it. A read whose note is refused is noted as one in
+    /// which the device failed.
+    pub(crate) fn read_and_note(
+        &mut self,
+        file: &mut S::File,
+        buffer: &mut [u8],
+    ) -> io::Result<usize>
+        ensures bound { IfOk result (λ count. count ≤ length buffer.new) }
+        ensures given { IsTrue S.told → IfOk result (λ count.
+            S.rest file.old ≡ take count buffer.new ++ S.rest file.new) }
+        ensures end { IsTrue S.told → IfOk result (λ count. take count buffer.new ≡ []
+            → 0 < length buffer.new → S.rest file.new ≡ []) }
+        ensures ok { IsTrue S.told → IfOk result (λ count. (S.state self.new.system).store
+            ≡ with_read (ReadAnswer.Gave count)
+            (with_room (length buffer.new) (S.state self.old.system).store)) }
+        ensures err { IsTrue S.told → IsReading (S.state self.old.system).store.openings
+            → OnErr result ((S.state self.new.system).store ≡ with_read ReadAnswer.Failed
+            (with_room (length buffer.new) (S.state self.old.system).store)) }
+    {
+        let room = buffer.len();
+        let error = match read_on(&self.system, file, buffer) {
+            Ok(count) => match self.note_read(room, ReadAnswer::Gave(count)) {
+                Ok(()) => return Ok(count),
+                Err(_) => out_of_memory().error,
+            },
+            Err(error) => error,
+        };
+        let _ = self.note_read(room, ReadAnswer::Failed);
+        Err(error)
+    }
+
+    /// Notes a failure if it is the device's. Gives it back, or that the note was refused memory.
+    pub(crate) fn note_failure(
+        &mut self,
+        place: &Place,
+        failure: Failure,
+        answer: Answer,
+    ) -> Failure
+        ensures same { result.trouble ≢ Trouble.Memory → result ≡ failure }
+        ensures device { IsTrue S.told → result.trouble ≡ Trouble.Device
+            → (S.state self.new.system).store
+            ≡ with_answer answer place.now (S.state self.old.system).store }
+        ensures others { IsTrue S.told → result.trouble ≢ Trouble.Device
+            → (S.state self.new.system).store ≡ (S.state self.old.system).store }
+    {
+        if failure.trouble == Trouble::Device && self.note(place, answer).is_err() {
+            return out_of_memory();
+        }
+        failure
     }
 }

@@ -1,16 +1,17 @@
 //! The calls of the system that a folder makes.
 ghost use Rattle.std.specs.Prelude.{◌≡◌, ◌≢◌, ◌≤◌, ◌<◌, ◌++◌, ◌∷◌, [], Bool, false, IsTrue, List, Some};
-ghost use Rattle.std.specs.Prelude.{None, IfOk, IfErr, OnOk, MatchResult, length, take};
+ghost use Rattle.std.specs.Prelude.{None, IfOk, IfErr, IsOk, OnOk, OnErr, MatchResult, length, take};
 ghost use Rattle.std.specs.IoError.{error_kind};
 ghost use Rattle.std.specs.declared.io.ErrorKind.TheVariants.{NotFound, Interrupted};
 ghost use Rattle.ocfl_tree.specs.{Place.{Text, Place as Spot}, StorageRoot.{file, dir, at}};
 ghost use Rattle.ocfl_tree.specs.{Listing.{kind_at}, Store.{empty_store}};
 ghost use Rattle.ocfl_folder.specs.System.{Standing, IfHere, AreNames, Gives};
-ghost use Rattle.ocfl_folder.specs.Noted.{with_answer, with_read, with_room};
+ghost use Rattle.ocfl_folder.specs.Noted.{with_answer, with_read, with_room, IsKeepable};
 
 use crate::answer::{Answer, ReadAnswer};
 use crate::node::Seen;
 use ocfl_tree::Place;
+use std::alloc::AllocError;
 use std::io;
 
 /// What a folder asks of the system. It is in one directory, and what it asks for is there, by
@@ -99,17 +100,23 @@ pub trait System {
         ensures again { IsTrue told → IfErr result (λ error. error_kind error ≡ Interrupted
             → rest file.new ≡ rest file.old) };
 
-    /// Keeps what became of a listing or of an opening at a place, if the system tells.
-    fn note(&mut self, place: &Place, answer: Answer)
-        ensures { IsTrue told → state self.new ≡ record {
+    /// Keeps what became of a listing or of an opening at a place, if the system tells. The error
+    /// is that memory was refused.
+    fn note(&mut self, place: &Place, answer: Answer) -> Result<(), AllocError>
+        ensures ok { IsTrue told → OnOk result (state self.new ≡ record {
           store = with_answer answer place.now (state self.old).store;
           here = (state self.old).here;
-        } };
+        }) }
+        ensures err { IsTrue told → OnErr result (state self.new ≡ state self.old) };
 
-    /// Keeps what became of a read into a buffer with this room, if the system tells.
-    fn note_read(&mut self, room: usize, answer: ReadAnswer)
-        ensures { IsTrue told → state self.new ≡ record {
+    /// Keeps what became of a read into a buffer with this room, if the system tells. The error is
+    /// that memory was refused, or that the bytes cannot be counted any more.
+    fn note_read(&mut self, room: usize, answer: ReadAnswer) -> Result<(), AllocError>
+        ensures ok { IsTrue told → OnOk result (state self.new ≡ record {
           store = with_read answer (with_room room (state self.old).store);
           here = (state self.old).here;
-        } };
+        }) }
+        ensures err { IsTrue told → OnErr result (state self.new ≡ state self.old) }
+        ensures kept { IsTrue told → IsKeepable answer (state self.old).store.openings
+            → IsOk result };
 }

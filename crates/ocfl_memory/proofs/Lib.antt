@@ -4,3 +4,4 @@ mod Lists
 mod Seen
 mod Systems
 mod Trees
+mod Watches

@@ -73,7 +73,7 @@ last_at : (front : List Opening) (last : Opening) → slice_get (front ++ last �
 last_at [] last = refl
 last_at (x ∷ front) last = last_at front last
 
-last_is : (front : List Opening) (last : Opening) → slice_get (front ++ last ∷ []) (length (front ++ last ∷ []) - 1) ≡ Some last
+pub last_is : (front : List Opening) (last : Opening) → slice_get (front ++ last ∷ []) (length (front ++ last ∷ []) - 1) ≡ Some last
 last_is front last =
     let place : length (front ++ last ∷ []) - 1 ≡ length front = omega (arith, length-append front (last ∷ [])) in
     ap (slice_get (front ++ last ∷ [])) place ∙ last_at front last

@@ -11,10 +11,11 @@ use crate::mem_tree::MemTree;
 use crate::watch::Watch;
 use ocfl_folder::{Answer, Node, ReadAnswer, Seen, System};
 use ocfl_tree::{Kind, Name, NameStop, Place};
+use std::alloc::AllocError;
 use std::io::{self, ErrorKind};
 
 /// The calls of the system over a tree in memory, with what watches them. It tells that tree and
-/// meets each clause of `System`, so all of them can hold together if those of `Watch` can.
+/// meets each clause of `System`, so all of them can hold together: with `MemWatch`, for one.
 ///
 /// Each call but the notes fails with `Other` where the watch strikes. What is not there is
 /// `NotFound`, and no other error is that.
@@ -43,6 +44,13 @@ impl<W: Watch + Drop> MemSystem<W> {
             here: None,
             watch,
         }
+    }
+
+    /// What watches the calls.
+    pub fn watch(&self) -> &W
+        ensures { result.now ≡ self.now.watch }
+    {
+        &self.watch
     }
 
     /// Fails where the watch strikes.
@@ -182,12 +190,12 @@ impl<W: Watch + Drop> System for MemSystem<W> {
     }
 
     #[tactic(auto, using(crate::proofs::Systems::noted_answer))]
-    fn note(&mut self, place: &Place, answer: Answer) {
-        self.watch.note(place, answer);
+    fn note(&mut self, place: &Place, answer: Answer) -> Result<(), AllocError> {
+        self.watch.note(place, answer)
     }
 
     #[tactic(auto, using(crate::proofs::Systems::noted_read))]
-    fn note_read(&mut self, room: usize, answer: ReadAnswer) {
-        self.watch.note_read(room, answer);
+    fn note_read(&mut self, room: usize, answer: ReadAnswer) -> Result<(), AllocError> {
+        self.watch.note_read(room, answer)
     }
 }

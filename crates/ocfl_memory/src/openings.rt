@@ -1,6 +1,7 @@
 //! The openings and listings that a tree in memory notes.
-ghost use Rattle.std.specs.Prelude.{◌≡◌, ◌+◌, ◌^◌, ◌<◌, List, [], ◌∷◌, ◌++◌, length, OnOk, OnErr};
-ghost use Rattle.ocfl_tree.specs.Calls.{opening, with_given, with_failure};
+ghost use Rattle.std.specs.Prelude.{◌≡◌, ◌+◌, ◌^◌, ◌<◌, List, [], ◌∷◌, ◌++◌, length, IsOk, OnOk, OnErr};
+ghost use Rattle.ocfl_tree.specs.{Store.{failed_openings}, Calls.{opening, change_last, with_given, with_failure}};
+ghost use Rattle.ocfl_folder.specs.Noted.{IsReading};
 ghost use Rattle.ocfl_tree.specs.declared.store.Opening.{Opening};
 ghost use Rattle.ocfl_memory.specs.Faults.{is_struck, after_call};
 
@@ -27,7 +28,7 @@ pub(crate) fn note_opening(
 }
 
 /// Notes a listing.
-fn note_listing(listings: &mut Vec<Place>, place: &Place) -> Result<(), AllocError>
+pub(crate) fn note_listing(listings: &mut Vec<Place>, place: &Place) -> Result<(), AllocError>
     ensures ok { OnOk result (listings.new.items ≡ listings.old.items ++ place.now ∷ []) }
     ensures err { OnErr result (listings.new.items ≡ listings.old.items) }
 {
@@ -75,6 +76,41 @@ pub(crate) fn note_failure(openings: &mut Vec<Opening>)
 {
     let last = openings.len() - 1;
     openings[last].failed = true;
+}
+
+/// Adds to what the last opening gave, unless that is too much to be counted.
+pub(crate) fn add_given(openings: &mut Vec<Opening>, count: usize) -> Result<(), AllocError>
+    ensures ok { OnOk result (openings.new.items
+        ≡ change_last (with_given count) openings.old.items) }
+    ensures err { OnErr result (openings.new.items ≡ openings.old.items) }
+{
+    let Some(last) = openings.last() else {
+        return Ok(());
+    };
+    if last.given > u64::MAX - count as u64 {
+        return Err(AllocError);
+    }
+    note_given(openings, count);
+    Ok(())
+}
+
+/// Notes that the device failed in the last opening, unless that is noted, or none is there.
+pub(crate) fn add_failure(openings: &mut Vec<Opening>) -> Result<(), AllocError>
+    ensures ok { OnOk result (openings.new.items
+        ≡ change_last with_failure openings.old.items) }
+    ensures counted { OnOk result (failed_openings openings.new.items
+        ≡ failed_openings openings.old.items + 1) }
+    ensures err { OnErr result (openings.new.items ≡ openings.old.items) }
+    ensures kept { IsReading openings.old.items → IsOk result }
+{
+    let Some(last) = openings.last() else {
+        return Err(AllocError);
+    };
+    if last.failed {
+        return Err(AllocError);
+    }
+    note_failure(openings);
+    Ok(())
 }
 
 /// Counts a read of the file that was opened last, and reports whether it is made to fail.

@@ -1,7 +1,7 @@
 //! A system in memory, with links, in which things are exchanged between two calls, and calls fail.
 use ocfl_folder::{Answer, FsTree, Node, ReadAnswer, Seen, System};
 use ocfl_tree::{Kind, Name, Place, Tree, Trouble};
-use std::alloc::Global;
+use std::alloc::{AllocError, Global};
 use std::cell::{Cell, RefCell, RefMut};
 use std::io::{self, ErrorKind};
 use std::rc::Rc;
@@ -305,9 +305,13 @@ impl System for MemSystem {
         Ok(count)
     }
 
-    fn note(&mut self, _place: &Place, _answer: Answer) {}
+    fn note(&mut self, _place: &Place, _answer: Answer) -> Result<(), AllocError> {
+        Ok(())
+    }
 
-    fn note_read(&mut self, _room: usize, _answer: ReadAnswer) {}
+    fn note_read(&mut self, _room: usize, _answer: ReadAnswer) -> Result<(), AllocError> {
+        Ok(())
+    }
 }
 
 /// A folder over such a system, and how many calls it makes.

@@ -11,3 +11,4 @@ pub mod Reading
 pub mod Stores
 pub mod Trees
 mod CallLaws
+mod Cases

@@ -13,3 +13,4 @@ pub mod LineTexts
 mod Fields
 mod Growing
 mod FindingLaws
+mod Cases

@@ -5,3 +5,4 @@ mod Numbers
 mod Cuts
 pub mod Reports
 pub mod ItemCuts
+mod Cases

@@ -2,3 +2,4 @@ pub mod Names
 mod HashersLemmas
 mod HashingLemmas
 mod BoundedLemmas
+mod Cases

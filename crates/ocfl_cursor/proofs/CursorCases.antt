@@ -1,5 +1,5 @@
 -- Worked cases: cursors, their text, and why bytes are none.
-use Rattle.std.proofs.Common.{◌≡◌, ◌==◌, ◌+◌, ◌-◌, ◌∙◌, ℕ, zero, suc, List, [], ◌∷◌, ◌++◌, codes, refl, sym, ap, ap₂, inr, arith, Some, None, length, map, replicate, take, drop, get_or}
+use Rattle.std.proofs.Common.{◌≡◌, ◌==◌, ◌+◌, ◌-◌, ◌∙◌, ℕ, zero, suc, List, [], ◌∷◌, ◌++◌, codes, refl, sym, ap, ap₂, inl, inr, arith, Some, None, length, map, replicate, take, drop, get_or}
 use Rattle.std.specs.{Prelude.{◌&&◌, nat_le}, List.{slice_split}}
 use Prim.Native.String.{String}
 use Rattle.ocfl_tree.specs.Place.{Text, Place, text_eq}
@@ -7,7 +7,7 @@ use Rattle.ocfl_report.specs.declared.further.Further.TheVariants.{Nothing, Inve
 use Rattle.ocfl_cursor.specs.Cursor.{start, behind, ended, Cursor, IsCursor, new_cursor, cursor_lines, cursor_body, cursor_text, digest_line, version_one_body, version_one_text}
 use Rattle.ocfl_cursor.specs.{Part.{part_text}, declared.ends.PartEnds.{PartEnds}}
 use Rattle.ocfl_cursor.specs.Refusal.{refusal, is_cursor_front, is_version_read, IsTextOf}
-use Rattle.ocfl_cursor.specs.Refused.{first_reason}
+use Rattle.ocfl_cursor.specs.{Refused.{first_reason}, Moves.{at_start}, Shown.{IsShownFrom}, Stop.{max_part_text}}
 use Rattle.ocfl_cursor.specs.declared.refused.Refused.{Refused}
 use Rattle.ocfl_cursor.specs.declared.refused.Refused.TheVariants.{NotA, Version, Damaged, Malformed}
 use Rattle.ocfl_cursor.specs.declared.refused.TextKind.TheVariants as kind
@@ -332,3 +332,24 @@ version_two_with_its_line = refl
 text_too_long : refusal (codes "ocfl-scrub cursor 1\n" ++ replicate 262125 49) ≡ NotA kind.Cursor
 unfolding cursor_on_literals
 text_too_long = refl
+
+-- ---- moves
+
+-- it has had its runs all the same
+third_cycle_from_the_start : at_start third_cycle ≡ record third_cycle { state = start }
+third_cycle_from_the_start = refl
+
+-- ---- what is shown
+
+-- the stored bytes are the text, and not the lines that are shown of it
+stored_text_of_what_is_shown : IsShownFrom (Some (cursor_text (new_cursor Inventories))) (cursor_lines (new_cursor Inventories))
+stored_text_of_what_is_shown = record {
+  bytes = cursor_text (new_cursor Inventories);
+  are = inl (record { cursor = new_cursor Inventories; is_text = record { keeps = they_keep_the_rule.a_new_cursor; is = inl refl }; lines_are = refl });
+  stored = refl;
+}
+
+-- ---- parts
+
+most_bytes_of_a_part : max_part_text ≡ 67108864
+most_bytes_of_a_part = refl

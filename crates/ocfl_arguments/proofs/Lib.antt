@@ -4,3 +4,4 @@ mod Ends
 mod Numbers
 mod Units
 mod Stops
+mod Cases

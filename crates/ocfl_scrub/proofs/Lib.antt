@@ -39,3 +39,4 @@ mod PerformLaws
 mod ScopeLaws
 pub mod CycleRuns
 pub mod KeptRuns
+mod Cases

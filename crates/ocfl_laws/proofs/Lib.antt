@@ -11,3 +11,4 @@ mod HeadlineLaws
 mod CallsJoined
 mod CallsMade
 mod OpeningLaws
+mod Cases

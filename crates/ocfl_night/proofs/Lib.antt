@@ -23,3 +23,4 @@ pub mod Reading
 pub mod Halting
 mod Asking
 mod Again
+mod Cases

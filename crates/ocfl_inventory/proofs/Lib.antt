@@ -21,3 +21,4 @@ pub mod TripleOrders
 mod Inventories
 mod SharedFronts
 mod Fits
+mod Cases

@@ -15,3 +15,4 @@ pub mod Object
 pub mod Meta
 pub mod Inventories
 pub mod Walk
+pub mod Pieces

@@ -1,7 +1,7 @@
 -- Worked cases: whose inventories are read, and which directories are looked into.
 use Rattle.std.proofs.Common.{◌≡◌, [], ◌∷◌, codes, refl, Some, None}
 use Rattle.ocfl_tree.specs.StorageRoot.{StorageRoot}
-use Rattle.ocfl_rules.specs.{Trail.{inventories}, Between.{looked_between, read_between}}
+use Rattle.ocfl_rules.specs.{Trail.{inventories}, Between.{IsBeyond, IsWithin, looked_between, read_between}}
 use Rattle.ocfl_rules.proofs.Cases.OnLiterals.{audit_on_literals}
 use Rattle.ocfl_rules.proofs.Cases.Trees.{place, text_at, folder, storage_root, object_in, listing, lists_f}
 
@@ -49,3 +49,12 @@ unknown_root = text_at "0=ocfl_2.0" "ocfl_2.0\n" ∷ object_in "o" (listing list
 nothing_of_an_unknown_root : (inventories unknown_root ≡ []) × (looked_between unknown_root None None ≡ [] ∷ [])
 unfolding audit_on_literals looked_between
 nothing_of_an_unknown_root = (refl, refl)
+
+-- a place is not beyond itself, and is within itself
+ends_between_places : IsBeyond (Some (place "a")) (place "a/b") × (IsBeyond (Some (place "a")) (place "a") → ⊥) × IsWithin (Some (place "a")) (place "a") × (IsWithin (Some (place "a")) (place "a/b") → ⊥)
+ends_between_places = (refl, (λ e. absurd cc), refl, λ e. absurd cc)
+
+-- in order, however the tree is written
+read_in_order : read_between (storage_root (object_in "p" (listing lists_f) (object_in "b" (listing lists_f) []))) None None ≡ place "b" ∷ place "p" ∷ []
+unfolding audit_on_literals read_between
+read_in_order = refl

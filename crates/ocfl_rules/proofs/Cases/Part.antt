@@ -6,9 +6,9 @@ use Rattle.ocfl_report.specs.{Line.{Item}, Text.{text}}
 use Rattle.ocfl_report.specs.declared.further.Further.TheVariants.{Nothing}
 use Rattle.ocfl_rules.specs.Audit.{Unread, audit, after, total_cost}
 use Rattle.ocfl_rules.specs.{Due.{item_places, hashed_among}, Runs.{runs, of_budget}}
-use Rattle.ocfl_rules.specs.Parts.{Part, branch, within, places_within, parts_of, costs_of, file_counts, together, branch_end, enclosed}
+use Rattle.ocfl_rules.specs.Parts.{Part, branch, within, places_within, parts_of, costs_of, file_counts, together, audited_apart, branch_end, enclosed}
 use Rattle.ocfl_rules.proofs.Cases.OnLiterals.{audit_on_literals}
-use Rattle.ocfl_rules.proofs.Cases.Trees.{three_files_listing, three_files_content, three_files, three_objects, missing_and_right, place, the_root, clean, right}
+use Rattle.ocfl_rules.proofs.Cases.Trees.{folder, storage_root, three_files_listing, three_files_content, three_files, three_objects, missing_and_right, place, the_root, clean, right}
 use Rattle.ocfl_rules.proofs.Cases.Quiet.{audit_256}
 use Rattle.ocfl_rules.proofs.Cases.Run.{three_items, items_of_three_files, items_around_a_missing_file, slash_and_dash, slash_items, items_of_slash_and_dash}
 
@@ -99,6 +99,11 @@ enclosed_is_the_middle : parts_of (place "o" ∷ branch_end [] (codes "o") ∷ [
     ∷ record { under = []; from = Some (branch_end [] (codes "o")); below = None } ∷ []
 enclosed_is_the_middle = refl
 
+-- the branch of `a/b` ends before `a/b` with any byte but 0 behind it
+ends_of_a_branch : (branch_end (place "a") (codes "b") ≡ codes "a" ∷ (98 ∷ 1 ∷ []) ∷ [])
+    × (enclosed (place "a") (codes "b") ≡ record { under = []; from = Some (place "a/b"); below = Some (codes "a" ∷ (98 ∷ 1 ∷ []) ∷ []) })
+ends_of_a_branch = (refl, refl)
+
 -- ---- a missing file, and one that is right
 
 -- both lines of the missing file are in one part
@@ -161,3 +166,8 @@ joined_text first second = text (within (part_below "o/v1/content/b") first) ++ 
 audits_apart : joined_text (audit Nothing three_files first_unread) (audit Nothing three_files second_unread) ≡ codes "ok\t.\t-\nok\to\t-\nS08\to/v1/content/a\t-\nS08\to/v1/content/b\t-\nok\to/v1/content/c\t3\n"
 unfolding audit_on_literals
 audits_apart = λ k. joined_text (audit_256 three_files_listing three_files_content first_unread k) (audit_256 three_files_listing three_files_content second_unread k)
+
+-- each item is there once
+parts_of_a_small_root : text (audited_apart Nothing (storage_root (folder "x" ∷ folder "y" ∷ [])) ((part_below "y", []) ∷ (part_from "y", []) ∷ [])) ≡ codes "ok\t.\t-\nE073\tx\t-\nE073\ty\t-\n"
+unfolding audit_on_literals
+parts_of_a_small_root = refl

@@ -1,6 +1,6 @@
 -- Worked cases: runs by budgets, and what is left after a place. An audit of several cases is
 -- computed once, and its runs over its items.
-use Rattle.std.proofs.Common.{◌≡◌, ◌≤◌, ◌⊎◌, inl, inr, ℕ, arith, List, [], ◌∷◌, ◌++◌, codes, refl, Some, None, true, false, map, replicate, take}
+use Rattle.std.proofs.Common.{◌≡◌, ◌≤◌, ◌<◌, ◌⊎◌, inl, inr, ℕ, zero, suc, arith, ap, Option, List, [], ◌∷◌, ◌++◌, codes, refl, Some, None, true, false, map, replicate, take}
 use Prim.Native.String.{String}
 use Rattle.ocfl_tree.specs.{Place.{Text}, StorageRoot.{StorageRoot}}
 use Rattle.ocfl_report.specs.{Line.{Item, found}, declared.code.Code.TheVariants.{E023, E092, E093}}
@@ -9,7 +9,7 @@ use Rattle.ocfl_report.specs.declared.further.Further.TheVariants.{Nothing}
 use Rattle.ocfl_inventory.specs.Note.{note, plain}
 use Rattle.ocfl_digest.specs.declared.algorithm.Algorithm.TheVariants.{Sha256}
 use Rattle.ocfl_rules.specs.{Audit.{audit, after, total_cost}, Trail.{inventories}}
-use Rattle.ocfl_rules.specs.Runs.{Limits, cut, left, runs, joined, total_files, IsAtLeast, FileLimitFits, of_budget, sum_of}
+use Rattle.ocfl_rules.specs.Runs.{Limits, cut, left, runs, joined, total_files, StaysWithin, IsAtLeast, FileLimitFits, FilesFit, of_budget, sum_of, budget_cut, budget_left, budget_runs}
 use Rattle.ocfl_rules.proofs.Cases.OnLiterals.{audit_on_literals}
 use Rattle.ocfl_rules.proofs.Cases.Trees.{three_files_content, three_files_listing, missing_and_right_content, missing_and_right_listing, sha512_file_listing, Case, case, AllAre, Behind, behind, behind_each, place, text_at, folder, storage_root, sha256_object, f_is_abc, key, listing, lists_f, three_files, three_objects, missing_and_right, sha512_file, abc, item, the_root, clean, right}
 use Rattle.ocfl_rules.proofs.Cases.Quiet.{audit_512, audit_256}
@@ -143,11 +143,51 @@ limit_that_does_not_fit h = by h
     by (inl m) = omega (arith, m)
     by (inr m) = omega (arith, m)
 
+-- nor does it among others
+limits_that_do_not_fit : FilesFit three_items (limits_of 3 2 ∷ []) → ⊥
+limits_that_do_not_fit h = limit_that_does_not_fit (h 0 (limits_of 3 2) (omega arith))
+
+-- behind a file that spends the budget and is the last of its limit, what costs nothing is within
+free_item_behind_the_limits : StaysWithin (right "f" 4 "3" ∷ the_root ∷ []) (limits_of 4 1) 2
+free_item_behind_the_limits zero i before here costs = (omega arith, omega arith)
+free_item_behind_the_limits (suc zero) i before here costs = let e : 0 ≡ i.cost = ap cost_in here in absurd (omega (arith, e, costs))
+  where
+    cost_in : Option Item → ℕ
+    cost_in None = 0
+    cost_in (Some j) = j.cost
+free_item_behind_the_limits (suc (suc k)) i before here costs = absurd (omega (arith, before))
+
+-- and what costs something is not
+file_behind_the_limits : (StaysWithin three_items (limits_of 4 9) 4 → ⊥) × (StaysWithin three_items (limits_of 9 1) 4 → ⊥)
+file_behind_the_limits = (
+  (λ h. let m : 4 < 4 = (h 3 (right "o/v1/content/b" 1 "0") (omega arith) refl (omega arith)).0 in omega (arith, m)),
+  λ h. let m : 1 < 1 = (h 3 (right "o/v1/content/b" 1 "0") (omega arith) refl (omega arith)).1 in omega (arith, m),
+)
+
 limits_of_a_budget : of_budget 5 ≡ limits_of 5 4611686018427387904
 limits_of_a_budget = refl
 
 sums_of_budgets : (sum_of [] ≡ 0) × (sum_of (4 ∷ 1 ∷ 4 ∷ []) ≡ 9)
 sums_of_budgets = (refl, refl)
+
+-- ---- budgets alone
+
+-- what each run spends that looks at its budget alone
+abbrev costs_alone : List Item → List ℕ → List ℕ
+costs_alone items budgets = map total_cost (budget_runs items budgets)
+
+-- the second file is larger than what the first leaves of a budget of five, and the third begins
+-- where nothing is left of it
+runs_of_budgets_alone : (costs_alone three_items (replicate 4 5) ≡ 5 ∷ 4 ∷ []) × (costs_alone three_items (replicate 4 6) ≡ 9 ∷ []) × (costs_alone three_items (replicate 4 1) ≡ 4 ∷ 1 ∷ 4 ∷ [])
+runs_of_budgets_alone = (refl, refl, refl)
+
+cut_by_a_budget_alone : (budget_cut three_items 4 ≡ the_root ∷ clean "o" ∷ right "o/v1/content/a" 4 "3" ∷ [])
+    × (budget_left three_items 4 ≡ right "o/v1/content/b" 1 "0" ∷ right "o/v1/content/c" 4 "3" ∷ [])
+cut_by_a_budget_alone = (refl, refl)
+
+-- a cycle makes its first run on any items, and no other on none
+runs_of_no_items : (budget_runs [] (5 ∷ 5 ∷ []) ≡ [] ∷ []) × (budget_runs [] [] ≡ [])
+runs_of_no_items = (refl, refl)
 
 -- ---- places of runs
 

@@ -1,5 +1,5 @@
 -- Worked cases: content that can't be read.
-use Rattle.std.proofs.Common.{◌≡◌, ap, ℕ, ◌+◌, List, [], ◌∷◌, codes, refl, Bool, true, false, map, replicate}
+use Rattle.std.proofs.Common.{◌≡◌, ap, ℕ, ◌+◌, List, [], ◌∷◌, codes, refl, Bool, true, false, map, replicate, Some, None}
 use Prim.Native.String.{String}
 use Rattle.ocfl_tree.specs.{Place.{Text}, StorageRoot.{StorageRoot}}
 use Rattle.ocfl_tree.specs.declared.store.Opening.{Opening}
@@ -7,8 +7,8 @@ use Rattle.ocfl_report.specs.{Line.{Item, found}, declared.code.Code.TheVariants
 use Rattle.ocfl_report.specs.declared.further.Further.TheVariants.{Nothing}
 use Rattle.ocfl_inventory.specs.Note.{plain}
 use Rattle.ocfl_digest.specs.declared.algorithm.Algorithm.TheVariants.{Sha256}
-use Rattle.ocfl_rules.specs.Audit.{Unread, audit, total_cost}
-use Rattle.ocfl_rules.specs.Due.{item_places, items_at, hashed_among}
+use Rattle.ocfl_rules.specs.Audit.{Unread, given_by, audit, total_cost}
+use Rattle.ocfl_rules.specs.Due.{item_places, due, items_at, hashed_among}
 use Rattle.ocfl_rules.specs.{Trail.{unread_of, content_trail}, Runs.{runs, of_budget}}
 use Rattle.ocfl_rules.proofs.Cases.OnLiterals.{audit_on_literals}
 use Rattle.ocfl_rules.proofs.Cases.Trees.{quickly, three_files_content, three_files_listing, Case, AllAre, place, text_at, bytes_at, folder, sha256_object, f_is_abc, key, listing, listing_with, lists_f, three_files, abc, item, the_root, clean, right}
@@ -17,6 +17,9 @@ use Rattle.ocfl_rules.proofs.Cases.Quiet.{quick_256, audit_256, told}
 -- what could not be read if the file at this place gave only n bytes
 abbrev gave : String → ℕ → Unread
 gave p given = (place p, given) ∷ []
+
+given_by_each : (given_by ((place "a", 2) ∷ (place "b", 3) ∷ []) (place "b") ≡ Some 3) × (given_by ((place "a", 2) ∷ (place "b", 3) ∷ []) (place "c") ≡ None)
+given_by_each = (refl, refl)
 
 -- the text of the audit if one file of an object with a right sidecar gave only n bytes
 abbrev reports_unread : String → Text → StorageRoot → String → ℕ → String → Case
@@ -151,3 +154,9 @@ failed_inventory_is_no_unread_content = refl
 items_by_the_openings : text (items_at Nothing three_files openings (item_places Nothing three_files)) ≡ codes "ok\t.\t-\nok\to\t-\nS08\to/v1/content/a\t-\nok\to/v1/content/b\t0\nok\to/v1/content/c\t3\n"
 unfolding audit_on_literals item_places items_at
 items_by_the_openings = refl
+
+-- all places at the start, and those behind one
+places_that_are_due : (due Nothing three_files None ≡ [] ∷ place "o" ∷ place "o/v1/content/a" ∷ place "o/v1/content/b" ∷ place "o/v1/content/c" ∷ [])
+    × (due Nothing three_files (Some (place "o/v1/content/a")) ≡ place "o/v1/content/b" ∷ place "o/v1/content/c" ∷ [])
+unfolding audit_on_literals item_places due
+places_that_are_due = (refl, refl)

@@ -1,9 +1,12 @@
 -- Worked cases: the walk over a stack of listings and the table of one object.
-use Rattle.std.proofs.Common.{◌≡◌, ℕ, List, [], ◌∷◌, codes, refl, map}
+use Rattle.std.proofs.Common.{◌≡◌, ℕ, List, [], ◌∷◌, codes, refl, true, false, map}
 use Rattle.ocfl_tree.specs.{Place.{Text, Place}, StorageRoot.{StorageRoot}}
 use Rattle.ocfl_report.specs.Text.{text}
 use Rattle.ocfl_report.specs.declared.further.Further.TheVariants.{Nothing}
-use Rattle.ocfl_rules.specs.{Walk.{walk}, Stack.{taken, lists, listed_at}}
+use Rattle.ocfl_inventory.specs.Table.{Table}
+use Rattle.ocfl_digest.specs.declared.algorithm.Algorithm.TheVariants.{Sha512}
+use Rattle.ocfl_rules.specs.{Walk.{walk, step_listed}, Stack.{taken, lists, listed_at}}
+use Rattle.ocfl_rules.specs.Zone.{beginnings, is_listed_within}
 use Rattle.ocfl_rules.proofs.Cases.OnLiterals.{audit_on_literals}
 use Rattle.ocfl_rules.proofs.Cases.Trees.{Case, case, AllAre, Behind, behind, behind_each, place, text_at, folder, storage_root, missing_and_right, three_objects, sha512_file}
 
@@ -77,3 +80,22 @@ taken_from_the_hierarchy = refl
 walk_without_directory : text (walk Nothing 4 (storage_root (folder "a/b" ∷ text_at "a/b/0=ocfl_object_1.1" "ocfl_object_1.1\n" ∷ [])) [] []) ≡ codes "ok\t.\t-\n"
 unfolding audit_on_literals
 walk_without_directory = refl
+
+-- ---- the directories of an object
+
+abbrev table : Table
+table = record { algorithm = Sha512; content = codes "data"; triples = [] }
+
+-- its versions, and their content directories
+listed_in_an_object : (map (is_listed_within table) (place "v1" ∷ place "logs" ∷ place "v1/data" ∷ place "v1/content" ∷ place "logs/data" ∷ []) ≡ true ∷ false ∷ true ∷ false ∷ false ∷ [])
+listed_in_an_object = refl
+
+-- the same from the place above, and the name
+listed_by_the_next_name : (map (step_listed table []) (codes "v1" ∷ codes "logs" ∷ []) ≡ true ∷ false ∷ [])
+    × (map (step_listed table (place "v1")) (codes "data" ∷ codes "content" ∷ []) ≡ true ∷ false ∷ [])
+    × (map (step_listed table (place "logs")) (codes "data" ∷ codes "v1" ∷ []) ≡ false ∷ false ∷ [])
+listed_by_the_next_name = (refl, refl, refl)
+
+-- a place is none of its own
+beginnings_of_places : (beginnings [] ≡ []) × (beginnings (place "a/b/c") ≡ [] ∷ place "a" ∷ place "a/b" ∷ [])
+beginnings_of_places = (refl, refl)

@@ -35,3 +35,4 @@ pub mod ShutLaws
 mod ShortLaws
 mod StopLaws
 mod NearLaws
+mod Cases

@@ -35,3 +35,4 @@ pub mod HolderLaws
 pub mod WayDownLaws
 mod CutLaws
 mod FirstSteps
+mod Cases

@@ -1,10 +1,11 @@
 -- Worked cases: which directories split a storage root, and what is listed for it.
-use Rattle.std.proofs.Common.{◌≡◌, ℕ, List, [], ◌∷◌, ◌++◌, map, refl}
+use Rattle.std.proofs.Common.{◌≡◌, ℕ, List, [], ◌∷◌, ◌++◌, map, refl, Some, None}
 use Prim.Native.String.{String}
-use Rattle.ocfl_tree.specs.StorageRoot.{StorageRoot}
+use Rattle.ocfl_tree.specs.{Place.{Place}, StorageRoot.{StorageRoot}, Store.{Store}}
 use Rattle.ocfl_rules.proofs.Cases.Trees.{place, text_at, folder, link}
-use Rattle.ocfl_split.specs.Levels.{level}
-use Rattle.ocfl_split.specs.Splitting.{split_level, level_from, separators_of, listed_for, listed_from}
+use Rattle.ocfl_item.specs.declared.fault.Fault.{Fault}
+use Rattle.ocfl_split.specs.Levels.{level, LiesInHierarchy}
+use Rattle.ocfl_split.specs.Splitting.{split_level, level_from, separators_of, listed_for, listed_from, listed_within, next_level, room_below, deepest_level, held, ListsAll, ListsStop}
 
 abbrev places : List String → List (List (List ℕ))
 places ts = map place ts
@@ -103,3 +104,41 @@ beside_are = (refl, refl)
 undeclared : separators_of (folder "a" ∷ folder "b" ∷ []) 2 ≡ []
 unfolding split_level level_from
 undeclared = refl
+
+-- ---- what is held, and what is in the hierarchy
+
+-- a file is no directory of it
+file_of_the_hierarchy : LiesInHierarchy three (place "0=ocfl_1.1") → ⊥
+file_of_the_hierarchy lies = absurd (cc (lies.directory))
+
+-- 1,000,000 directories in all, of which three and two are held
+room_for_directories : room_below (places ("a" ∷ "b" ∷ "c" ∷ [])) (places ("d" ∷ "e" ∷ [])) ≡ 999995
+room_for_directories = refl
+
+next_levels : (next_level three 3 ([] ∷ []) ≡ Some (places ("o1" ∷ "o2" ∷ "o3" ∷ []))) × (next_level three 2 ([] ∷ []) ≡ None) × (next_level known_root 2 ([] ∷ []) ≡ None)
+next_levels = (refl, refl, refl)
+
+-- a level counts once, also if it is the last
+held_together : (held three 1 1 ≡ 3) × (held three 0 1 ≡ 4)
+held_together = (refl, refl)
+
+-- `a` has two directories
+listed_as_far_as_they_fit : (listed_within two_levels 2 (places ("a" ∷ "b" ∷ [])) ≡ places ("a" ∷ "b" ∷ [])) × (listed_within two_levels 1 (places ("a" ∷ "b" ∷ [])) ≡ places ("a" ∷ []))
+listed_as_far_as_they_fit = (refl, refl)
+
+-- a directory at depth 128 is not listed
+deepest_directories : deepest_level ≡ 128
+deepest_directories = refl
+
+-- ---- what a store tells
+
+listed_for_two : (s t : Store) → ListsAll two_levels s t (places ("a" ∷ "b" ∷ [])) → t.listings ≡ s.listings ++ places ("a" ∷ "b" ∷ [])
+listed_for_two s t lists = lists.did.listings_are
+
+-- nothing was to be listed
+listed_for_none : (s t : Store) (why : Fault) (lists : ListsStop two_levels s t [] why) → lists.listings ≡ []
+listed_for_none s t why lists = by lists.listings lists.front.0 (lists.front.1)
+  where
+    by : (ps rest : List Place) → [] ≡ ps ++ rest → ps ≡ []
+    by [] rest e = refl
+    by (p ∷ ps) rest e = absurd (cc e)

@@ -17,6 +17,9 @@ from gate.edits.above import PARTS
 from gate.edits.functions import functions_in
 from gate.pages.definitions import leaves
 
+# The comments of sources, and of definitions and proofs.
+COMMENTS = {".rt": re.compile(r"(?m)^ *//.*\n|(?<=[ ;{,])//.*$"),
+            ".antt": re.compile(r"(?m)^ *--.*\n")}
 # What a file takes from the definitions, lemmas and declarations of a crate of this repository.
 GHOST_USE = re.compile(r"(?m)^ *(?:pub )?(?:ghost )?(?:pub )?use Rattle\.(ocfl_\w+\..*?);?$")
 # What a source takes from others.
@@ -66,8 +69,8 @@ def files_of(crate: str) -> frozenset[File]:
 
 @functools.lru_cache(maxsize=None)
 def code_of(file: File) -> str:
-    """The text of a source without comments."""
-    return re.sub(r"(?m)^ *//.*\n|(?<=[ ;{,])//.*$", "", rounds.text_of(*file))
+    """The text of a file without comments."""
+    return COMMENTS[os.path.splitext(file.path)[1]].sub("", rounds.text_of(*file))
 
 
 @functools.lru_cache(maxsize=None)

@@ -5,9 +5,9 @@ What refuses an edit is read from the source and its proofs, from the definition
 crate that these cite, themselves or through others, and from what all of them cite by name of other
 files and of crates below: definitions and lemmas, and the statements of sources without bodies. An
 edit of a definition, or of more than the body of one function, may be refused anywhere in its
-crate, or by the laws that stand above it. Of the edits themselves only what they change is read,
-and not what they say. The file `gate/refused.tsv` keeps, by source, the sum of
-all this at which the edits of the gate were refused, and the commit at which that was seen."""
+crate, or by the laws that stand above it. Comments are left out, and of the edits themselves what
+they say. The file `gate/refused.tsv` keeps, by source, the sum of all this at which the edits of
+the gate were refused, and the commit at which that was seen."""
 from __future__ import annotations
 
 import functools
@@ -66,7 +66,7 @@ def sum_of(source: Source, edits: list[Edit]) -> str:
     """The SHA-256 of all that refuses the edits of a source, and of what tries them."""
     files, statements = read_by(*begun_by(source, edits))
     own = File(source.crate, "edits/%s.edits" % os.path.dirname(edits[0].path))
-    texts = [*((file, rounds.text_of(*file)) for file in files),
+    texts = [*((file, cited.code_of(file)) for file in files),
              *((it.file, it.text) for it in statements),
              (own, "".join(edit.text() for edit in edits))]
     found = hashlib.sha256(("logic %s\n%s\n" % (logic(), tactics(source.crate))).encode())

@@ -155,6 +155,14 @@ class Reads(Room):
         found = self.due_after("ocfl_high/src/item.rt", "\n    depth\n", "\n    depth + 0\n")
         self.assertEqual(found, {ITEM})
 
+    def test_comments_owe_nothing(self) -> None:
+        for path, old, new in [
+                ("ocfl_low/src/place.rt", "/// How many names it has.", "/// Its names, by number."),
+                ("ocfl_low/src/place.rt", "        self.names = 0;\n",
+                 "        // Nothing is left.\n        self.names = 0;\n"),
+                ("ocfl_low/specs/Order.antt", "is_less : ", "-- which comes first\nis_less : ")]:
+            self.assertEqual(self.due_after(path, old, new), set())
+
     def test_a_body_owes_nothing_above(self) -> None:
         found = self.due_after("ocfl_low/src/place.rt", "place.names\n", "place.names + 0\n")
         # (an edit of a definition may be refused by any function of its crate)
@@ -188,10 +196,6 @@ class Reads(Room):
     def test_a_type_owes_the_sources_that_cite_it(self) -> None:
         found = self.due_after("ocfl_low/src/place.rt", "names: u64,", "names: u32,")
         self.assertEqual(found, {PLACE, ORDER, WALK})
-
-    def test_what_is_said_of_a_type_owes_nothing_above(self) -> None:
-        found = self.due_after("ocfl_low/src/place.rt", "/// How many names", "/// The names")
-        self.assertEqual(found, {PLACE, ORDER})
 
     def test_definitions_owe_the_sources_that_cite_them(self) -> None:
         found = self.due_after("ocfl_low/specs/Order.antt", "→ ℕ", "→ ℕ → ℕ")

@@ -40,8 +40,8 @@ impl Model for ClosedCycle {
 }
 
 impl ClosedCycle {
-    /// A cycle by its number; whether its report is whole; whether lines of it were lost, or may have
-    /// been; and the places that were left out of it.
+    /// A cycle by its number; whether its report is whole; whether lines of it were lost, or may
+    /// have been; and the places that were left out of it.
     pub fn new(cycle: u64, whole: bool, lost: bool, left: Vec<Place>) -> ClosedCycle
         ensures cycle { result.cycle ≡ cycle }
         ensures whole { result.whole ≡ whole }
@@ -92,7 +92,8 @@ impl ClosedCycle {
     }
 }
 
-/// Whether a cycle can be compared with a report: that lost nothing and, with `only_whole`, is whole.
+/// Whether a cycle can be compared with a report: that lost nothing and, with `only_whole`, is
+/// whole.
 pub(crate) fn fits(only_whole: bool, whole: bool, lost: bool) -> bool
     ensures { result ≡ fits_by only_whole whole lost }
 {

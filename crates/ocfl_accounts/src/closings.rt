@@ -31,8 +31,8 @@ pub struct Found {
 ///
 /// A crash may come at any moment, in a call or between two. An account is put as a whole.
 pub trait Closings {
-    /// Whether the folder is as the clauses say. Of one that is not told, they say nothing. One that
-    /// does not state this is not told.
+    /// Whether the folder is as the clauses say. Of one that is not told, they say nothing. One
+    /// that does not state this is not told.
     ghost told: { Bool } = { false };
 
     /// What calls show.
@@ -80,8 +80,8 @@ pub trait Closings {
         ensures crash { IsTrue told → Passes may_leave moment left_since Same self.old self.new }
         ensures cause { IsTrue told → HasCause (faults self.old) (faults self.new) result };
 
-    /// Finds the changes of a closed cycle. Their list is the account that the next `put` puts. Of a
-    /// cycle whose report lost lines it finds none.
+    /// Finds the changes of a closed cycle. Their list is the account that the next `put` puts. Of
+    /// a cycle whose report lost lines it finds none.
     fn find(&mut self, pair: &Pair) -> Result<Found, ClosingStop>
         ensures finds { IsTrue told → IfOk result (λ it. Finds (seen self.old) pair.now
             (says (with self.old)) it.text.items it.is_grave (found self.new)) }

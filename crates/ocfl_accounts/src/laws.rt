@@ -30,7 +30,8 @@ pub fn a_status_below_3_says_that_all_is_said<C: Closings>()
 
 /// After a search for the first of 1,000 cycles that was not said, also one that failed, and a call
 /// that says the cycles from that one on: each of them was said in the call, or had its account
-/// before, or no report; or the status is 3 at least, and the next search finds it, or one below it.
+/// before, or no report; or the status is 3 at least, and the next search finds it, or one below
+/// it.
 pub fn each_cycle_is_said_or_found_again<C: Closings>()
     ensures { (with : C.With) (before after : Stand) (first end status cycle : ℕ)
         → NoneUnsaid before.kept (oldest cycle) first

@@ -15,8 +15,8 @@ use crate::pair::{Pair, find_pair, status_of};
 use ocfl_say::Say;
 use std::alloc::Global;
 
-/// Says what a closed cycle found, unless its account or no report of it is there, and then puts its
-/// account. Gives the status: 0 if there is nothing to say.
+/// Says what a closed cycle found, unless its account or no report of it is there, and then puts
+/// its account. Gives the status: 0 if there is nothing to say.
 ///
 /// The account is not put while the cycle can still be compared: then the next call says more.
 pub fn say_cycle<C: Closings, S: Say>(

@@ -10,9 +10,9 @@ use crate::closings::{ClosingStop, Closings};
 /// How many cycles back at most one is looked for that was not said.
 const MOST_UNSAID: u64 = 1_000;
 
-/// Takes a number of a cycle down to the first of the 1,000 before it whose report is there and that
-/// was not said, or leaves it as it is if all were said. If a call fails, it is the cycle that was
-/// looked at then, and none before it is unsaid.
+/// Takes a number of a cycle down to the first of the 1,000 before it whose report is there and
+/// that was not said, or leaves it as it is if all were said. If a call fails, it is the cycle that
+/// was looked at then, and none before it is unsaid.
 #[tactic(auto, using(crate::proofs::Causes::cause_on, crate::proofs::Passing::nothing_passes, crate::proofs::Passing::two_same, crate::proofs::UnsaidCycles::none_unsaid, crate::proofs::UnsaidCycles::one_more, crate::proofs::UnsaidCycles::all_said))]
 pub fn find_unsaid<C: Closings>(closings: &mut C, first: &mut u64) -> Result<(), ClosingStop>
     ensures below { IsTrue C.told

@@ -17,9 +17,9 @@ pub fn may_begin(ended: Option<u64>, now: u64, days: u64) -> bool
     now < ended || u128::from(now) >= next
 }
 
-/// Whether a night that begins now has to wait with a new cycle: one begins no less than so many days
-/// after the last one ended, if that is asked for. Where a cycle is open, which the night goes on
-/// with, it has not. Times are in seconds since the Unix epoch.
+/// Whether a night that begins now has to wait with a new cycle: one begins no less than so many
+/// days after the last one ended, if that is asked for. Where a cycle is open, which the night goes
+/// on with, it has not. Times are in seconds since the Unix epoch.
 pub fn must_wait(every: Option<u64>, is_open: bool, ended: Option<u64>, now: u64) -> bool
     ensures { result ≡ must_wait every is_open ended now }
 {

@@ -36,8 +36,8 @@ pub trait OpenReport {
     ghost short: { IsTrue told → (report : Self) → length (bytes report) < 2 ^ 63 };
 }
 
-/// What closings ask of the system, by the numbers of cycles. `Failed` is answered if a call failed,
-/// and `Memory` if memory was refused.
+/// What closings ask of the system, by the numbers of cycles. `Failed` is answered if a call
+/// failed, and `Memory` if memory was refused.
 ///
 /// One that states nothing of what is on the disk does not tell it.
 pub trait ClosedDisk {

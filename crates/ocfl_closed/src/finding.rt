@@ -441,8 +441,9 @@ fn search<D: ClosedDisk, T: TakeChange>(
     }
 }
 
-/// Takes the changes since the report of a cycle, outside of these places. The report of the pair is
-/// checked while it is read, but in the comparison with a whole report behind that with another one.
+/// Takes the changes since the report of a cycle, outside of these places. The report of the pair
+/// is checked while it is read, but in the comparison with a whole report behind that with another
+/// one.
 fn compare_with<D: ClosedDisk, T: TakeChange>(
     alloc: Global,
     disk: &mut D,

@@ -1,5 +1,5 @@
-//! What is seen of closed cycles in a state folder on a disk, and the lists of what is gone as their
-//! accounts, over the calls of the system that are made.
+//! What is seen of closed cycles in a state folder on a disk, and the lists of what is gone as
+//! their accounts, over the calls of the system that are made.
 #![tactic(auto)]
 
 mod account;

@@ -143,8 +143,8 @@ fn leaves_none(checkpoint: &Checkpoint) -> bool
     checkpoint.left.is_empty()
 }
 
-/// Whether lines of a report that is not whole were lost, or may have been: only the checkpoint with
-/// which it was closed may say that nothing is missing but what was left out.
+/// Whether lines of a report that is not whole were lost, or may have been: only the checkpoint
+/// with which it was closed may say that nothing is missing but what was left out.
 fn is_lost<D: ClosedDisk>(
     disk: &mut D,
     report: &D::Report,
@@ -163,9 +163,10 @@ fn is_lost<D: ClosedDisk>(
     }
 }
 
-/// Whether a report that is not there was whole, and whether lines of it were lost, by the checkpoint
-/// with which it was closed, and by the name of its compressed file. Where nothing says so it counts
-/// as a whole one; one that was closed as incomplete, though its checkpoint had all of it, lost lines.
+/// Whether a report that is not there was whole, and whether lines of it were lost, by the
+/// checkpoint with which it was closed, and by the name of its compressed file. Where nothing says
+/// so it counts as a whole one; one that was closed as incomplete, though its checkpoint had all of
+/// it, lost lines.
 fn away_by(kept: &Option<Checkpoint>, packed: bool) -> Look
     ensures { sight_of_look result ≡ away_of kept.now packed }
 {

@@ -31,7 +31,8 @@ fn read_part<F: OpenReport>(
     report.read_at(start, &mut buffer[..room])
 }
 
-/// Reads the bytes of a report from an offset on, and pushes them. Gives how many: 0 only at its end.
+/// Reads the bytes of a report from an offset on, and pushes them. Gives how many: 0 only at its
+/// end.
 fn push_part<D: ClosedDisk>(
     disk: &mut D,
     report: &D::Report,

@@ -47,8 +47,8 @@ impl<L: Write + Drop> TakeChange for Taking<'_, L> {
         (stand_of (L.contents v.list.out) v.words v.is_grave) first then p q };
 }
 
-/// Whether something is gone by a change, a finding is new that is not known, or a root inventory is
-/// another one without a newer version.
+/// Whether something is gone by a change, a finding is new that is not known, or a root inventory
+/// is another one without a newer version.
 fn is_news(change: Change, is_known: bool) -> bool
     ensures { (p : ModelPlace) (line : Option ModelLine)
         → result ≡ is_news_by (noted (change_at p change) line is_known) }

@@ -45,8 +45,8 @@ pub struct ClosingsEnd<C: Drop> {
 }
 
 /// Says what the cycles found whose closings were not said, from the first on of the 1,000 before
-/// the last one before the night, to the one that the night closed. Each text is made with the names,
-/// the known findings and the lines of the night. Says why a closing was not said.
+/// the last one before the night, to the one that the night closed. Each text is made with the
+/// names, the known findings and the lines of the night. Says why a closing was not said.
 pub fn say_closings<C: ClosingCalls + Drop, S: Say>(
     calls: C,
     said_by: &SaidBy<'_>,

@@ -29,8 +29,8 @@ fn are_digits(bytes: &[u8]) -> bool
     all_digits(bytes)
 }
 
-/// Whether a name is that of a version directory: `v` and then ASCII digits, at least one (OCFL 1.1,
-/// 3.3 Version Directories).
+/// Whether a name is that of a version directory: `v` and then ASCII digits, at least one (OCFL
+/// 1.1, 3.3 Version Directories).
 pub fn is_version_name(name: &str) -> bool
     ensures { result ≡ is_version_text name.now }
 {
@@ -50,9 +50,9 @@ fn is_version_path(path: &str) -> bool
     }
 }
 
-/// Whether a place is that of an inventory in a version directory, as `object/v1/inventory.json`: it
-/// has three names or more, of which the last is `inventory.json`, and the one before it is `v` and
-/// digits. An object at such a place is mistaken for an inventory.
+/// Whether a place is that of an inventory in a version directory, as `object/v1/inventory.json`:
+/// it has three names or more, of which the last is `inventory.json`, and the one before it is `v`
+/// and digits. An object at such a place is mistaken for an inventory.
 pub fn is_version_inventory(place: &Place) -> bool
     ensures { result ≡ is_inventory_place place.now }
 {

@@ -23,8 +23,8 @@ pub enum Kind {
     ObjectOrFile,
 }
 
-/// What the lines of a code are about. Those of an inventory by its sidecars are about an object here:
-/// [`is_of_object`] and [`is_of_file`] know the inventories in version directories.
+/// What the lines of a code are about. Those of an inventory by its sidecars are about an object
+/// here: [`is_of_object`] and [`is_of_file`] know the inventories in version directories.
 pub fn kind_of(code: Code) -> Kind
     ensures { result ≡ kind_by_code code }
 {

@@ -4,9 +4,9 @@
 //!
 //! - `weigh`, `kind_of`, `is_hiding`, `meaning` and `first_step` have a value for each code, which
 //!   is that of its definition. A new code without a row does not compile.
-//! - `is_of_object` and `is_of_file` tell what a line is of by its code, its place and its detail: a
-//!   line of an inventory in a version directory is of a file. `meaning_at` and `first_step_at` have
-//!   the words for it.
+//! - `is_of_object` and `is_of_file` tell what a line is of by its code, its place and its detail:
+//!   a line of an inventory in a version directory is of a file. `meaning_at` and `first_step_at`
+//!   have the words for it.
 //! - Just the findings have a weight (`findings_have_weights`).
 //! - `codes_text` and `codes_json` write the table, a row for each code (`each_code_has_one_row`).
 #![tactic(auto)]

@@ -68,8 +68,8 @@ fn version_meaning(code: Code) -> &'static str
     }
 }
 
-/// What is so of a place with a line of this code, in a few words: those of an inventory in a version
-/// directory are of that file, and not of its object.
+/// What is so of a place with a line of this code, in a few words: those of an inventory in a
+/// version directory are of that file, and not of its object.
 pub fn meaning_at(code: Code, place: &Place) -> &'static str
     ensures { result.now ≡ meaning_there code place.now }
 {

@@ -21,8 +21,8 @@ pub enum Change {
     Repaired(Code),
     /// An object of a list has no line of an object at the place.
     Missing,
-    /// Both reports note what the root inventory of the object is, and it is another one of the same
-    /// version; or one of the versions is not known.
+    /// Both reports note what the root inventory of the object is, and it is another one of the
+    /// same version; or one of the versions is not known.
     Rewritten,
     /// The same, but of an older version.
     WentBack,

@@ -34,8 +34,8 @@ struct Both {
 /// then the codes that were found there and were not before, and then those that are repaired, each
 /// code once; at last what became of an object's root inventory, if both reports note what it is. A
 /// finding is repaired only at a place that was looked at: it has lines in this report,
-/// and none behind which a finding may not be looked for, as where an object's head stops, or where a
-/// file could not be read or is no longer named.
+/// and none behind which a finding may not be looked for, as where an object's head stops, or where
+/// a file could not be read or is no longer named.
 ///
 /// Nothing is said of the places in `left` and of what is below them. All bytes of both readers
 /// are read as reports, and one line of each is in memory at a time. The taker sees each line once:

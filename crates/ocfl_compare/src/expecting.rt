@@ -17,8 +17,9 @@ use std::alloc::{AllocError, Global};
 use std::io::BufRead;
 
 /// Gives which objects of a list have no line of an object in a report, in the order of places,
-/// each once and as [`Change::Missing`](crate::Change::Missing), and sorts the list. Nothing is said
-/// of the places in `left` and of what is below them, nor of the storage root, which is no object.
+/// each once and as [`Change::Missing`](crate::Change::Missing), and sorts the list. Nothing is
+/// said of the places in `left` and of what is below them, nor of the storage root, which is no
+/// object.
 ///
 /// All bytes of the reader are read as a report. One line of it is in memory at a time, and the
 /// list twice. `CompareStop::Now` names a bad line of the report, and `Before` is never answered.

@@ -16,9 +16,9 @@ use std::io::Write;
 
 /// Writes a row for each change that makes something gone, and for each object whose root inventory
 /// is another one: a word, a tab, the place as reports write it, and a line feed. The word is
-/// `object`, `undeclared` for an object that is no longer declared, `file`, `expected` for an object
-/// of a list, or `changed`, `older` or `newer` for an inventory of the same version, of an older or of
-/// a newer one. Other changes have no row.
+/// `object`, `undeclared` for an object that is no longer declared, `file`, `expected` for an
+/// object of a list, or `changed`, `older` or `newer` for an inventory of the same version, of an
+/// older or of a newer one. Other changes have no row.
 #[derive(Drop)]
 pub struct GoneList<W: Write + Drop> {
     alloc: Global,

@@ -17,10 +17,11 @@ pub fn a_report_is_as_itself()
     ensures { (left : List Place) (lines : List Line) → comparison left lines lines ≡ [] }
 {}
 
-/// An object is gone from a place, or no longer declared, exactly if the report before has a line of
-/// it there, and this one has none: gone if this one has no line below the place either. A content
-/// file is gone exactly if the report before has a line of it at the place, this one has no line
-/// there at all, and the place is not below an object that is shut; below one, nobody looked for it.
+/// An object is gone from a place, or no longer declared, exactly if the report before has a line
+/// of it there, and this one has none: gone if this one has no line below the place either. A
+/// content file is gone exactly if the report before has a line of it at the place, this one has no
+/// line there at all, and the place is not below an object that is shut; below one, nobody looked
+/// for it.
 #[tactic(auto, using(crate::proofs::ChangeLaws::gone_is, crate::proofs::ChangeLaws::undeclared_is, crate::proofs::ChangeLaws::file_gone_is, crate::proofs::ChangeLaws::unlooked_is))]
 pub fn what_is_gone_is_the_difference()
     ensures objects { (shut has_lines : Bool) (before now : List Line)

@@ -5,10 +5,10 @@
 //!
 //! - `compare` writes exactly the changes between the two reports that its readers have
 //!   (`IsCompared`): objects with a line of them there and none here, content files whose place has
-//!   no line any more, findings whose code was not at the place, and findings whose code is there no
-//!   more, at places that were looked at; and objects whose root inventory both note, and differently.
-//!   Otherwise it names the first bad line, and of which report. Its taker sees each line of both reports once, in order, before the changes of its
-//!   place (`all_seen`).
+//!   no line any more, findings whose code was not at the place, and findings whose code is there
+//!   no more, at places that were looked at; and objects whose root inventory both note, and
+//!   differently. Otherwise it names the first bad line, and of which report. Its taker sees each
+//!   line of both reports once, in order, before the changes of its place (`all_seen`).
 //! - `find_expected` writes exactly which objects of a list have no line of an object in a report
 //!   (`IsSearched`), in the order of places, each once. `read_list` reads such a list from its
 //!   text, or names the first bad line.

@@ -25,8 +25,8 @@ impl From<AllocError> for TakeStop {
     }
 }
 
-/// What sees lines and takes changes, one after the other. Of each place it sees the lines first: those
-/// of the report before, then those of this one.
+/// What sees lines and takes changes, one after the other. Of each place it sees the lines first:
+/// those of the report before, then those of this one.
 pub trait TakeChange {
     /// How it stands before and after it saw these lines and took these changes, and no others.
     ghost takes: { Self → List Seen → Self → Type 0 };

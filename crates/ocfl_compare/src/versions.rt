@@ -33,7 +33,8 @@ fn head_of(note: &str) -> &str
     after_space(after_space(note))
 }
 
-/// The number in the name of a version. `None` of another text, and of a number of more than 64 bits.
+/// The number in the name of a version. `None` of another text, and of a number of more than 64
+/// bits.
 fn number_of(version: &str) -> Option<u64>
     ensures { result ≡ number_of_version version.now }
 {

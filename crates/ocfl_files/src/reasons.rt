@@ -62,8 +62,8 @@ impl Reasons {
         }
     }
 
-    /// Keeps why a place could not be read, if nothing is kept on it. What there is no memory for is
-    /// not kept.
+    /// Keeps why a place could not be read, if nothing is kept on it. What there is no memory for
+    /// is not kept.
     fn keep_first(&mut self, alloc: Global, place: &Place, words: &Option<String>)
         ensures kept { Keeps place.now (option_map string_bytes words.now) self.old.kept.items
             self.new.kept.items }

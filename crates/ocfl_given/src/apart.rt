@@ -11,7 +11,8 @@ use std::io;
 use std::path::Path;
 use std::rt::Files;
 
-/// Whether one of two folders is the other, or lies in it, by their paths from `/` on, without links.
+/// Whether one of two folders is the other, or lies in it, by their paths from `/` on, without
+/// links.
 pub fn overlap(one: Path<'_>, other: Path<'_>) -> bool
     ensures { IsTrue result ↔ Overlap (path_bytes one.entry) (path_bytes other.entry) }
 {

@@ -25,8 +25,8 @@ pub struct Given<'a> {
     /// The path of the storage root.
     pub root: String,
     pub known: Known,
-    /// When the clock next shows the time of day at which the night ends, in seconds since the epoch.
-    /// `None` if no such time is asked for.
+    /// When the clock next shows the time of day at which the night ends, in seconds since the
+    /// epoch. `None` if no such time is asked for.
     pub shown: Option<u64>,
     /// The SHA-256 of the program that makes the night, in hexadecimal digits; empty if it is not
     /// known.

@@ -304,8 +304,8 @@ fn reading_of_members(
 /// form (S03); `fixity` of a wrong form (S03). Else there is a table, and the lines are, in this
 /// order: digests that several keys have (E096, E097), bad paths (E100, E099, S06), paths that
 /// conflict (E101), and algorithms of fixity that are not computed (S07). The algorithm is that of
-/// `algorithm_of`, and the head is that of `head_of`, even if another key stops. The error is running
-/// out of memory.
+/// `algorithm_of`, and the head is that of `head_of`, even if another key stops. The error is
+/// running out of memory.
 pub fn read_inventory(alloc: Global, bytes: &[u8]) -> Result<InventoryReading, AllocError>
     ensures algorithm { IfOk result (λ r. r.algorithm ≡ result_ok (algorithm_of bytes.now)) }
     ensures head { IfOk result (λ r. option_map string_bytes r.head ≡ head_of bytes.now) }

@@ -1,5 +1,5 @@
-//! A night beside its runs: what is noted of it and logged while it is under way, and what is said and
-//! logged at its end.
+//! A night beside its runs: what is noted of it and logged while it is under way, and what is said
+//! and logged at its end.
 //!
 //! # What is proved
 //!
@@ -13,8 +13,8 @@
 //!
 //! And of a log that tells what it is asked for ([`NightLog`]):
 //!
-//! - Of the checkpoints that a night puts, the first one is logged as that which it took up, and then
-//!   each that leaves out more than before is logged with the last branch that it leaves out.
+//! - Of the checkpoints that a night puts, the first one is logged as that which it took up, and
+//!   then each that leaves out more than before is logged with the last branch that it leaves out.
 //! - Why the last line was not appended that was not is kept.
 #![tactic(auto)]
 

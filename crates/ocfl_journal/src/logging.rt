@@ -286,8 +286,8 @@ impl<L: NightLog + Drop> Journal<L> {
     }
 
     /// Appends the line of a place that a checkpoint names as left out, and why it was; that is
-    /// empty if it is not known. Or keeps why the line could not be appended. The only error is that
-    /// there is no memory for it; it is left out then.
+    /// empty if it is not known. Or keeps why the line could not be appended. The only error is
+    /// that there is no memory for it; it is left out then.
     pub(crate) fn left(&mut self, cycle: u64, left: &Left, why: &str) -> Result<(), AllocError>
         ensures logged { IsTrue L.told → OnOk result
             (Logs (left_row self.old.night cycle left.now why.now)

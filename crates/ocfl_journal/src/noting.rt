@@ -128,7 +128,8 @@ fn reading_of(alloc: Global, about: About<'_>) -> Result<Reading, AllocError>
     })
 }
 
-/// Notes on the checkpoints of a night that reads this and has not begun, where the nights stand so.
+/// Notes on the checkpoints of a night that reads this and has not begun, where the nights stand
+/// so.
 fn notes_of<L: NightLog + Drop>(
     reading: Reading,
     standing: Standing,
@@ -217,8 +218,8 @@ impl<F: Folder + StateFolder + Drop, L: NightLog + Drop> Noting<F, L> {
         &self.folder.observer.left
     }
 
-    /// Why a line of the log was not appended, if one was not: that the night began, or that a place
-    /// was left out.
+    /// Why a line of the log was not appended, if one was not: that the night began, or that a
+    /// place was left out.
     pub(crate) fn lost(&self) -> Option<StateReason>
         ensures { result ≡ self.now.folder.observer.journal.lost }
     {

@@ -25,8 +25,8 @@ use std::io::{BufRead, Cursor};
 const NOW: u64 = 1_767_225_600;
 
 /// The calls of closings in a state folder in memory: what is there from the start, which stays,
-/// and the log of the calls on lists of what is gone. They tell what is there, and what a power cut may
-/// leave of it: the most that the calls allow.
+/// and the log of the calls on lists of what is gone. They tell what is there, and what a power cut
+/// may leave of it: the most that the calls allow.
 pub struct MemClosingCalls {
     alloc: Global,
     closed: MemClosedFiles,

@@ -189,8 +189,8 @@ pub trait PartCalls {
         ensures names { IsTrue told → path.now ≡ reports_path (folder self.old).path
             → OnOk result (HasSureNames (disk self.new)) };
 
-    /// Says a text on standard error. The only error is running out of memory: a text that cannot be
-    /// written is passed over.
+    /// Says a text on standard error. The only error is running out of memory: a text that cannot
+    /// be written is passed over.
     fn say(&mut self, text: &str) -> Result<(), AllocError>
         ensures said { IsTrue told → OnOk result
             (folder self.new ≡ with_note text.now (folder self.old)) }

@@ -70,7 +70,8 @@ pub fn text_determines_the_lines()
 {}
 
 /// Each line is a finding but that of what is right and the notes, on an algorithm that is not
-/// computed and on what a root inventory is. Items are a finding exactly if a line of one of them is.
+/// computed and on what a root inventory is. Items are a finding exactly if a line of one of them
+/// is.
 #[tactic(auto, using(crate::proofs::FindingLaws::finding_codes))]
 pub fn findings_are_exact()
     ensures codes { (c : ModelCode)

@@ -58,8 +58,8 @@ impl Line {
         Ok(())
     }
 
-    /// Whether the line is a finding: every code is one but `ok` and the notes, on an algorithm that
-    /// is not computed and on what a root inventory is.
+    /// Whether the line is a finding: every code is one but `ok` and the notes, on an algorithm
+    /// that is not computed and on what a root inventory is.
     pub fn is_finding(&self) -> bool
         ensures { result ≡ is_finding_code self.now.code }
     {

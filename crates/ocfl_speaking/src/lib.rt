@@ -1,4 +1,5 @@
-//! What a night says of its report: its bytes come in, and the message about what was found goes out.
+//! What a night says of its report: its bytes come in, and the message about what was found goes
+//! out.
 #![tactic(auto)]
 
 mod heads;

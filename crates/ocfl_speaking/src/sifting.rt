@@ -16,8 +16,8 @@ const CLEAN: &[u8] = b"ok\t";
 /// How a line that finds nothing ends that is of an object, or of the storage root.
 const HEAD: &[u8] = b"\t-\n";
 
-/// What was found in the bytes of a report since that was asked last. Lines that are no report lines
-/// are left out and counted.
+/// What was found in the bytes of a report since that was asked last. Lines that are no report
+/// lines are left out and counted.
 #[derive(Drop)]
 pub struct Sifting {
     found: Found,
@@ -61,8 +61,8 @@ impl Sifting {
         self.broken
     }
 
-    /// Takes the next bytes, which may begin and end within a line, and leaves out what is known. To
-    /// be called with one list each time. It is not used again if memory runs out.
+    /// Takes the next bytes, which may begin and end within a line, and leaves out what is known.
+    /// To be called with one list each time. It is not used again if memory runs out.
     pub fn take(&mut self, alloc: Global, known: &Known, bytes: &[u8]) -> Result<(), AllocError>
         ensures { OnOk result ((g : Given) → IsSifted known.now self.old g
             → IsSifted known.now self.new (given_on g bytes.now)) }
@@ -105,8 +105,8 @@ impl Sifting {
         self.read(alloc, known, text)
     }
 
-    /// Whether a line is passed as that of a file that is right, in the object whose head came last.
-    /// Most are, and to read each would cost much.
+    /// Whether a line is passed as that of a file that is right, in the object whose head came
+    /// last. Most are, and to read each would cost much.
     fn is_passed(&self, text: &[u8]) -> bool
         ensures { (seen : Option Spot) → self.now.within.items ≡ beginning seen
             → result ≡ is_passed seen text.now }

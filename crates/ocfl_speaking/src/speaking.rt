@@ -15,7 +15,8 @@ use ocfl_messages::{Finding, Gravest, Heads, Known, Night, find_shown, night_tex
 use ocfl_report::{Code, Line};
 use std::alloc::{AllocError, Global};
 
-/// What makes the messages of a night. After a failure, which is that memory ran out, each call fails.
+/// What makes the messages of a night. After a failure, which is that memory ran out, each call
+/// fails.
 pub struct Speaker<'n> {
     alloc: Global,
     names: Names<'n>,
@@ -114,8 +115,8 @@ impl<'n> Speaker<'n> {
         taken
     }
 
-    /// The text about what was found since the message before, where the nights stand now. `reasons`
-    /// has why places could not be read, and `report` is the path of the report.
+    /// The text about what was found since the message before, where the nights stand now.
+    /// `reasons` has why places could not be read, and `report` is the path of the report.
     pub fn message(
         &mut self,
         now: Standing,
@@ -161,8 +162,8 @@ impl<'n> Speaker<'n> {
         self.gone = self.findings;
     }
 
-    /// The lines that were said: of each message those of the findings that it shows. None if one of
-    /// them did not go out that has findings.
+    /// The lines that were said: of each message those of the findings that it shows. None if one
+    /// of them did not go out that has findings.
     pub fn into_said(self) -> Vec<Line>
         ensures { result.items ≡ (if self.entry.findings == self.entry.gone
             then self.entry.said.items else []) }
@@ -194,8 +195,8 @@ fn count_of(found: &Gravest) -> u64
     u64::try_from(found.count()).unwrap_or(u64::MAX)
 }
 
-/// Appends the lines of the findings that a message shows. If memory runs out only the first of them
-/// are kept.
+/// Appends the lines of the findings that a message shows. If memory runs out only the first of
+/// them are kept.
 fn keep_shown(
     shown: Result<Vec<Finding>, AllocError>,
     said: &mut Vec<Line>,
@@ -241,8 +242,8 @@ fn last_run(now: Standing) -> u64
     now.runs.max(1)
 }
 
-/// The number of the first run whose findings are said. What earlier nights left unsaid may be of any
-/// run.
+/// The number of the first run whose findings are said. What earlier nights left unsaid may be of
+/// any run.
 fn first_run(said_to: Standing, now: Standing) -> u64
     ensures { result ≡ first_run said_to now }
 {

@@ -1,4 +1,5 @@
-//! The exit status of what lacks something, or finds something: of a night, a closing and a joining.
+//! The exit status of what lacks something, or finds something: of a night, a closing and a
+//! joining.
 #![tactic(auto)]
 
 mod status;

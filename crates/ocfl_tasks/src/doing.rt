@@ -49,8 +49,8 @@ pub(crate) fn file_note(error: &io::Error) -> Note
     }
 }
 
-/// Refuses a cursor's file of which this is known: whether it lies in the storage root. Says so, and
-/// gives the status.
+/// Refuses a cursor's file of which this is known: whether it lies in the storage root. Says so,
+/// and gives the status.
 pub(crate) fn refuse_inside<C: TaskCalls>(calls: &mut C, lies: io::Result<bool>) -> Option<u8>
     ensures status { result ≡ inside_status lies }
     ensures said { IsTrue C.told → C.calls calls.new ≡ C.calls calls.old ++ inside_calls lies }

@@ -102,7 +102,8 @@ fn say_unshown<C: TaskCalls>(calls: &mut C, why: &NotShown) -> u8
     }
 }
 
-/// Writes lines to an output, and gives the exit status: 0, or 3 if not all went out, which is said.
+/// Writes lines to an output, and gives the exit status: 0, or 3 if not all went out, which is
+/// said.
 fn write_lines<C: TaskCalls, W: Write>(calls: &mut C, out: &mut W, lines: &[u8]) -> u8
     ensures status { (result ≡ 0) ⊎ (result ≡ 3) }
     ensures wrote { result ≡ 0 → Appends (W.contents out.old) (W.contents out.new) lines.now }

@@ -11,8 +11,8 @@
 //! - `say_no_scope` gives the status of the reason.
 //! - `why_no_place` says why a path names no place, by the first of its names that is empty, `.` or
 //!   `..` (`no_place_text`).
-//! - Why a folder is not listed is said with a name only if one that is not UTF-8 was read there, and
-//!   that is shown in printable ASCII (`IsWhy`).
+//! - Why a folder is not listed is said with a name only if one that is not UTF-8 was read there,
+//!   and that is shown in printable ASCII (`IsWhy`).
 #![tactic(auto)]
 
 mod absolute;

@@ -10,8 +10,8 @@ use ocfl_report::{DisplayPlace, TextStop, read_place};
 use ocfl_tree::{Place, is_text};
 use std::alloc::{AllocError, Global};
 
-/// Makes a word the text of a path as reports write it. A word that reads so stays as it is; another
-/// is the path by its names; one that is the path of no place stays as it is.
+/// Makes a word the text of a path as reports write it. A word that reads so stays as it is;
+/// another is the path by its names; one that is the path of no place stays as it is.
 pub(crate) fn write_as_reports(alloc: Global, word: &mut String) -> Result<(), AllocError>
     ensures { OnOk result (IsAsReports (string_bytes word.old) (string_bytes word.new)) }
 {

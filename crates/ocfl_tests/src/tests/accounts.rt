@@ -9,8 +9,8 @@ use ocfl_tree::Place;
 use std::alloc::Global;
 use std::test::Fail;
 
-/// What is there of a cycle: a whole report, one that lost lines, one that left a place out; or none,
-/// of a whole report, of one that lost lines, or of one that left a place out.
+/// What is there of a cycle: a whole report, one that lost lines, one that left a place out; or
+/// none, of a whole report, of one that lost lines, or of one that left a place out.
 #[derive(Clone, Copy, PartialEq, Eq)]
 enum Kept {
     Whole,
@@ -68,8 +68,8 @@ fn put_in(alloc: Global, closings: &MemClosings) -> Result<Vec<u64>, Fail> {
     Ok(numbers)
 }
 
-/// The cycles that one is compared with: the last one that lost nothing, and the last one whole; and
-/// the last one that is missing before each.
+/// The cycles that one is compared with: the last one that lost nothing, and the last one whole;
+/// and the last one that is missing before each.
 const EARLIER: [(&[Kept], u64, [Option<u64>; 4]); 9] = [
     (&[], 1, [None, None, None, None]),
     (&[Kept::Whole], 2, [Some(1), None, Some(1), None]),

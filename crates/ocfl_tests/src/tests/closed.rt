@@ -210,8 +210,8 @@ impl ClosedDisk for OneCycle {
     }
 }
 
-/// What was kept of a cycle when it was closed: nothing, other bytes, or a checkpoint, by whether it
-/// is whole, whether it leaves a place out, and whether it has the mark of the report.
+/// What was kept of a cycle when it was closed: nothing, other bytes, or a checkpoint, by whether
+/// it is whole, whether it leaves a place out, and whether it has the mark of the report.
 #[derive(Clone, Copy)]
 enum Kept {
     Nothing,

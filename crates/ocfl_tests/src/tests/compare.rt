@@ -71,8 +71,8 @@ const NEW_FINDINGS: [(&str, &str, &str); 14] = [
     ("S07\to\tblake2b\n", "ok\to\t-\n", ""),
 ];
 
-/// Two reports of which the second may lack a finding because nobody looked for it, and what changed
-/// between them.
+/// Two reports of which the second may lack a finding because nobody looked for it, and what
+/// changed between them.
 const HIDDEN: [(&str, &str, &str); 8] = [
     // The head stops: at its inventory, or before it.
     (

@@ -4,8 +4,8 @@ use ocfl_messages::{Known, Night, night_text};
 use std::alloc::Global;
 use std::test::Fail;
 
-/// Findings of two objects. In Unicode `\u{fc}` and `u` with `\u{308}` are one letter, and `\u{1e69}` is
-/// `s` with two dots, in either order.
+/// Findings of two objects. In Unicode `\u{fc}` and `u` with `\u{308}` are one letter, and
+/// `\u{1e69}` is `s` with two dots, in either order.
 const RESPELT: &str = "ok\t.\t-\nok\to\t-\n\
 E092\to/v1/content/Bu%CC%88r%25\tsha512 missing\nE023\to/v1/content/B%C3%BCr%25\t-\n\
 E092\to/v1/content/M%C3%BC\tsha512 missing\nE023\to/v1/content/Mu\t-\n\

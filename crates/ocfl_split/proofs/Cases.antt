@@ -1,11 +1,11 @@
 -- Worked cases: which directories split a storage root, and what is listed for it.
-use Rattle.std.proofs.Common.{◌≡◌, ℕ, List, [], ◌∷◌, ◌++◌, map, refl, Some, None}
+use Rattle.std.proofs.Common.{◌≡◌, ◌<◌, ◌≤◌, ℕ, List, [], ◌∷◌, ◌++◌, map, refl, Some, None, arith}
 use Prim.Native.String.{String}
 use Rattle.ocfl_tree.specs.{Place.{Place}, StorageRoot.{StorageRoot}, Store.{Store}}
 use Rattle.ocfl_rules.proofs.Cases.Trees.{place, text_at, folder, link}
 use Rattle.ocfl_item.specs.declared.fault.Fault.{Fault}
 use Rattle.ocfl_split.specs.Levels.{level, LiesInHierarchy}
-use Rattle.ocfl_split.specs.Splitting.{split_level, level_from, separators_of, listed_for, listed_from, listed_within, next_level, room_below, deepest_level, held, ListsAll, ListsStop}
+use Rattle.ocfl_split.specs.Splitting.{split_level, level_from, separators_of, listed_for, listed_from, listed_within, next_level, room_below, deepest_level, held, IsSplitLevel, ListsAll, ListsStop}
 
 abbrev places : List String → List (List (List ℕ))
 places ts = map place ts
@@ -89,6 +89,14 @@ waist = known_root ++ folder "a" ∷ folder "a/b" ∷ object_at "a/b/o1" "a/b/o1
 waist_by_count : (separators_of waist 2 ≡ places ("o" ∷ [])) × (separators_of waist 3 ≡ places ("a/b/o2" ∷ []))
 unfolding split_level level_from
 waist_by_count = (refl, refl)
+
+-- and the upper of the two is not, where the lower one is reached
+waist_is_split_below : (split : IsSplitLevel waist 3 1) → 3 ≤ split.last → ⊥
+waist_is_split_below split reached = let less : 2 < 2 = split.lowest 3 (omega arith) reached in absurd (omega (arith, less))
+
+-- nor is a level below a wider one
+narrowing_is_split_above : IsSplitLevel narrowing 10 2 → ⊥
+narrowing_is_split_above split = let wide : 3 ≤ 1 = split.widest 1 (omega (arith, split.reached)) in absurd (omega (arith, wide))
 
 -- no directories; what is no directory; extensions; a storage root that declares nothing
 nothing_there : (separators_of known_root 2 ≡ []) × (listed_for known_root 2 ≡ [] ∷ [])

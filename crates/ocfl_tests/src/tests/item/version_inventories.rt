@@ -102,55 +102,57 @@ fn assert_nothing_else(visit: &Visit) -> Result<(), Fail> {
     Ok(())
 }
 
+/// What a version directory has, and the lines of its inventory.
+const ROWS: [(&str, &[(&str, &str)], &str); 9] = [
+    (
+        "right",
+        &[(INVENTORY, RIGHT), (SHORT, BESIDE_SHORT)],
+        "ok|INVENTORY|54\n",
+    ),
+    (
+        "flipped",
+        &[(INVENTORY, FLIPPED), (SHORT, BESIDE_SHORT)],
+        "E060|INVENTORY|SHORT_FLIPPED\nE064|INVENTORY|SHORT_FLIPPED\n",
+    ),
+    (
+        "cut",
+        &[(INVENTORY, CUT), (SHORT, BESIDE_SHORT)],
+        "E060|INVENTORY|SHORT_CUT\nE064|INVENTORY|SHORT_CUT\n",
+    ),
+    ("no sidecar", &[(INVENTORY, RIGHT)], "E058|INVENTORY|-\n"),
+    (
+        "flipped without a sidecar",
+        &[(INVENTORY, FLIPPED)],
+        "E058|INVENTORY|-\nE064|INVENTORY|SHORT_FLIPPED\n",
+    ),
+    (
+        "the sidecar of the other algorithm",
+        &[(INVENTORY, RIGHT), (LONG, BESIDE_LONG)],
+        "ok|INVENTORY|54\n",
+    ),
+    (
+        "flipped beside the sidecar of the other algorithm",
+        &[(INVENTORY, FLIPPED), (LONG, BESIDE_LONG)],
+        "E060|INVENTORY|LONG_FLIPPED\nE064|INVENTORY|SHORT_FLIPPED\n",
+    ),
+    (
+        "a sidecar that is not of the form",
+        &[(INVENTORY, RIGHT), (SHORT, "x")],
+        "E061|INVENTORY|sha256\n",
+    ),
+    (
+        "a directory for a sidecar",
+        &[(INVENTORY, RIGHT), ("o/v1/inventory.json.sha256/", "")],
+        "E058|INVENTORY|-\n",
+    ),
+];
+
 #[test]
 fn inventories_of_versions_are_compared_with_their_sidecars_and_the_root_inventory(
     rt: HostRuntime,
 ) -> Result<(), Fail> {
     let alloc = rt.alloc();
-    let rows: [(&str, &[(&str, &str)], &str); 9] = [
-        (
-            "right",
-            &[(INVENTORY, RIGHT), (SHORT, BESIDE_SHORT)],
-            "ok|INVENTORY|54\n",
-        ),
-        (
-            "flipped",
-            &[(INVENTORY, FLIPPED), (SHORT, BESIDE_SHORT)],
-            "E060|INVENTORY|SHORT_FLIPPED\nE064|INVENTORY|SHORT_FLIPPED\n",
-        ),
-        (
-            "cut",
-            &[(INVENTORY, CUT), (SHORT, BESIDE_SHORT)],
-            "E060|INVENTORY|SHORT_CUT\nE064|INVENTORY|SHORT_CUT\n",
-        ),
-        ("no sidecar", &[(INVENTORY, RIGHT)], "E058|INVENTORY|-\n"),
-        (
-            "flipped without a sidecar",
-            &[(INVENTORY, FLIPPED)],
-            "E058|INVENTORY|-\nE064|INVENTORY|SHORT_FLIPPED\n",
-        ),
-        (
-            "the sidecar of the other algorithm",
-            &[(INVENTORY, RIGHT), (LONG, BESIDE_LONG)],
-            "ok|INVENTORY|54\n",
-        ),
-        (
-            "flipped beside the sidecar of the other algorithm",
-            &[(INVENTORY, FLIPPED), (LONG, BESIDE_LONG)],
-            "E060|INVENTORY|LONG_FLIPPED\nE064|INVENTORY|SHORT_FLIPPED\n",
-        ),
-        (
-            "a sidecar that is not of the form",
-            &[(INVENTORY, RIGHT), (SHORT, "x")],
-            "E061|INVENTORY|sha256\n",
-        ),
-        (
-            "a directory for a sidecar",
-            &[(INVENTORY, RIGHT), ("o/v1/inventory.json.sha256/", "")],
-            "E058|INVENTORY|-\n",
-        ),
-    ];
-    for (row, changes, want) in rows {
+    for (row, changes, want) in &ROWS {
         let mut store = root(alloc, RIGHT)?;
         change(alloc, &mut store, changes)?;
         let lines = lines_met(alloc, &mut store, Further::Inventories, "inventory.json")?;

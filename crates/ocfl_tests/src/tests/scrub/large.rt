@@ -193,6 +193,13 @@ fn lines_of_an_item_go_out_as_one_piece(rt: HostRuntime) -> Result<(), Fail> {
     }
     // Some items have more than one line.
     assert!(rt; pieces > 5);
+    Ok(())
+}
+
+#[test]
+fn lines_of_a_missing_file_go_out_as_one_piece(rt: HostRuntime) -> Result<(), Fail> {
+    let alloc = rt.alloc();
+    let mut block = Block::new(alloc)?;
     let mut out = Counting::new(alloc);
     let (listed, missing) = ("v1/content/g", "o/v1/content/g");
     let fixity = format!(in alloc; "\"md5\":{{\"ABC_MD5\":[\"{listed}\"]}}")?;

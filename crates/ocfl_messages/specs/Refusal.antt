@@ -27,7 +27,8 @@ names_gone_text gone before root = decimal gone ++ codes " of the " ++ decimal b
 
 abbrev pub older_text : ℕ → Text → Text
 older_text cycle state = escape state ++ codes "/checkpoint is older than " ++ escape state ++ codes "/reports, where cycle " ++ decimal cycle
-    ++ codes " is closed already. Put back the newest checkpoint. If there is none, move its report to another folder, and copy the last reports/checkpoint-N to checkpoint."
+    ++ codes " is closed already. Put back its newest copy. If there is none, move " ++ escape state ++ codes "/report to another folder, and copy the last checkpoint-N in "
+    ++ escape state ++ codes "/reports to " ++ escape state ++ codes "/checkpoint."
 
 abbrev pub root_changed_text : Text → Text
 root_changed_text root = escape root ++ codes " is not the storage root that the night began with: is its file system mounted?"

@@ -322,7 +322,8 @@ fn damaged(alloc: Global, count: usize) -> Result<String, Fail> {
 }
 
 /// The numbers of damaged objects, those that are shown whole, those with one line, and those with
-/// none. A message has 24 lines for objects: the first one has five if it is whole, each other four.
+/// none. A message has 24 lines for objects: the first one has five if it is whole, each other
+/// four.
 const CUT: [(usize, usize, usize, usize); 6] = [
     (1, 1, 0, 0),
     (5, 5, 0, 0),
@@ -558,47 +559,50 @@ fn known_findings_are_left_out(rt: HostRuntime) -> Result<(), Fail> {
     Ok(())
 }
 
+/// What a night refuses a root or a folder for, and the message.
+const REFUSALS: [(RefusalMessage, &str); 7] = [
+    (
+        RefusalMessage::NoCheckpoint,
+        "S has no checkpoint: is its file system mounted? For a first night, give --create. \
+         Nothing was run.\n",
+    ),
+    (
+        RefusalMessage::OtherRoot("/srv/\u{1b}[2J"),
+        "S belongs to the storage root /srv/%1B[2J, and this one is R. A root at another path \
+         needs a new state folder, whose first cycle is compared with nothing. To find what was \
+         lost in the move, give --expected the list that ocfl-scrub-reports expected 'S' \
+         writes. Nothing was run.\n",
+    ),
+    (
+        RefusalMessage::NamesGone { gone: 3, before: 5 },
+        "3 of the 5 names in R are gone: is its file system mounted? --force-root runs it \
+         anyway. Nothing was run.\n",
+    ),
+    (
+        RefusalMessage::Older { cycle: 7 },
+        "S/checkpoint is older than S/reports, where cycle 7 is closed already. Put back its \
+         newest copy. If there is none, move S/report to another folder, and copy the last \
+         checkpoint-N in S/reports to S/checkpoint. Nothing was run.\n",
+    ),
+    (
+        RefusalMessage::OtherAudit(Further::Nothing),
+        "S: the folder's nights are of an audit without --inventories. Nothing was run.\n",
+    ),
+    (
+        RefusalMessage::OtherAudit(Further::Inventories),
+        "S: the folder's nights are of an audit with --inventories. Nothing was run.\n",
+    ),
+    (
+        RefusalMessage::RootChanged,
+        "R is not the storage root that the night began with: is its file system mounted? The \
+         run does not count; the next night makes it again.\n",
+    ),
+];
+
 #[test]
 fn refusals_say_why(rt: HostRuntime) -> Result<(), Fail> {
     let alloc = rt.alloc();
-    for (refusal, wanted) in [
-        (
-            RefusalMessage::NoCheckpoint,
-            "S has no checkpoint: is its file system mounted? For a first night, give --create. \
-             Nothing was run.\n",
-        ),
-        (
-            RefusalMessage::OtherRoot("/srv/\u{1b}[2J"),
-            "S belongs to the storage root /srv/%1B[2J, and this one is R. A root at another path \
-             needs a new state folder, whose first cycle is compared with nothing. To find what was \
-             lost in the move, give --expected the list that ocfl-scrub-reports expected 'S' \
-             writes. Nothing was run.\n",
-        ),
-        (
-            RefusalMessage::NamesGone { gone: 3, before: 5 },
-            "3 of the 5 names in R are gone: is its file system mounted? --force-root runs it \
-             anyway. Nothing was run.\n",
-        ),
-        (
-            RefusalMessage::Older { cycle: 7 },
-            "S/checkpoint is older than S/reports, where cycle 7 is closed already. Put back the \
-             newest checkpoint. If there is none, move its report to another folder, and copy the \
-             last reports/checkpoint-N to checkpoint. Nothing was run.\n",
-        ),
-        (
-            RefusalMessage::OtherAudit(Further::Nothing),
-            "S: the folder's nights are of an audit without --inventories. Nothing was run.\n",
-        ),
-        (
-            RefusalMessage::OtherAudit(Further::Inventories),
-            "S: the folder's nights are of an audit with --inventories. Nothing was run.\n",
-        ),
-        (
-            RefusalMessage::RootChanged,
-            "R is not the storage root that the night began with: is its file system mounted? The \
-             run does not count; the next night makes it again.\n",
-        ),
-    ] {
+    for (refusal, wanted) in REFUSALS {
         let text = refusal_text(alloc, refusal, "R", "S")?;
         assert_eq!(rt; text.as_str(), wanted);
     }

@@ -5,7 +5,7 @@ ghost use Rattle.std.specs.Prelude.{decimal, length, map, take, IfOk, OnOk, stri
 ghost use Rattle.ocfl_report.specs.Line.{line_of};
 ghost use Rattle.ocfl_messages.specs.{Finding.{Finding as ModelFinding, finding_of}, Gravest.{IsOf, by_weight}};
 ghost use Rattle.ocfl_messages.specs.Closing.{closing_text as text_of_closing, above_text, alone_text, back_head, back_line, back_lines, back_text, changed_text, counted_text, counts_text, ended_text, gone_lines, gone_line, not_shown, new_head, repaired_head, gone_head, gone_text, is_unmoved as is_unmoved_by, kind_text, lead_of, moved_text, new_text, repaired_line, repaired_lines, repaired_text, not_known_text, not_whole_text, run_count_text, since_text, some_above_text, some_gone_text, some_moved_text, some_new_text, some_run_count_text, some_unlooked_text, summary_text, uncompared_text, unlooked_text, unsaid_text};
-ghost use Rattle.ocfl_messages.specs.Closing.{back_room as room_of_back, behind_gone as left_behind_gone, behind_new as left_behind_new, changed_command as command_of_changes, gone_room as room_of_gone, list_command as command_of_list, most_of, new_lines as lines_of_new, new_room as room_of_new, repaired_room as room_of_repaired, room_of_sections as all_room, section_lines as lines_of_section, two_unless as two_lines_unless};
+ghost use Rattle.ocfl_messages.specs.Closing.{changed_command as command_of_changes, list_command as command_of_list, new_room as room_of_new};
 ghost use Rattle.ocfl_messages.specs.Night.{more_text};
 
 use crate::appending::put_made;
@@ -14,6 +14,7 @@ use crate::finding::Finding;
 use crate::gravest::Gravest;
 use crate::many::{are, many, size};
 use crate::night::{more, put_some};
+use crate::room::{back_room, gone_room, most, new_room, repaired_room, unsaid};
 use crate::shown::Shown;
 use crate::tally::Counts;
 use crate::wording::put_said;
@@ -23,9 +24,6 @@ use std::alloc::{AllocError, Global};
 
 /// How many of what is gone, repaired or back a closing shows at most, or more.
 pub const SHOWN: usize = 20;
-
-/// How many lines it has at most.
-const MOST_LINES: usize = 13;
 
 /// What is gone.
 #[derive(Clone, Copy)]
@@ -308,116 +306,6 @@ fn put_more(
 {
     let left = count.saturating_sub(listed.min(most(room, count)) as u64);
     put_made(more(alloc, command, file, u128::from(left)), text)
-}
-
-/// How many are shown of `count`: all if each has a line behind the first one, and else there is a
-/// line for the number of the rest.
-fn most(room: usize, count: u64) -> usize
-    ensures { result ≡ most_of room count }
-{
-    if count < room as u64 {
-        room - 1
-    } else {
-        room.saturating_sub(2)
-    }
-}
-
-fn two_unless(is_none: bool) -> usize
-    ensures { result ≡ two_lines_unless is_none }
-{
-    if is_none { 0 } else { 2 }
-}
-
-/// How many lines a section has of `count`.
-fn section_lines(room: usize, count: u64) -> usize
-    ensures { result ≡ lines_of_section room count }
-{
-    if count == 0 {
-        0
-    } else if count < room as u64 {
-        count as usize + 1
-    } else {
-        room
-    }
-}
-
-/// How many lines there are for sections.
-fn room_of_sections(closing: &Closing<'_>) -> usize
-    ensures { result ≡ all_room closing.now }
-{
-    let word = if closing.whole { 2 } else { 3 };
-    let why = usize::from(!closing.uncompared.is_empty());
-    MOST_LINES - word - why - usize::from(closing.unlooked != 0)
-}
-
-/// How many of the new findings are not said yet.
-fn unsaid(closing: &Closing<'_>) -> u64
-    ensures { result ≡ closing.now.appeared_count - closing.now.said }
-{
-    closing.appeared_count.saturating_sub(closing.said)
-}
-
-/// How many lines there are for what is gone.
-fn gone_room(closing: &Closing<'_>) -> usize
-    ensures { result ≡ room_of_gone closing.now }
-{
-    room_of_sections(closing)
-        .saturating_sub(two_unless(closing.appeared_count == 0))
-        .saturating_sub(two_unless(closing.repaired_count == 0))
-        .saturating_sub(two_unless(closing.back_count == 0))
-}
-
-/// How many are left behind what is gone.
-fn behind_gone(closing: &Closing<'_>) -> usize
-    ensures { result ≡ left_behind_gone closing.now }
-{
-    let gone = section_lines(gone_room(closing), closing.gone_count);
-    room_of_sections(closing).saturating_sub(gone)
-}
-
-/// How many lines there are for what is new.
-fn new_room(closing: &Closing<'_>) -> usize
-    ensures { result ≡ room_of_new closing.now }
-{
-    behind_gone(closing)
-        .saturating_sub(two_unless(closing.repaired_count == 0))
-        .saturating_sub(two_unless(closing.back_count == 0))
-}
-
-/// How many lines what is new has in so much room.
-fn new_lines(room: usize, count: u64, unsaid: u64) -> usize
-    ensures { result ≡ lines_of_new room count unsaid }
-{
-    if count == 0 {
-        0
-    } else if unsaid == 0 {
-        1
-    } else {
-        room
-    }
-}
-
-/// How many are left behind what is new.
-fn behind_new(closing: &Closing<'_>) -> usize
-    ensures { result ≡ left_behind_new closing.now }
-{
-    let new = new_lines(new_room(closing), closing.appeared_count, unsaid(closing));
-    behind_gone(closing).saturating_sub(new)
-}
-
-/// How many lines there are for what is repaired.
-fn repaired_room(closing: &Closing<'_>) -> usize
-    ensures { result ≡ room_of_repaired closing.now }
-{
-    behind_new(closing).saturating_sub(two_unless(closing.back_count == 0))
-}
-
-/// How many lines there are for what is back.
-fn back_room(closing: &Closing<'_>) -> usize
-    ensures { result ≡ room_of_back closing.now }
-{
-    let repaired = section_lines(repaired_room(closing), closing.repaired_count);
-    behind_new(closing).saturating_sub(repaired)
 }
 
 fn kind_of(kind: GoneKind) -> &'static str
@@ -788,9 +676,9 @@ fn put_changes(alloc: Global, closing: &Closing<'_>, text: &mut Vec<u8>) -> Resu
 ///   gone since the cycle that it was compared with, or that its report is incomplete;
 /// - if nothing was compared, that, and why;
 /// - what is gone, how many files are not looked at any more, how many root inventories are others,
-///   if any is, and what is new, repaired and back. Of each section there is a line with their number, and the first of them while there is room,
-///   what comes first in that order before the rest; then how many more there are, and the command
-///   that lists them.
+///   if any is, and what is new, repaired and back. Of each section there is a line with their
+///   number, and the first of them while there is room, what comes first in that order before the
+///   rest; then how many more there are, and the command that lists them.
 ///
 /// Of what is new the most serious findings come first, by object as in
 /// [`night_text`](crate::night_text), and those that the message of this night has already are only

@@ -25,6 +25,7 @@ mod night;
 mod quoted;
 mod refusal;
 mod respelt;
+mod room;
 mod shown;
 mod stop;
 mod tally;

@@ -1,5 +1,5 @@
 """What the proofs and the edits of each crate cost: the file `bench/proof_minutes.tsv`, and which
-crate became dearer.
+crate became dearer. What the edits cost is not known until all of a crate were tried in one run.
 
 All minutes of the file are those of one machine. Where most crates took more or less by about the
 same factor, the machine is another one, and what it took is divided by that factor."""
@@ -12,6 +12,8 @@ from gate.repository import TOP
 
 FILE = os.path.join(TOP, "bench", "proof_minutes.tsv")
 HEAD = "crate\tproof\tedits\tcommit"
+# Stands for minutes that are not known.
+UNKNOWN = "-"
 # By how much a crate becomes dearer or cheaper, and by how many minutes at least.
 MORE, LITTLE = 1.2, 0.3
 # The crates of which not all edits were tried: what those took says nothing of what all take.
@@ -19,15 +21,27 @@ PARTLY = set()
 
 
 def parsed(text):
-    """The rows of the file: by crate the processor minutes of its proof and of its edits, and the
-    commit at which they were taken."""
+    """The rows of the file: by crate the processor minutes of its proof and of its edits, if they
+    are known, and the commit at which they were taken."""
     rows = [line.split("\t") for line in text.splitlines()[1:]]
-    return {crate: (float(proof), float(edits), commit) for crate, proof, edits, commit in rows}
+    return {crate: (float(proof), None if edits == UNKNOWN else float(edits), commit)
+            for crate, proof, edits, commit in rows}
+
+
+def shown(minutes):
+    """Minutes as the file has them, or that they are not known."""
+    return UNKNOWN if minutes is None else "%.1f" % minutes
+
+
+def total(row):
+    """What the proof of a crate and its edits took, as far as that is known."""
+    return row[0] + (row[1] or 0)
 
 
 def written(rows, order):
     """The file with these rows, the crates in an order."""
-    lines = ["%s\t%.1f\t%.1f\t%s" % (crate, *rows[crate]) for crate in order if crate in rows]
+    lines = ["\t".join([crate, shown(rows[crate][0]), shown(rows[crate][1]), rows[crate][2]])
+             for crate in order if crate in rows]
     return "\n".join([HEAD, *lines, ""])
 
 
@@ -39,8 +53,8 @@ def pace(before, taken):
 
 
 def compared(row, minutes):
-    """What a crate took by its row and now: both without edits where not all were tried."""
-    known = [at for at in (0, 1) if minutes[at] is not None]
+    """What a crate took by its row and now: both without edits where one does not know them."""
+    known = [at for at in (0, 1) if row[at] is not None and minutes[at] is not None]
     return sum(row[at] for at in known), sum(minutes[at] for at in known)
 
 
@@ -49,28 +63,29 @@ def changed(before, taken):
     file's pace."""
     factor, found = pace(before, taken), {}
     for crate, (proof, edits) in taken.items():
-        row = before.get(crate, (0, 0))
+        row = before.get(crate, (0, None))
         old, new = compared(row, (proof, edits))
         new /= factor
-        if crate not in before or max(old, new) > max(MORE * min(old, new), min(old, new) + LITTLE):
+        learnt = row[1] is None and edits is not None
+        if learnt or crate not in before or max(old, new) > max(MORE * min(old, new),
+                                                                min(old, new) + LITTLE):
             found[crate] = proof / factor, row[1] if edits is None else edits / factor
     return found
 
 
 def note(taken, order):
     """Says which crates became dearer or cheaper since their rows were written, and writes those
-    rows anew. What failed, was not proved from nothing, or was tried in part, says nothing of what
-    that costs."""
+    rows anew. What failed or was not proved from nothing says nothing of what that costs, nor do
+    edits of which some were tried."""
     if FAILURES:
         return
     before = parsed(read()) if os.path.exists(FILE) else {}
     taken = {crate: (proof, None if crate in PARTLY else edits)
-             for crate, (proof, edits) in taken.items()
-             if proof > 0 and (crate in before or crate not in PARTLY)}
+             for crate, (proof, edits) in taken.items() if proof > 0}
     found = changed(before, taken)
     for crate in found.keys() & before.keys():
         print_line("%s took %.1f minutes at %s, and %.1f now" % (
-                   crate, sum(before[crate][:2]), before[crate][2], sum(found[crate])))
+                   crate, total(before[crate]), before[crate][2], total(found[crate])))
     if found:
         now = {crate: (*minutes, commit_of(TOP)) for crate, minutes in found.items()}
         with open(FILE, "w") as file:

@@ -13,8 +13,8 @@ PAGE = os.path.join(TOP, "CONTRIBUTING.md")
 BEGIN, END = "<!-- costs -->\n", "<!-- end of costs -->\n"
 HEAD = ("| a change in | its proof | its edits | with all above | crates above |\n"
         "|---|---|---|---|---|\n")
-# By crate, the minutes of its proof and of its edits, and the commit of both.
-Rows = Mapping[str, tuple[float, float, str]]
+# By crate, the minutes of its proof and of its edits, if these are known, and the commit of both.
+Rows = Mapping[str, tuple[float, Optional[float], str]]
 
 
 def above(lines: Mapping[str, str]) -> dict[str, list[str]]:
@@ -32,9 +32,9 @@ def table(rows: Rows, lines: Mapping[str, str]) -> str:
     found = []
     for crate, higher in above(known).items():
         proof, edits, _ = rows[crate]
-        whole = sum(sum(rows[it][:2]) for it in [crate, *higher])
-        found.append("| `%s` | %.1f | %.1f | %.0f | %d |\n"
-                     % (crate, proof, edits, whole, len(higher)))
+        whole = sum(minutes.total(rows[it]) for it in [crate, *higher])
+        found.append("| `%s` | %.1f | %s | %.0f | %d |\n"
+                     % (crate, proof, minutes.shown(edits), whole, len(higher)))
     return HEAD + "".join(found)
 
 

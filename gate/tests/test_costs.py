@@ -6,7 +6,7 @@ from gate.pages import costs
 LINES = {"low": "low:\n", "beside": "beside: low sha2\n", "high": "high: beside\n",
          "alone": "alone: hex\n", "new": "new: high\n"}
 ROWS = {"low": (1.0, 2.0, "1234567"), "beside": (0.5, 0.25, "1234567"),
-        "high": (10.0, 20.0, "1234567+"), "alone": (0.1, 0.0, "1234567")}
+        "high": (10.0, 20.0, "1234567+"), "alone": (0.1, None, "1234567")}
 
 
 class Costs(unittest.TestCase):
@@ -20,7 +20,7 @@ class Costs(unittest.TestCase):
                          + "| `low` | 1.0 | 2.0 | 34 | 2 |\n"
                          + "| `beside` | 0.5 | 0.2 | 31 | 1 |\n"
                          + "| `high` | 10.0 | 20.0 | 30 | 0 |\n"
-                         + "| `alone` | 0.1 | 0.0 | 0 | 0 |\n")
+                         + "| `alone` | 0.1 | - | 0 | 0 |\n")
 
     def test_page_keeps_all_else(self) -> None:
         page = "# A\n\n%s\nold\n\n%s\nmore\n" % (costs.BEGIN, costs.END)

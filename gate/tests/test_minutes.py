@@ -17,8 +17,8 @@ class Minutes(unittest.TestCase):
         return {**{crate: row[:2] for crate, row in ALIKE.items()}, **more}
 
     def test_file_reads_back(self):
-        rows = {"low": (1.5, 2.0, "1234567"), "high": (0.1, 0.0, "1234567+")}
-        text = "crate\tproof\tedits\tcommit\nlow\t1.5\t2.0\t1234567\nhigh\t0.1\t0.0\t1234567+\n"
+        rows = {"low": (1.5, 2.0, "1234567"), "high": (0.1, None, "1234567+")}
+        text = "crate\tproof\tedits\tcommit\nlow\t1.5\t2.0\t1234567\nhigh\t0.1\t-\t1234567+\n"
         self.assertEqual(minutes.written(rows, ["low", "high", "new"]), text)
         self.assertEqual(minutes.parsed(text), rows)
 
@@ -49,6 +49,12 @@ class Minutes(unittest.TestCase):
         self.assertEqual(minutes.changed(ALIKE, self.taken(a1=(5.0, None))), {"a1": (5.0, 6.0)})
         slow = {crate: (2 * row[0], None) for crate, row in ALIKE.items()}
         self.assertEqual(minutes.pace(ALIKE, slow), 2)
+
+    def test_edits_that_are_tried_for_the_first_time_have_minutes(self):
+        before = {**ALIKE, "a1": (4.0, None, "0000000")}
+        self.assertEqual(minutes.changed(before, self.taken(a1=(4.1, 7.0))), {"a1": (4.1, 7.0)})
+        self.assertEqual(minutes.changed(before, self.taken(a1=(4.1, None))), {})
+        self.assertEqual(minutes.changed(before, self.taken(a1=(8.0, None))), {"a1": (8.0, None)})
 
     def test_few_crates_give_no_pace(self):
         before = {crate: ALIKE[crate] for crate in ["a0", "a1"]}
@@ -89,10 +95,11 @@ class Files(unittest.TestCase):
     def test_what_was_kept_has_no_row(self):
         self.assertIsNone(self.minutes_after([(("ocfl_tree", True), 30.0)]))
 
-    def test_crate_of_which_some_edits_were_tried_has_no_first_row(self):
+    def test_edits_of_which_some_were_tried_have_no_minutes(self):
         with mock.patch.object(minutes, "PARTLY", {"ocfl_tree"}):
-            self.assertIsNone(self.minutes_after([(("ocfl_tree", False), 60.0),
-                                                  (("ocfl_tree", True), 30.0)]))
+            self.assertEqual(self.minutes_after([(("ocfl_tree", False), 60.0),
+                                                 (("ocfl_tree", True), 30.0)]),
+                             minutes.HEAD + "\nocfl_tree\t1.0\t-\t1234567\n")
 
     def test_failed_gate_writes_nothing(self):
         commands.FAILURES.append("an edit")

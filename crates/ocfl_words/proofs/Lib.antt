@@ -1,3 +1,4 @@
+mod Cases
 mod Firsts
 mod KeptLines
 pub mod Marking

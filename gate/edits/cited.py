@@ -70,7 +70,9 @@ def files_of(crate: str) -> frozenset[File]:
 @functools.lru_cache(maxsize=None)
 def code_of(file: File) -> str:
     """The text of a file without comments."""
-    return COMMENTS[os.path.splitext(file.path)[1]].sub("", rounds.text_of(*file))
+    comments = COMMENTS.get(os.path.splitext(file.path)[1])
+    text = rounds.text_of(*file)
+    return comments.sub("", text) if comments else text
 
 
 @functools.lru_cache(maxsize=None)

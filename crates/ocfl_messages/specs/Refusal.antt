@@ -27,7 +27,7 @@ names_gone_text gone before root = decimal gone ++ codes " of the " ++ decimal b
 
 abbrev pub older_text : ℕ → Text → Text
 older_text cycle state = escape state ++ codes "/checkpoint is older than " ++ escape state ++ codes "/reports, where cycle " ++ decimal cycle
-    ++ codes " is closed already. Put back its newest copy. If there is none, move " ++ escape state ++ codes "/report to another folder, and copy the last checkpoint-N in "
+    ++ codes " is closed already. Restore its newest copy. Without one, move " ++ escape state ++ codes "/report to another folder, and copy the last checkpoint-N in "
     ++ escape state ++ codes "/reports to " ++ escape state ++ codes "/checkpoint."
 
 abbrev pub root_changed_text : Text → Text

@@ -186,8 +186,8 @@ fn older(alloc: Global, cycle: u64, state: Shown<'_>) -> Result<String, AllocErr
 {
     format!(in alloc;
         "{state}/checkpoint is older than {state}/reports, where cycle {cycle} is closed already. \
-         Put back its newest copy. If there is none, move {state}/report to another folder, and \
-         copy the last checkpoint-N in {state}/reports to {state}/checkpoint."
+         Restore its newest copy. Without one, move {state}/report to another folder, and copy the \
+         last checkpoint-N in {state}/reports to {state}/checkpoint."
     )
 }
 

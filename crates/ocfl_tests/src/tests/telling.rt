@@ -580,8 +580,8 @@ const REFUSALS: [(RefusalMessage, &str); 7] = [
     ),
     (
         RefusalMessage::Older { cycle: 7 },
-        "S/checkpoint is older than S/reports, where cycle 7 is closed already. Put back its \
-         newest copy. If there is none, move S/report to another folder, and copy the last \
+        "S/checkpoint is older than S/reports, where cycle 7 is closed already. Restore its \
+         newest copy. Without one, move S/report to another folder, and copy the last \
          checkpoint-N in S/reports to S/checkpoint. Nothing was run.\n",
     ),
     (

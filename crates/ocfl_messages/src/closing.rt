@@ -5,7 +5,8 @@ ghost use Rattle.std.specs.Prelude.{decimal, length, map, take, IfOk, OnOk, stri
 ghost use Rattle.ocfl_report.specs.Line.{line_of};
 ghost use Rattle.ocfl_messages.specs.{Finding.{Finding as ModelFinding, finding_of}, Gravest.{IsOf, by_weight}};
 ghost use Rattle.ocfl_messages.specs.Closing.{closing_text as text_of_closing, above_text, alone_text, back_head, back_line, back_lines, back_text, changed_text, counted_text, counts_text, ended_text, gone_lines, gone_line, not_shown, new_head, repaired_head, gone_head, gone_text, is_unmoved as is_unmoved_by, kind_text, lead_of, moved_text, new_text, repaired_line, repaired_lines, repaired_text, not_known_text, not_whole_text, run_count_text, since_text, some_above_text, some_gone_text, some_moved_text, some_new_text, some_run_count_text, some_unlooked_text, summary_text, uncompared_text, unlooked_text, unsaid_text};
-ghost use Rattle.ocfl_messages.specs.Closing.{changed_command as command_of_changes, list_command as command_of_list, new_room as room_of_new};
+ghost use Rattle.ocfl_messages.specs.Closing.{changed_command as command_of_changes};
+ghost use Rattle.ocfl_messages.specs.Closing.{list_command as command_of_list, new_room as room_of_new};
 ghost use Rattle.ocfl_messages.specs.Night.{more_text};
 
 use crate::appending::put_made;

@@ -1,6 +1,14 @@
 //! How many lines of the message on a closed cycle each of its sections gets.
 ghost use Rattle.std.specs.Prelude.{◌≡◌, ◌-◌};
-ghost use Rattle.ocfl_messages.specs.Closing.{back_room as room_of_back, behind_gone as left_behind_gone, behind_new as left_behind_new, gone_room as room_of_gone, most_of, new_lines as lines_of_new, new_room as room_of_new, repaired_room as room_of_repaired, room_of_sections as all_room, section_lines as lines_of_section, two_unless as two_lines_unless};
+ghost use Rattle.ocfl_messages.specs.Closing.{back_room as room_of_back};
+ghost use Rattle.ocfl_messages.specs.Closing.{behind_gone as left_behind_gone};
+ghost use Rattle.ocfl_messages.specs.Closing.{behind_new as left_behind_new};
+ghost use Rattle.ocfl_messages.specs.Closing.{gone_room as room_of_gone, most_of};
+ghost use Rattle.ocfl_messages.specs.Closing.{new_lines as lines_of_new, new_room as room_of_new};
+ghost use Rattle.ocfl_messages.specs.Closing.{repaired_room as room_of_repaired};
+ghost use Rattle.ocfl_messages.specs.Closing.{room_of_sections as all_room};
+ghost use Rattle.ocfl_messages.specs.Closing.{section_lines as lines_of_section};
+ghost use Rattle.ocfl_messages.specs.Closing.{two_unless as two_lines_unless};
 
 use crate::closing::Closing;
 
